@@ -1,0 +1,3 @@
+pub mod RuleParts
+pub mod SelectorParts
+pub mod SheetParts

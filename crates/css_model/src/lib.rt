@@ -1,0 +1,18 @@
+//! The types of a style sheet, and the definitions that say what they mean.
+#![tactic(auto)]
+
+mod bytes;
+mod fault;
+mod position;
+mod selector;
+mod sheet;
+mod text;
+
+pub use bytes::Bytes;
+pub use fault::{FaultKind, SheetFault};
+pub use position::AnB;
+pub use selector::{
+    AttrTest, Combinator, Compound, Flag, Op, Pseudo, Selector, Simple, Specificity, Test,
+};
+pub use sheet::{Decl, DeclItem, Item, Piece, Rule, SelItem, Sheet};
+pub use text::Text;

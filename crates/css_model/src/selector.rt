@@ -1,0 +1,171 @@
+ghost use Rattle.std.specs.Prelude.{◌≡◌, List, ℕ};
+
+use crate::position::AnB;
+use crate::text::Text;
+use smallvec::SmallVec;
+use std::marker::Model;
+
+/// How an attribute's value is tested (Selectors 3, section 6.3).
+#[derive(Clone, Copy, Debug, Default, PartialEq, Eq, Hash)]
+pub enum Op {
+    /// `[name]`: the attribute is there.
+    #[default]
+    Present,
+    /// `[name=value]`: its value is this one.
+    Equal,
+    /// `[name~=value]`: one of the words of its value is this one.
+    Word,
+    /// `[name|=value]`: its value is this one, or begins with it and `-`.
+    Dash,
+    /// `[name^=value]`: its value begins with this one.
+    Prefix,
+    /// `[name$=value]`: its value ends with this one.
+    Suffix,
+    /// `[name*=value]`: its value contains this one.
+    Part,
+}
+
+/// A test of an attribute (Selectors 3, section 6.3).
+#[derive(Debug, Drop)]
+pub struct AttrTest {
+    /// The attribute's name.
+    pub name: Text,
+    /// How its value is tested.
+    pub op: Op,
+    /// What it is tested against: empty for `Op::Present`.
+    pub value: Text,
+}
+
+/// What a dynamic or user-interface pseudo-class asks of an element (Selectors 3, sections 6.6.1 to
+/// 6.6.4). Each is a flag that an element has or has not.
+#[derive(Clone, Copy, Debug, Default, PartialEq, Eq, Hash)]
+pub enum Flag {
+    /// `:link`
+    #[default]
+    Link,
+    /// `:visited`
+    Visited,
+    /// `:hover`
+    Hover,
+    /// `:active`
+    Active,
+    /// `:focus`
+    Focus,
+    /// `:target`
+    Target,
+    /// `:enabled`
+    Enabled,
+    /// `:disabled`
+    Disabled,
+    /// `:checked`
+    Checked,
+}
+
+/// What a simple selector tests (Selectors 3, section 6).
+#[derive(Debug, Default, Drop)]
+pub enum Test {
+    /// `*`
+    #[default]
+    Any,
+    /// A type selector, by its name.
+    Kind(Text),
+    /// `#name`
+    Id(Text),
+    /// A test of an attribute. `.name` is the test of `class` for the word `name`.
+    Attr(AttrTest),
+    /// `:nth-child()`, and `:first-child` as the step 0 and the offset 1.
+    Nth(AnB),
+    /// `:nth-last-child()`, and `:last-child` as the step 0 and the offset 1.
+    NthLast(AnB),
+    /// `:only-child`
+    OnlyChild,
+    /// `:root`
+    Root,
+    /// `:empty`
+    Empty,
+    /// `:link`, `:hover` and their kin.
+    State(Flag),
+}
+
+/// A simple selector: a test, or the negation of one by `:not()` (Selectors 3, section 6.6.7).
+#[derive(Debug, Default, Drop)]
+pub struct Simple {
+    /// Whether the test stands in `:not()`.
+    pub negated: bool,
+    /// The test.
+    pub test: Test,
+}
+
+/// A sequence of simple selectors that one element has to pass, in the order of the text
+/// (Selectors 3, section 4: a "sequence of simple selectors").
+#[derive(Debug, Drop)]
+pub struct Compound {
+    /// The simple selectors.
+    pub simples: SmallVec<Simple, 4>,
+}
+
+impl Model for Compound {
+    ghost use Rattle.std.specs.Prelude.{List};
+    ghost use Rattle.css_model.specs.declared.selector.Simple.{Simple};
+
+    ghost Value = { List Simple };
+
+    ghost view = { λ c. c.simples.items };
+}
+
+/// How the element of a compound stands to that of the compound at its right (Selectors 3,
+/// section 8).
+#[derive(Clone, Copy, Debug, PartialEq, Eq, Hash)]
+pub enum Combinator {
+    /// White space: it is an ancestor.
+    Inside,
+    /// `>`: it is the parent.
+    Child,
+    /// `+`: it is the sibling directly before.
+    Next,
+    /// `~`: it is an earlier sibling.
+    Later,
+}
+
+/// A pseudo-element (Selectors 3, section 7).
+#[derive(Clone, Copy, Debug, PartialEq, Eq, Hash)]
+pub enum Pseudo {
+    /// `::first-line`
+    FirstLine,
+    /// `::first-letter`
+    FirstLetter,
+    /// `::before`
+    Before,
+    /// `::after`
+    After,
+}
+
+/// A selector: compounds with combinators between them, and perhaps a pseudo-element.
+#[derive(Debug, Drop)]
+pub struct Selector {
+    /// The compounds from right to left: the first one is that of the element which is selected.
+    pub chain: Vec<Compound>,
+    /// The combinators from right to left: the k-th stands between the compounds k and k + 1.
+    pub links: Vec<Combinator>,
+    /// The pseudo-element.
+    pub pseudo: Option<Pseudo>,
+}
+
+impl Model for Selector {
+    ghost use Rattle.css_model.specs.SelectorParts.{SelectorParts};
+
+    ghost Value = { SelectorParts };
+
+    ghost view = { λ s. record { chain = s.chain.items; links = s.links.items; pseudo = s.pseudo } };
+}
+
+/// How specific a selector is (Selectors 3, section 9): compared by `a`, then by `b`, then by `c`.
+#[derive(Clone, Copy, Debug, PartialEq, Eq, PartialOrd, Ord, Hash)]
+pub struct Specificity {
+    /// How many ids it tests.
+    pub a: u32,
+    /// How many classes, attributes and pseudo-classes.
+    pub b: u32,
+    /// How many types and pseudo-elements.
+    pub c: u32,
+}
