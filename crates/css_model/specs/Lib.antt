@@ -1,3 +1,4 @@
+pub mod KeptRuleParts
 pub mod RuleParts
 pub mod SelectorParts
 pub mod SheetParts

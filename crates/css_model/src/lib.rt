@@ -14,5 +14,5 @@ pub use position::AnB;
 pub use selector::{
     AttrTest, Combinator, Compound, Flag, Op, Pseudo, Selector, Simple, Specificity, Test,
 };
-pub use sheet::{Decl, DeclItem, Item, Piece, Rule, SelItem, Sheet};
+pub use sheet::{Decl, DeclItem, Item, KeptRule, Piece, Rule, SelItem, Sheet};
 pub use text::Text;

@@ -63,11 +63,35 @@ impl Model for Rule {
     ghost view = { λ r. record { selectors = r.selectors.items; decls = r.decls.items } };
 }
 
+/// A rule with a selector outside the profile. It is printed as it stands, and is never merged.
+#[derive(Debug, Drop)]
+pub struct KeptRule {
+    /// Its text in the source.
+    pub piece: Piece,
+    /// Its declarations, in the order of the source.
+    pub decls: Vec<Decl>,
+    /// Why its first selector outside the profile is outside.
+    pub reason: u32,
+}
+
+impl Model for KeptRule {
+    ghost use Rattle.css_model.specs.KeptRuleParts.{KeptRuleParts};
+
+    ghost Value = { KeptRuleParts };
+
+    ghost view = { λ k. record { piece = k.piece; decls = k.decls.items; reason = k.reason } };
+}
+
 /// One of the parts that stand one after the other in a sheet.
 #[derive(Debug, Drop)]
 pub enum Item {
     /// A style rule.
     Rule(Rule),
+    /// A rule that applies its own declarations, to what nobody here can tell.
+    KeptRule(KeptRule),
+    /// An at-rule, or a rule with a block that is not plain, by its text in the source. It may apply
+    /// anything.
+    KeptBlock(Piece),
 }
 
 /// A style sheet.
