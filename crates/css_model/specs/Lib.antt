@@ -1,4 +1,9 @@
 pub mod KeptRuleParts
+pub mod Plain
+pub mod Printed
 pub mod RuleParts
 pub mod SelectorParts
+pub mod Sheet
 pub mod SheetParts
+pub mod Source
+pub mod StyleRule

@@ -9,7 +9,7 @@ mod sheet;
 mod text;
 
 pub use bytes::Bytes;
-pub use fault::{FaultKind, SheetFault};
+pub use fault::{FaultKind, LIMIT, SheetFault};
 pub use position::AnB;
 pub use selector::{
     AttrTest, Combinator, Compound, Flag, Op, Pseudo, Selector, Simple, Specificity, Test,
