@@ -1,1 +1,3 @@
 mod PlainExamples
+pub mod PlainLemmas
+pub mod SliceRange

@@ -8,7 +8,7 @@ use Rattle.css_model.specs.declared.selector.Test.{Test}
 use Rattle.css_model.specs.declared.selector.Test.TheVariants.{Kind, Id, Attr}
 use Rattle.css_model.specs.declared.sheet.Decl.{Decl}
 use Rattle.css_model.specs.SelectorParts.{SelectorParts}
-use Rattle.css_model.specs.StyleRule.{StyleRule, onto}
+use Rattle.css_model.specs.StyleRule.{StyleRule}
 
 -- a space or a line feed
 abbrev pub is_space : ℕ → Bool
@@ -65,6 +65,19 @@ trim_end (c ∷ cs) = if is_blank (c ∷ cs) then [] else c ∷ trim_end cs
 abbrev pub trimmed : List ℕ → List ℕ
 trimmed cs = trim_end (trim_start cs)
 
+-- the two parts round the only sign of a text
+abbrev pub two_parts : List (List ℕ) → Option (List ℕ × List ℕ)
+two_parts [] = None
+two_parts (only ∷ []) = None
+two_parts (before ∷ behind ∷ []) = Some (before, behind)
+two_parts (before ∷ behind ∷ more ∷ parts) = None
+
+-- what is read before a list, where both are read
+abbrev pub onto : {A : Type 0} → Option A → Option (List A) → Option (List A)
+onto None rest = None
+onto (Some x) None = None
+onto (Some x) (Some xs) = Some (x ∷ xs)
+
 -- what the parts of a text are read as: each part but the last by `one`, the last by `end`
 abbrev pub listed : {A : Type 0} → (List ℕ → Option A) → (List ℕ → Option (List A)) → List (List ℕ) → Option (List A)
 listed one end [] = None
@@ -98,20 +111,18 @@ selector_by (Some test) = Some (of_one_test test)
 abbrev pub selector_of : List ℕ → Option SelectorParts
 selector_of text = selector_by (test_of text)
 
--- a property and a value
+-- of a property and a value
 abbrev pub declaration_by : List ℕ → List ℕ → Option Decl
 declaration_by name value =
     where_true (is_property name && is_value value) (record { name = name; value = value; important = false })
 
--- the parts round a `:`
-abbrev pub declaration_from : List (List ℕ) → Option Decl
-declaration_from [] = None
-declaration_from (name ∷ []) = None
-declaration_from (name ∷ value ∷ []) = declaration_by (trimmed name) (trimmed value)
-declaration_from (name ∷ value ∷ more ∷ parts) = None
+abbrev pub declaration_from : Option (List ℕ × List ℕ) → Option Decl
+declaration_from None = None
+declaration_from (Some parts) = declaration_by (trimmed parts.0) (trimmed parts.1)
 
+-- a property, `:` and a value
 abbrev pub declaration_of : List ℕ → Option Decl
-declaration_of text = declaration_from (slice_split (λ c. c == 58) text)
+declaration_of text = declaration_from (two_parts (slice_split (λ c. c == 58) text))
 
 -- what stands behind the last `;` of a block: white space, or a declaration
 abbrev pub last_declaration : List ℕ → Option (List Decl)
@@ -131,16 +142,13 @@ rule_by None decls = None
 rule_by (Some selector) None = None
 rule_by (Some selector) (Some decls) = Some (record { selectors = selector ∷ []; decls = decls })
 
--- the parts round a `{`
-abbrev pub rule_from : List (List ℕ) → Option StyleRule
-rule_from [] = None
-rule_from (prelude ∷ []) = None
-rule_from (prelude ∷ block ∷ []) = rule_by (selector_of (trimmed prelude)) (declarations_of block)
-rule_from (prelude ∷ block ∷ more ∷ parts) = None
+abbrev pub rule_from : Option (List ℕ × List ℕ) → Option StyleRule
+rule_from None = None
+rule_from (Some parts) = rule_by (selector_of (trimmed parts.0)) (declarations_of parts.1)
 
--- a rule up to its `}`
+-- a rule up to its `}`: a selector, `{` and a block
 abbrev pub rule_of : List ℕ → Option StyleRule
-rule_of text = rule_from (slice_split (λ c. c == 123) text)
+rule_of text = rule_from (two_parts (slice_split (λ c. c == 123) text))
 
 -- behind the last `}` stands nothing but white space
 abbrev pub no_rule : List ℕ → Option (List StyleRule)

@@ -1,5 +1,5 @@
 -- A style rule apart from where it stands in a source, and the style rules of a sheet.
-use Rattle.std.specs.Prelude.{List, [], ◌∷◌, map, Option, Some, None}
+use Rattle.std.specs.Prelude.{List, [], ◌∷◌, map}
 use Rattle.css_model.specs.declared.sheet.Decl.{Decl}
 use Rattle.css_model.specs.declared.sheet.Item.{Item}
 use Rattle.css_model.specs.declared.sheet.Item.TheVariants.{Rule, KeptRule, KeptBlock}
@@ -19,15 +19,9 @@ selectors_of r = map (λ s. s.selector) r.selectors
 abbrev pub style_rule : RuleParts → StyleRule
 style_rule r = record { selectors = selectors_of r; decls = map (λ d. d.decl) r.decls }
 
--- what is read before a list, where both are read
-abbrev pub onto : {A : Type 0} → Option A → Option (List A) → Option (List A)
-onto None rest = None
-onto (Some x) None = None
-onto (Some x) (Some xs) = Some (x ∷ xs)
-
--- the style rules of a list of items that has no others
-abbrev pub style_rules : List Item → Option (List StyleRule)
-style_rules [] = Some []
-style_rules ((Rule r) ∷ items) = onto (Some (style_rule r)) (style_rules items)
-style_rules ((KeptRule k) ∷ items) = None
-style_rules ((KeptBlock piece) ∷ items) = None
+-- the style rules among the items of a sheet, in order
+abbrev pub style_rules : List Item → List StyleRule
+style_rules [] = []
+style_rules ((Rule r) ∷ items) = style_rule r ∷ style_rules items
+style_rules ((KeptRule k) ∷ items) = style_rules items
+style_rules ((KeptBlock piece) ∷ items) = style_rules items

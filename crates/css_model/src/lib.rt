@@ -6,6 +6,7 @@ mod fault;
 mod position;
 mod selector;
 mod sheet;
+mod source;
 mod text;
 
 pub use bytes::Bytes;
