@@ -1,7 +1,7 @@
-use Rattle.std.proofs.Common.{◌≡◌, ◌∷◌, ◌∙◌, sym, refl, map, ℕ}
+use Rattle.std.proofs.Common.{◌∙◌, sym, refl, map}
 use Rattle.std.specs.Prelude.{◌==◌}
 use Rattle.std.proofs.lemmas.Result.{err_from_is_err_and}
-use Rattle.css_model.specs.Plain.{listed, declaration_of, last_declaration, at_least_one}
+use Rattle.css_model.specs.Plain.{declaration_of, last_declaration, at_least_one}
 use Rattle.css_model.specs.Source.{IsSoundDeclaration, text_at}
 use Rattle.sheet_read.proofs.Listing.{listed_step, listed_fails, all_push, map_push}
 use Rattle.sheet_read.proofs.parts.declarations.Goals as goal

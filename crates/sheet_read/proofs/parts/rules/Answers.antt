@@ -1,8 +1,8 @@
-use Rattle.std.proofs.Common.{◌≡◌, ◌∷◌, ◌∙◌, sym, refl, map, ℕ}
+use Rattle.std.proofs.Common.{◌∙◌, sym, refl}
 use Rattle.std.specs.Prelude.{◌==◌}
 use Rattle.std.proofs.lemmas.Result.{err_from_is_err_and}
 use Rattle.css_model.specs.declared.sheet.Item.TheVariants.{Rule}
-use Rattle.css_model.specs.Plain.{listed, rule_of, no_rule}
+use Rattle.css_model.specs.Plain.{rule_of, no_rule}
 use Rattle.css_model.specs.Source.{IsSoundItem, text_at}
 use Rattle.css_model.specs.StyleRule.{style_rule, style_rules}
 use Rattle.sheet_read.proofs.Listing.{listed_step, listed_fails, all_push, style_rules_push}

@@ -1,6 +1,6 @@
-use Rattle.std.proofs.Common.{◌≡◌, length, map, ℕ}
+use Rattle.std.proofs.Common.{◌≡◌, length}
 use Rattle.std.specs.Prelude.{◌==◌}
-use Rattle.std.specs.List.{slice_split, AllByRecursion}
+use Rattle.std.specs.List.{slice_split}
 use Rattle.css_model.specs.Plain.{plain_of, listed, rule_of, no_rule}
 use Rattle.css_model.specs.Source.{IsWithin, IsSound, text_at}
 use Rattle.css_model.specs.StyleRule.{style_rules}

@@ -1,4 +1,4 @@
-use Rattle.std.proofs.Common.{◌≡◌, IfNone, subst, sym, ap, arith}
+use Rattle.std.proofs.Common.{arith}
 use Rattle.sheet_read.proofs.Cutting.{uncut, cut_first}
 use Rattle.sheet_read.proofs.pieces.cut.Goals as goal
 

@@ -1,4 +1,4 @@
-use Rattle.std.proofs.Common.{◌≡◌, sym, ◌∙◌, arith}
+use Rattle.std.proofs.Common.{sym, ◌∙◌, arith}
 use Rattle.sheet_read.proofs.Trimming.{trim_end-step, trim_end-stop}
 use Rattle.sheet_read.proofs.pieces.trim_end.Goals as goal
 

@@ -1,4 +1,4 @@
-use Rattle.std.proofs.Common.{◌≡◌, sym, ◌∙◌, arith}
+use Rattle.std.proofs.Common.{sym, ◌∙◌, arith}
 use Rattle.sheet_read.proofs.Trimming.{trim_start-step, trim_start-stop}
 use Rattle.sheet_read.proofs.pieces.trim_start.Goals as goal
 

@@ -1,4 +1,4 @@
-use Rattle.std.proofs.Common.{◌-◌, ◌≡◌, ◌≤◌, length, slice_range}
+use Rattle.std.proofs.Common.{◌-◌, ◌≡◌, ◌≤◌, slice_range}
 use Rattle.css_model.specs.Plain.{trim_start}
 use Rattle.sheet_read.proofs.pieces.trim_start.Given as goal
 
