@@ -148,6 +148,7 @@ fn sure_ones_never_fail(rt: HostRuntime) -> Result<(), Fail> {
     let mut src = SureSource::new(bytes_of(rt.alloc(), SHEET)?);
     let read = read_surely(rt.alloc(), &mut src, 100)?;
     assert_eq!(rt; src.rest().len(), 0);
+    assert_eq!(rt; read.len(), 12);
     let mut out = SureSink::new(rt.alloc())?;
     write_surely(&mut out, read.as_slice())?;
     write_both(&mut out, b"b{", b"}")?;
