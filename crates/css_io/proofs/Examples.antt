@@ -1,7 +1,7 @@
 -- The definitions of `specs/` at values.
-use Rattle.std.specs.Prelude.{◌≡◌, ◌⊎◌, ℕ, List, [], ◌∷◌, Some, None, Ok, Err, Result, refl}
-use Rattle.std.proofs.Common.{rules, inl, inr, lit<, arith}
-use Rattle.css_io.specs.Io.{last_count, next_count, Rose, HasTaken, HasAdded, GivesFirst, TakesFirst}
+use Rattle.std.specs.Prelude.{◌≡◌, ℕ, [], ◌∷◌, Some, Ok, Err, refl}
+use Rattle.std.proofs.Common.{rules, inl, inr, lit<}
+use Rattle.css_io.specs.Io.{last_count, next_count, Rose, GivesFirst, TakesFirst}
 
 pub one_more : next_count 4 ≡ 5
 one_more = refl

@@ -1,7 +1,7 @@
 -- What contracts see of the adapters over std's readers and writers.
 use Rattle.std.specs.Prelude.{ℕ}
-use Rattle.css_io.specs.declared.standard.StdSource.{StdSource}
-use Rattle.css_io.specs.declared.standard.StdSink.{StdSink}
+use Rattle.css_io.specs.declared.standard.source.StdSource.{StdSource}
+use Rattle.css_io.specs.declared.standard.sink.StdSink.{StdSink}
 
 -- the reader that a source reads from
 abbrev pub source_reader : {R : Type 0} → StdSource R → R

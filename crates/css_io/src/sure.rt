@@ -52,7 +52,7 @@ impl Source for SureSource {
     fn read(&mut self, into: &mut [u8]) -> Result<usize, Failed>
         // What every source says; its count of faults is always 0.
         ensures bytes { GivesFirst (Some self.old) (Some self.new) into.new result }
-        ensures count { IfOk result (λ n. n ≤ length into.new) }
+        ensures bound { IfOk result (λ n. n ≤ length into.new) }
 
         // What this one adds.
         ensures sure { result ≡ Ok (min (length self.old) (length into.old)) }

@@ -22,7 +22,7 @@ pub trait Source {
     /// byte away, and raises the count of faults.
     fn read(&mut self, into: &mut [u8]) -> Result<usize, Failed>
         ensures bytes { GivesFirst (left self.old) (left self.new) into.new result }
-        ensures count { IfOk result (λ n. n ≤ length into.new) }
+        ensures bound { IfOk result (λ n. n ≤ length into.new) }
         ensures later { faults self.old ≤ faults self.new }
         ensures cause { OnErr result (Rose (faults self.old) (faults self.new)) };
 }

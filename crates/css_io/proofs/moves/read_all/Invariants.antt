@@ -1,4 +1,4 @@
-use Rattle.std.proofs.Common.{◌≡◌, ◌+◌, ◌-◌, ◌≤◌, vec_len, vec_capacity}
+use Rattle.std.proofs.Common.{◌-◌, ◌≤◌, vec_len, vec_capacity}
 use Rattle.css_io.proofs.Moving.{TookFront}
 use Rattle.css_io.proofs.moves.read_all.Given as goal
 
