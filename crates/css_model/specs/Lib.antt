@@ -1,4 +1,5 @@
 pub mod KeptRuleParts
+pub mod OptionHash
 pub mod RuleParts
 pub mod SelectorParts
 pub mod SheetParts

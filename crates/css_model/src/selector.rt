@@ -3,6 +3,7 @@ ghost use Rattle.std.specs.Prelude.{◌≡◌, List, ℕ};
 use crate::position::AnB;
 use crate::text::Text;
 use smallvec::SmallVec;
+use std::hash::{Hash, Hasher};
 use std::marker::Model;
 
 /// How an attribute's value is tested (Selectors 3, section 6.3).
@@ -26,7 +27,7 @@ pub enum Op {
 }
 
 /// A test of an attribute (Selectors 3, section 6.3).
-#[derive(Debug, Drop)]
+#[derive(Debug, PartialEq, Eq, Hash, Drop)]
 pub struct AttrTest {
     /// The attribute's name.
     pub name: Text,
@@ -62,7 +63,7 @@ pub enum Flag {
 }
 
 /// What a simple selector tests (Selectors 3, section 6).
-#[derive(Debug, Default, Drop)]
+#[derive(Debug, Default, PartialEq, Eq, Hash, Drop)]
 pub enum Test {
     /// `*`
     #[default]
@@ -88,7 +89,7 @@ pub enum Test {
 }
 
 /// A simple selector: a test, or the negation of one by `:not()` (Selectors 3, section 6.6.7).
-#[derive(Debug, Default, Drop)]
+#[derive(Debug, Default, PartialEq, Eq, Hash, Drop)]
 pub struct Simple {
     /// Whether the test stands in `:not()`.
     pub negated: bool,
@@ -111,6 +112,40 @@ impl Model for Compound {
     ghost Value = { List Simple };
 
     ghost view = { λ c. c.simples.items };
+}
+
+impl PartialEq for Compound {
+    ghost use Rattle.std.specs.Cmp.Lexicographic.{pointwise, lists_per};
+    ghost use Rattle.css_model.specs.contracts.selector.SimplePartialEq.TheImpl.Laws.{laws-law};
+
+    ghost eq = { λ a b. pointwise ⟦<Simple as PartialEq>⟧.eq a b };
+
+    ghost laws = { lists_per laws-law };
+
+    fn eq(&self, other: &Compound) -> bool {
+        self.simples == other.simples
+    }
+}
+
+impl Eq for Compound {
+    ghost use Rattle.std.specs.Cmp.Lexicographic.{lists_equiv};
+    ghost use Rattle.css_model.specs.contracts.selector.SimpleEq.TheImpl.Laws.{laws-law};
+
+    ghost laws = { lists_equiv laws-law };
+}
+
+impl Hash for Compound {
+    ghost use Rattle.std.specs.Hash as fed;
+    ghost use Rattle.std.specs.Hash.{items_Alike};
+    ghost use Rattle.css_model.specs.contracts.selector.SimpleHash.TheImpl.Laws.{respects_eq-law};
+
+    ghost hash_input = { λ c. fed.slice ⟦<Simple as Hash>⟧.hash_input c };
+
+    ghost respects_eq = { (items_Alike (record { fed = respects_eq-law })).fed };
+
+    fn hash<H: Hasher>(&self, state: &mut H) {
+        self.simples.hash(state);
+    }
 }
 
 /// How the element of a compound stands to that of the compound at its right (Selectors 3,
@@ -157,6 +192,62 @@ impl Model for Selector {
     ghost Value = { SelectorParts };
 
     ghost view = { λ s. record { chain = s.chain.items; links = s.links.items; pseudo = s.pseudo } };
+}
+
+impl PartialEq for Selector {
+    ghost use Rattle.std.specs.Cmp.{partial_equiv_from_equiv, and_per, on_per};
+    ghost use Rattle.std.specs.Cmp.Lexicographic.{pointwise, lists_per, options_equiv};
+    ghost use Rattle.std.specs.Ordering.{on, eq_of_both};
+    ghost use Rattle.css_model.specs.contracts.selector.CompoundPartialEq.TheImpl.Laws.{laws-law as compounds_law};
+    ghost use Rattle.css_model.specs.contracts.selector.CombinatorPartialEq.TheImpl.Laws.{laws-law as links_law};
+    ghost use Rattle.css_model.specs.contracts.selector.PseudoEq.TheImpl.Laws.{laws-law as pseudo_law};
+
+    ghost eq = { eq_of_both (on (λ s. s.chain) (pointwise ⟦<Compound as PartialEq>⟧.eq))
+        (eq_of_both (on (λ s. s.links) (pointwise ⟦<Combinator as PartialEq>⟧.eq))
+        (on (λ s. s.pseudo) ⟦<Option<Pseudo> as PartialEq>⟧.eq)) };
+
+    ghost laws = { and_per (on_per (λ s. s.chain) (lists_per compounds_law))
+        (and_per (on_per (λ s. s.links) (lists_per links_law))
+        (on_per (λ s. s.pseudo) (partial_equiv_from_equiv (options_equiv pseudo_law)))) };
+
+    fn eq(&self, other: &Selector) -> bool {
+        self.chain == other.chain && (self.links == other.links && self.pseudo == other.pseudo)
+    }
+}
+
+impl Eq for Selector {
+    ghost use Rattle.std.specs.Cmp.{and_equiv, on_equiv};
+    ghost use Rattle.std.specs.Cmp.Lexicographic.{lists_equiv, options_equiv};
+    ghost use Rattle.css_model.specs.contracts.selector.CompoundEq.TheImpl.Laws.{laws-law as compounds_law};
+    ghost use Rattle.css_model.specs.contracts.selector.CombinatorEq.TheImpl.Laws.{laws-law as links_law};
+    ghost use Rattle.css_model.specs.contracts.selector.PseudoEq.TheImpl.Laws.{laws-law as pseudo_law};
+
+    ghost laws = { and_equiv (on_equiv (λ s. s.chain) (lists_equiv compounds_law))
+        (and_equiv (on_equiv (λ s. s.links) (lists_equiv links_law))
+        (on_equiv (λ s. s.pseudo) (options_equiv pseudo_law))) };
+}
+
+impl Hash for Selector {
+    ghost use Rattle.std.specs.Prelude.{◌++◌};
+    ghost use Rattle.std.specs.Hash as fed;
+    ghost use Rattle.std.specs.Hash.{and-Alike, on_Alike, items_Alike};
+    ghost use Rattle.css_model.specs.OptionHash.{option_Alike};
+    ghost use Rattle.css_model.specs.contracts.selector.CompoundHash.TheImpl.Laws.{respects_eq-law as compounds_fed};
+    ghost use Rattle.css_model.specs.contracts.selector.CombinatorHash.TheImpl.Laws.{respects_eq-law as links_fed};
+    ghost use Rattle.css_model.specs.contracts.selector.PseudoHash.TheImpl.Laws.{respects_eq-law as pseudo_fed};
+
+    ghost hash_input = { λ s. fed.slice ⟦<Compound as Hash>⟧.hash_input s.chain
+        ++ (fed.slice ⟦<Combinator as Hash>⟧.hash_input s.links ++ ⟦<Option<Pseudo> as Hash>⟧.hash_input s.pseudo) };
+
+    ghost respects_eq = { (and-Alike (on_Alike (λ s. s.chain) (items_Alike (record { fed = compounds_fed })))
+        (and-Alike (on_Alike (λ s. s.links) (items_Alike (record { fed = links_fed })))
+        (on_Alike (λ s. s.pseudo) (option_Alike (record { fed = pseudo_fed }))))).fed };
+
+    fn hash<H: Hasher>(&self, state: &mut H) {
+        self.chain.hash(state);
+        self.links.hash(state);
+        self.pseudo.hash(state);
+    }
 }
 
 /// How specific a selector is (Selectors 3, section 9): compared by `a`, then by `b`, then by `c`.

@@ -15,7 +15,7 @@ pub struct Piece {
 }
 
 /// A declaration (CSS Syntax 3, section 5.4.6).
-#[derive(Debug, Drop)]
+#[derive(Debug, PartialEq, Eq, Drop)]
 pub struct Decl {
     /// The property, decoded and in lower case; a custom property is only decoded.
     pub name: Text,
@@ -26,7 +26,7 @@ pub struct Decl {
 }
 
 /// A selector of a rule, and where it stands.
-#[derive(Debug, Drop)]
+#[derive(Debug, PartialEq, Eq, Drop)]
 pub struct SelItem {
     /// The selector.
     pub selector: Selector,
@@ -35,7 +35,7 @@ pub struct SelItem {
 }
 
 /// A declaration of a rule, and where it stands.
-#[derive(Debug, Drop)]
+#[derive(Debug, PartialEq, Eq, Drop)]
 pub struct DeclItem {
     /// The declaration.
     pub decl: Decl,
@@ -63,6 +63,34 @@ impl Model for Rule {
     ghost view = { λ r. record { selectors = r.selectors.items; decls = r.decls.items } };
 }
 
+impl PartialEq for Rule {
+    ghost use Rattle.std.specs.Cmp.{and_per, on_per};
+    ghost use Rattle.std.specs.Cmp.Lexicographic.{pointwise, lists_per};
+    ghost use Rattle.std.specs.Ordering.{on, eq_of_both};
+    ghost use Rattle.css_model.specs.contracts.sheet.SelItemPartialEq.TheImpl.Laws.{laws-law as selectors_law};
+    ghost use Rattle.css_model.specs.contracts.sheet.DeclItemPartialEq.TheImpl.Laws.{laws-law as decls_law};
+
+    ghost eq = { eq_of_both (on (λ r. r.selectors) (pointwise ⟦<SelItem as PartialEq>⟧.eq))
+        (on (λ r. r.decls) (pointwise ⟦<DeclItem as PartialEq>⟧.eq)) };
+
+    ghost laws = { and_per (on_per (λ r. r.selectors) (lists_per selectors_law))
+        (on_per (λ r. r.decls) (lists_per decls_law)) };
+
+    fn eq(&self, other: &Rule) -> bool {
+        self.selectors == other.selectors && self.decls == other.decls
+    }
+}
+
+impl Eq for Rule {
+    ghost use Rattle.std.specs.Cmp.{and_equiv, on_equiv};
+    ghost use Rattle.std.specs.Cmp.Lexicographic.{lists_equiv};
+    ghost use Rattle.css_model.specs.contracts.sheet.SelItemEq.TheImpl.Laws.{laws-law as selectors_law};
+    ghost use Rattle.css_model.specs.contracts.sheet.DeclItemEq.TheImpl.Laws.{laws-law as decls_law};
+
+    ghost laws = { and_equiv (on_equiv (λ r. r.selectors) (lists_equiv selectors_law))
+        (on_equiv (λ r. r.decls) (lists_equiv decls_law)) };
+}
+
 /// A rule with a selector outside the profile. It is printed as it stands, and is never merged.
 #[derive(Debug, Drop)]
 pub struct KeptRule {
@@ -82,8 +110,40 @@ impl Model for KeptRule {
     ghost view = { λ k. record { piece = k.piece; decls = k.decls.items; reason = k.reason } };
 }
 
+impl PartialEq for KeptRule {
+    ghost use Rattle.std.specs.Prelude.{nat_eq};
+    ghost use Rattle.std.specs.Cmp.{and_per, on_per, partial_equiv_from_equiv, nat_eq_equiv};
+    ghost use Rattle.std.specs.Cmp.Lexicographic.{pointwise, lists_per};
+    ghost use Rattle.std.specs.Ordering.{on, eq_of_both};
+    ghost use Rattle.css_model.specs.contracts.sheet.PiecePartialEq.TheImpl.Laws.{laws-law as piece_law};
+    ghost use Rattle.css_model.specs.contracts.sheet.DeclPartialEq.TheImpl.Laws.{laws-law as decls_law};
+
+    ghost eq = { eq_of_both (on (λ k. k.piece) ⟦<Piece as PartialEq>⟧.eq)
+        (eq_of_both (on (λ k. k.decls) (pointwise ⟦<Decl as PartialEq>⟧.eq))
+        (on (λ k. k.reason) nat_eq)) };
+
+    ghost laws = { and_per (on_per (λ k. k.piece) piece_law)
+        (and_per (on_per (λ k. k.decls) (lists_per decls_law))
+        (on_per (λ k. k.reason) (partial_equiv_from_equiv nat_eq_equiv))) };
+
+    fn eq(&self, other: &KeptRule) -> bool {
+        self.piece == other.piece && (self.decls == other.decls && self.reason == other.reason)
+    }
+}
+
+impl Eq for KeptRule {
+    ghost use Rattle.std.specs.Cmp.{and_equiv, on_equiv, nat_eq_equiv};
+    ghost use Rattle.std.specs.Cmp.Lexicographic.{lists_equiv};
+    ghost use Rattle.css_model.specs.contracts.sheet.PieceEq.TheImpl.Laws.{laws-law as piece_law};
+    ghost use Rattle.css_model.specs.contracts.sheet.DeclEq.TheImpl.Laws.{laws-law as decls_law};
+
+    ghost laws = { and_equiv (on_equiv (λ k. k.piece) piece_law)
+        (and_equiv (on_equiv (λ k. k.decls) (lists_equiv decls_law))
+        (on_equiv (λ k. k.reason) nat_eq_equiv)) };
+}
+
 /// One of the parts that stand one after the other in a sheet.
-#[derive(Debug, Drop)]
+#[derive(Debug, PartialEq, Eq, Drop)]
 pub enum Item {
     /// A style rule.
     Rule(Rule),
@@ -107,4 +167,27 @@ impl Model for Sheet {
     ghost Value = { SheetParts };
 
     ghost view = { λ s. record { items = s.items.items } };
+}
+
+impl PartialEq for Sheet {
+    ghost use Rattle.std.specs.Cmp.{on_per};
+    ghost use Rattle.std.specs.Cmp.Lexicographic.{pointwise, lists_per};
+    ghost use Rattle.std.specs.Ordering.{on};
+    ghost use Rattle.css_model.specs.contracts.sheet.ItemPartialEq.TheImpl.Laws.{laws-law as items_law};
+
+    ghost eq = { on (λ s. s.items) (pointwise ⟦<Item as PartialEq>⟧.eq) };
+
+    ghost laws = { on_per (λ s. s.items) (lists_per items_law) };
+
+    fn eq(&self, other: &Sheet) -> bool {
+        self.items == other.items
+    }
+}
+
+impl Eq for Sheet {
+    ghost use Rattle.std.specs.Cmp.{on_equiv};
+    ghost use Rattle.std.specs.Cmp.Lexicographic.{lists_equiv};
+    ghost use Rattle.css_model.specs.contracts.sheet.ItemEq.TheImpl.Laws.{laws-law as items_law};
+
+    ghost laws = { on_equiv (λ s. s.items) (lists_equiv items_law) };
 }
