@@ -1,5 +1,5 @@
 -- The hash of an `Option`: as those of its values, equal ones are hashed alike.
-use Rattle.std.specs.Prelude.{◌≡◌, Bool, true, false, Option, Some, None, refl, ◌++◌}
+use Rattle.std.specs.Prelude.{◌≡◌, Bool, true, Option, Some, None, refl}
 use Rattle.std.specs.Hash as fed
 use Rattle.std.specs.Hash.{Alike, HashWrites}
 use Rattle.std.specs.Option.{option_eq}

@@ -1,8 +1,9 @@
-ghost use Rattle.std.specs.Prelude.{◌≡◌, List, ℕ};
+ghost use Rattle.std.specs.Prelude.{◌≡◌, List, ℕ, IfOk};
 
 use crate::position::AnB;
 use crate::text::Text;
 use smallvec::SmallVec;
+use std::alloc::AllocError;
 use std::hash::{Hash, Hasher};
 use std::marker::Model;
 
@@ -35,6 +36,19 @@ pub struct AttrTest {
     pub op: Op,
     /// What it is tested against: empty for `Op::Present`.
     pub value: Text,
+}
+
+impl AttrTest {
+    /// An equal test, in the memory of the allocators of this one's texts.
+    pub fn copy(&self) -> Result<AttrTest, AllocError>
+        ensures { IfOk result (λ t. t ≡ self.now) }
+    {
+        Ok(AttrTest {
+            name: self.name.copy()?,
+            op: self.op,
+            value: self.value.copy()?,
+        })
+    }
 }
 
 /// What a dynamic or user-interface pseudo-class asks of an element (Selectors 3, sections 6.6.1 to
@@ -88,6 +102,26 @@ pub enum Test {
     State(Flag),
 }
 
+impl Test {
+    /// An equal test, in the memory of the allocators of this one's texts.
+    pub fn copy(&self) -> Result<Test, AllocError>
+        ensures { IfOk result (λ t. t ≡ self.now) }
+    {
+        match self {
+            Test::Any => Ok(Test::Any),
+            Test::Kind(name) => Ok(Test::Kind(name.copy()?)),
+            Test::Id(name) => Ok(Test::Id(name.copy()?)),
+            Test::Attr(test) => Ok(Test::Attr(test.copy()?)),
+            Test::Nth(positions) => Ok(Test::Nth(*positions)),
+            Test::NthLast(positions) => Ok(Test::NthLast(*positions)),
+            Test::OnlyChild => Ok(Test::OnlyChild),
+            Test::Root => Ok(Test::Root),
+            Test::Empty => Ok(Test::Empty),
+            Test::State(flag) => Ok(Test::State(*flag)),
+        }
+    }
+}
+
 /// A simple selector: a test, or the negation of one by `:not()` (Selectors 3, section 6.6.7).
 #[derive(Debug, Default, PartialEq, Eq, Hash, Drop)]
 pub struct Simple {
@@ -95,6 +129,18 @@ pub struct Simple {
     pub negated: bool,
     /// The test.
     pub test: Test,
+}
+
+impl Simple {
+    /// An equal simple selector, in the memory of the allocators of this one's texts.
+    pub fn copy(&self) -> Result<Simple, AllocError>
+        ensures { IfOk result (λ s. s ≡ self.now) }
+    {
+        Ok(Simple {
+            negated: self.negated,
+            test: self.test.copy()?,
+        })
+    }
 }
 
 /// A sequence of simple selectors that one element has to pass, in the order of the text
@@ -145,6 +191,19 @@ impl Hash for Compound {
 
     fn hash<H: Hasher>(&self, state: &mut H) {
         self.simples.hash(state);
+    }
+}
+
+impl Compound {
+    /// An equal compound, in the memory of this one's allocator.
+    pub fn copy(&self) -> Result<Compound, AllocError>
+        ensures { IfOk result (λ c. c ≡ self.now) }
+    {
+        let mut simples = SmallVec::new(*self.simples.allocator());
+        for simple in self.simples.as_slice() {
+            simples.push(simple.copy()?)?;
+        }
+        Ok(Compound { simples })
     }
 }
 
@@ -248,6 +307,31 @@ impl Hash for Selector {
         self.links.hash(state);
         self.pseudo.hash(state);
     }
+}
+
+impl Selector {
+    /// An equal selector, in the memory of the allocators of this one's lists.
+    pub fn copy(&self) -> Result<Selector, AllocError>
+        ensures { IfOk result (λ s. s ≡ self.now) }
+    {
+        let chain = copy_compounds(&self.chain)?;
+        let links = Vec::from_slice(*self.links.allocator(), self.links.as_slice())?;
+        Ok(Selector {
+            chain,
+            links,
+            pseudo: self.pseudo,
+        })
+    }
+}
+
+fn copy_compounds(chain: &Vec<Compound>) -> Result<Vec<Compound>, AllocError>
+    ensures { IfOk result (λ copies. copies.items ≡ chain.now.items) }
+{
+    let mut copies = Vec::with_capacity(*chain.allocator(), chain.len())?;
+    for compound in chain {
+        copies.push(compound.copy()?)?;
+    }
+    Ok(copies)
 }
 
 /// How specific a selector is (Selectors 3, section 9): compared by `a`, then by `b`, then by `c`.

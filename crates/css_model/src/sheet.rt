@@ -1,8 +1,9 @@
-ghost use Rattle.std.specs.Prelude.{◌≡◌, List, ℕ};
+ghost use Rattle.std.specs.Prelude.{◌≡◌, List, ℕ, IfOk};
 
 use crate::bytes::Bytes;
 use crate::selector::Selector;
 use crate::text::Text;
+use std::alloc::AllocError;
 use std::marker::Model;
 
 /// A range of a sheet's source, in bytes from 0.
@@ -25,6 +26,19 @@ pub struct Decl {
     pub important: bool,
 }
 
+impl Decl {
+    /// An equal declaration, in the memory of the allocators of this one's texts.
+    pub fn copy(&self) -> Result<Decl, AllocError>
+        ensures { IfOk result (λ d. d ≡ self.now) }
+    {
+        Ok(Decl {
+            name: self.name.copy()?,
+            value: self.value.copy()?,
+            important: self.important,
+        })
+    }
+}
+
 /// A selector of a rule, and where it stands.
 #[derive(Debug, PartialEq, Eq, Drop)]
 pub struct SelItem {
@@ -32,6 +46,18 @@ pub struct SelItem {
     pub selector: Selector,
     /// Its text in the source.
     pub piece: Piece,
+}
+
+impl SelItem {
+    /// An equal item, in the memory of the allocators of this one's selector.
+    pub fn copy(&self) -> Result<SelItem, AllocError>
+        ensures { IfOk result (λ s. s ≡ self.now) }
+    {
+        Ok(SelItem {
+            selector: self.selector.copy()?,
+            piece: self.piece,
+        })
+    }
 }
 
 /// A declaration of a rule, and where it stands.
@@ -43,6 +69,19 @@ pub struct DeclItem {
     pub name: Piece,
     /// Its value in the source.
     pub value: Piece,
+}
+
+impl DeclItem {
+    /// An equal item, in the memory of the allocators of this one's declaration.
+    pub fn copy(&self) -> Result<DeclItem, AllocError>
+        ensures { IfOk result (λ d. d ≡ self.now) }
+    {
+        Ok(DeclItem {
+            decl: self.decl.copy()?,
+            name: self.name,
+            value: self.value,
+        })
+    }
 }
 
 /// A style rule: each of its declarations applies to what one of its selectors matches
@@ -89,6 +128,37 @@ impl Eq for Rule {
 
     ghost laws = { and_equiv (on_equiv (λ r. r.selectors) (lists_equiv selectors_law))
         (on_equiv (λ r. r.decls) (lists_equiv decls_law)) };
+}
+
+impl Rule {
+    /// An equal rule, in the memory of the allocators of this one's lists.
+    pub fn copy(&self) -> Result<Rule, AllocError>
+        ensures { IfOk result (λ r. r ≡ self.now) }
+    {
+        let selectors = copy_selectors(&self.selectors)?;
+        let decls = copy_decl_items(&self.decls)?;
+        Ok(Rule { selectors, decls })
+    }
+}
+
+fn copy_selectors(selectors: &Vec<SelItem>) -> Result<Vec<SelItem>, AllocError>
+    ensures { IfOk result (λ copies. copies.items ≡ selectors.now.items) }
+{
+    let mut copies = Vec::with_capacity(*selectors.allocator(), selectors.len())?;
+    for selector in selectors {
+        copies.push(selector.copy()?)?;
+    }
+    Ok(copies)
+}
+
+fn copy_decl_items(decls: &Vec<DeclItem>) -> Result<Vec<DeclItem>, AllocError>
+    ensures { IfOk result (λ copies. copies.items ≡ decls.now.items) }
+{
+    let mut copies = Vec::with_capacity(*decls.allocator(), decls.len())?;
+    for decl in decls {
+        copies.push(decl.copy()?)?;
+    }
+    Ok(copies)
 }
 
 /// A rule with a selector outside the profile. It is printed as it stands, and is never merged.
@@ -142,6 +212,30 @@ impl Eq for KeptRule {
         (on_equiv (λ k. k.reason) nat_eq_equiv)) };
 }
 
+impl KeptRule {
+    /// An equal rule, in the memory of the allocators of this one's lists.
+    pub fn copy(&self) -> Result<KeptRule, AllocError>
+        ensures { IfOk result (λ k. k ≡ self.now) }
+    {
+        let decls = copy_decls(&self.decls)?;
+        Ok(KeptRule {
+            piece: self.piece,
+            decls,
+            reason: self.reason,
+        })
+    }
+}
+
+fn copy_decls(decls: &Vec<Decl>) -> Result<Vec<Decl>, AllocError>
+    ensures { IfOk result (λ copies. copies.items ≡ decls.now.items) }
+{
+    let mut copies = Vec::with_capacity(*decls.allocator(), decls.len())?;
+    for decl in decls {
+        copies.push(decl.copy()?)?;
+    }
+    Ok(copies)
+}
+
 /// One of the parts that stand one after the other in a sheet.
 #[derive(Debug, PartialEq, Eq, Drop)]
 pub enum Item {
@@ -152,6 +246,19 @@ pub enum Item {
     /// An at-rule, or a rule with a block that is not plain, by its text in the source. It may apply
     /// anything.
     KeptBlock(Piece),
+}
+
+impl Item {
+    /// An equal item, in the memory of the allocators of this one's lists.
+    pub fn copy(&self) -> Result<Item, AllocError>
+        ensures { IfOk result (λ i. i ≡ self.now) }
+    {
+        match self {
+            Item::Rule(rule) => Ok(Item::Rule(rule.copy()?)),
+            Item::KeptRule(rule) => Ok(Item::KeptRule(rule.copy()?)),
+            Item::KeptBlock(piece) => Ok(Item::KeptBlock(*piece)),
+        }
+    }
 }
 
 /// A style sheet.
@@ -190,4 +297,24 @@ impl Eq for Sheet {
     ghost use Rattle.css_model.specs.contracts.sheet.ItemEq.TheImpl.Laws.{laws-law as items_law};
 
     ghost laws = { on_equiv (λ s. s.items) (lists_equiv items_law) };
+}
+
+impl Sheet {
+    /// An equal sheet, in the memory of the allocators of this one's lists.
+    pub fn copy(&self) -> Result<Sheet, AllocError>
+        ensures { IfOk result (λ s. s ≡ self.now) }
+    {
+        let items = copy_items(&self.items)?;
+        Ok(Sheet { items })
+    }
+}
+
+fn copy_items(items: &Vec<Item>) -> Result<Vec<Item>, AllocError>
+    ensures { IfOk result (λ copies. copies.items ≡ items.now.items) }
+{
+    let mut copies = Vec::with_capacity(*items.allocator(), items.len())?;
+    for item in items {
+        copies.push(item.copy()?)?;
+    }
+    Ok(copies)
 }
