@@ -1,4 +1,5 @@
-ghost use Rattle.std.specs.Prelude.{◌≡◌, List, ℕ, IfOk};
+ghost use Rattle.std.specs.Prelude.{◌≡◌, List, ℕ, IfOk, IsTrue, ◌↔◌};
+ghost use Rattle.std.specs.Cmp.Lexicographic.{pointwise};
 
 use crate::position::AnB;
 use crate::text::Text;
@@ -168,7 +169,10 @@ impl PartialEq for Compound {
 
     ghost laws = { lists_per laws-law };
 
-    fn eq(&self, other: &Compound) -> bool {
+    fn eq(&self, other: &Compound) -> bool
+        ensures eq { result ≡ pointwise ⟦<Simple as PartialEq>⟧.eq self.now other.now }
+        ensures exact { IsTrue result ↔ (self.now ≡ other.now) }
+    {
         self.simples == other.simples
     }
 }
@@ -269,7 +273,10 @@ impl PartialEq for Selector {
         (and_per (on_per (λ s. s.links) (lists_per links_law))
         (on_per (λ s. s.pseudo) (partial_equiv_from_equiv (options_equiv pseudo_law)))) };
 
-    fn eq(&self, other: &Selector) -> bool {
+    fn eq(&self, other: &Selector) -> bool
+        ensures eq { result ≡ ⟦<Selector as PartialEq>⟧.eq self.now other.now }
+        ensures exact { IsTrue result ↔ (self.now ≡ other.now) }
+    {
         self.chain == other.chain && (self.links == other.links && self.pseudo == other.pseudo)
     }
 }
