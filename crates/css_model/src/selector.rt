@@ -1,5 +1,4 @@
 ghost use Rattle.std.specs.Prelude.{◌≡◌, List, ℕ, IfOk, IsTrue, ◌↔◌};
-ghost use Rattle.std.specs.Cmp.Lexicographic.{pointwise};
 
 use crate::position::AnB;
 use crate::text::Text;
@@ -170,7 +169,7 @@ impl PartialEq for Compound {
     ghost laws = { lists_per laws-law };
 
     fn eq(&self, other: &Compound) -> bool
-        ensures eq { result ≡ pointwise ⟦<Simple as PartialEq>⟧.eq self.now other.now }
+        ensures eq { result ≡ ⟦<Compound as PartialEq>⟧.eq self.now other.now }
         ensures exact { IsTrue result ↔ (self.now ≡ other.now) }
     {
         self.simples == other.simples

@@ -1,4 +1,4 @@
-ghost use Rattle.std.specs.Prelude.{◌≡◌, List, ℕ, IfOk};
+ghost use Rattle.std.specs.Prelude.{◌≡◌, List, ℕ, IfOk, IsTrue, ◌↔◌};
 
 use crate::bytes::Bytes;
 use crate::selector::Selector;
@@ -115,7 +115,10 @@ impl PartialEq for Rule {
     ghost laws = { and_per (on_per (λ r. r.selectors) (lists_per selectors_law))
         (on_per (λ r. r.decls) (lists_per decls_law)) };
 
-    fn eq(&self, other: &Rule) -> bool {
+    fn eq(&self, other: &Rule) -> bool
+        ensures eq { result ≡ ⟦<Rule as PartialEq>⟧.eq self.now other.now }
+        ensures exact { IsTrue result ↔ (self.now ≡ other.now) }
+    {
         self.selectors == other.selectors && self.decls == other.decls
     }
 }
@@ -196,7 +199,10 @@ impl PartialEq for KeptRule {
         (and_per (on_per (λ k. k.decls) (lists_per decls_law))
         (on_per (λ k. k.reason) (partial_equiv_from_equiv nat_eq_equiv))) };
 
-    fn eq(&self, other: &KeptRule) -> bool {
+    fn eq(&self, other: &KeptRule) -> bool
+        ensures eq { result ≡ ⟦<KeptRule as PartialEq>⟧.eq self.now other.now }
+        ensures exact { IsTrue result ↔ (self.now ≡ other.now) }
+    {
         self.piece == other.piece && (self.decls == other.decls && self.reason == other.reason)
     }
 }
@@ -286,7 +292,10 @@ impl PartialEq for Sheet {
 
     ghost laws = { on_per (λ s. s.items) (lists_per items_law) };
 
-    fn eq(&self, other: &Sheet) -> bool {
+    fn eq(&self, other: &Sheet) -> bool
+        ensures eq { result ≡ ⟦<Sheet as PartialEq>⟧.eq self.now other.now }
+        ensures exact { IsTrue result ↔ (self.now ≡ other.now) }
+    {
         self.items == other.items
     }
 }
