@@ -1,5 +1,10 @@
 pub mod KeptRuleParts
 pub mod OptionHash
+pub mod Plain
+pub mod Printed
 pub mod RuleParts
 pub mod SelectorParts
+pub mod Sheet
 pub mod SheetParts
+pub mod Source
+pub mod StyleRule

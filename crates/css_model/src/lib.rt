@@ -6,10 +6,11 @@ mod fault;
 mod position;
 mod selector;
 mod sheet;
+mod source;
 mod text;
 
 pub use bytes::Bytes;
-pub use fault::{FaultKind, SheetFault};
+pub use fault::{FaultKind, LIMIT, SheetFault};
 pub use position::AnB;
 pub use selector::{
     AttrTest, Combinator, Compound, Flag, Op, Pseudo, Selector, Simple, Specificity, Test,
