@@ -1,3 +1,4 @@
 mod PlainExamples
 pub mod PlainLemmas
+pub mod Same
 pub mod SliceRange

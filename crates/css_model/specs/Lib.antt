@@ -1,4 +1,5 @@
 pub mod KeptRuleParts
+pub mod OptionHash
 pub mod Plain
 pub mod Printed
 pub mod RuleParts

@@ -17,3 +17,6 @@ pub use selector::{
 };
 pub use sheet::{Decl, DeclItem, Item, KeptRule, Piece, Rule, SelItem, Sheet};
 pub use text::Text;
+
+#[cfg(test)]
+mod tests;
