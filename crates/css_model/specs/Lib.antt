@@ -1,4 +1,9 @@
+pub mod Attribute
+pub mod Cascade
+pub mod Document
 pub mod KeptRuleParts
+pub mod Matching
 pub mod RuleParts
 pub mod SelectorParts
 pub mod SheetParts
+pub mod Specificity
