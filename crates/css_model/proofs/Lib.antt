@@ -1,8 +1,10 @@
 pub mod ApplyingAlike
 pub mod AttributeWords
+pub mod CascadeExamples
 pub mod CascadeWords
 pub mod Greatest
 pub mod InOrder
+pub mod MatchingExamples
 pub mod MatchingWords
 pub mod Members
 pub mod Ranking

@@ -2,6 +2,7 @@
 #![tactic(auto)]
 
 mod bytes;
+mod counting;
 mod fault;
 mod laws;
 mod position;
@@ -10,6 +11,7 @@ mod sheet;
 mod text;
 
 pub use bytes::Bytes;
+pub use counting::specificity;
 pub use fault::{FaultKind, SheetFault};
 pub use laws::{
     alike_behind_an_item, alike_wins_alike, greatest_is_winner, joining_applies_alike,
