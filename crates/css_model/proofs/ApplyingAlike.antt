@@ -1,13 +1,14 @@
 -- What applies, without places: joining two rules leaves it as it is.
-use Rattle.std.proofs.Common.{◌≡◌, ℕ, suc, Bool, List, [], ◌∷◌, ◌++◌, map, refl, sym, ap, ap₂, ◌∙◌, append_assoc}
+use Rattle.std.proofs.Common.{length, arith, ◌≡◌, ℕ, suc, Bool, List, [], ◌∷◌, ◌++◌, map, refl, sym, ap, ap₂, ◌∙◌, append_assoc}
 use Rattle.std.proofs.lemmas.List.{map-append}
 use Rattle.std.specs.List.{filter}
 use Rattle.css_model.specs.declared.sheet.Decl.{Decl}
 use Rattle.css_model.specs.declared.sheet.DeclItem.{DeclItem}
 use Rattle.css_model.specs.declared.sheet.Item.{Item}
 use Rattle.css_model.specs.declared.sheet.Item.TheVariants.{Rule, KeptRule, KeptBlock}
-use Rattle.css_model.specs.Cascade.{Declared, Place, Entry, outcome, entries_of_decl, entries_of_decls, entries_of_kept, matching_of, applied_from, selectors_of}
-use Rattle.css_model.specs.Laws.{ApplyAlike, joined}
+use Rattle.css_model.specs.Cascade.{Declared, Place, Entry, outcome, entries_of_decl, entries_of_decls, entries_of_kept, matching_of, applied_from}
+use Rattle.css_model.specs.StyleRule.{StyleRule, selectors_of, style_rule}
+use Rattle.css_model.specs.Laws.{ApplyAlike, SameButPieces, joined}
 use Rattle.css_model.specs.Matching.{matches}
 use Rattle.css_model.specs.RuleParts.{RuleParts}
 use Rattle.css_model.specs.SelectorParts.{SelectorParts}
@@ -102,3 +103,47 @@ joining_first after upper lower same doc target meanings =
 pub joining_anywhere : (before after : List Item) (upper lower : RuleParts) → selectors_of upper ≡ selectors_of lower → ApplyAlike (before ++ Rule upper ∷ Rule lower ∷ after) (before ++ Rule (joined upper lower) ∷ after)
 joining_anywhere [] after upper lower same = joining_first after upper lower same
 joining_anywhere (item ∷ before) after upper lower same = behind_an_item item (before ++ Rule upper ∷ Rule lower ∷ after) (before ++ Rule (joined upper lower) ∷ after) (joining_anywhere before after upper lower same)
+
+-- what equal lists begin and go on with
+head-same : {x y : Decl} {xs ys : List Decl} → x ∷ xs ≡ y ∷ ys → x ≡ y
+head-same h = cc
+
+tail-same : {x y : Decl} {xs ys : List Decl} → x ∷ xs ≡ y ∷ ys → xs ≡ ys
+tail-same h = cc
+
+-- a rule's declarations, from the declarations without their pieces
+decls-of : (matching : List SelectorParts) (item position : ℕ) (decls decls' : List DeclItem) → map (λ d. d.decl) decls ≡ map (λ d. d.decl) decls' → entries_of_decls matching item position decls ≡ entries_of_decls matching item position decls'
+decls-of matching item position [] [] h = refl
+decls-of matching item position [] (d ∷ decls) h = absurd (let e : 0 ≡ length (map (λ (x : DeclItem). x.decl) (d ∷ decls)) = ap length h in omega arith)
+decls-of matching item position (d ∷ decls) [] h = absurd (let e : length (map (λ (x : DeclItem). x.decl) (d ∷ decls)) ≡ 0 = ap length h in omega arith)
+decls-of matching item position (d ∷ decls) (d' ∷ decls') h =
+    ap₂ (λ (x : Decl) (es : List Entry). entries_of_decl matching (record { item = item; position = position }) x ++ es)
+    (head-same h) (decls-of matching item (suc position) decls decls' (tail-same h))
+
+one_rule : (matched : SelectorParts → Bool) (n : ℕ) (r r' : RuleParts) → style_rule r ≡ style_rule r' → entries_of_decls (matching_of matched r) n 0 r.decls ≡ entries_of_decls (matching_of matched r') n 0 r'.decls
+one_rule matched n r r' same =
+    ap (λ ss. entries_of_decls (filter matched ss) n 0 r.decls) (ap (λ (s : StyleRule). s.selectors) same)
+    ∙ decls-of (matching_of matched r') n 0 r.decls r'.decls (ap (λ (s : StyleRule). s.decls) same)
+
+same_pieces : (matched : SelectorParts → Bool) (n : ℕ) (meanings : List (List Declared)) (items items' : List Item) → SameButPieces items items' → applied_from matched n meanings items ≡ applied_from matched n meanings items'
+same_pieces matched n meanings [] [] h = refl
+same_pieces matched n meanings (Rule r ∷ items) (Rule r' ∷ items') h =
+    ap₂ (λ (xs ys : List Entry). xs ++ ys) (one_rule matched n r r' h.0) (same_pieces matched (suc n) meanings items items' h.1)
+same_pieces matched n [] (KeptRule k ∷ items) (KeptRule k' ∷ items') h = same_pieces matched (suc n) [] items items' h
+same_pieces matched n (m ∷ meanings) (KeptRule k ∷ items) (KeptRule k' ∷ items') h = ap (λ (es : List Entry). entries_of_kept n 0 m ++ es) (same_pieces matched (suc n) meanings items items' h)
+same_pieces matched n [] (KeptBlock p ∷ items) (KeptBlock p' ∷ items') h = same_pieces matched (suc n) [] items items' h
+same_pieces matched n (m ∷ meanings) (KeptBlock p ∷ items) (KeptBlock p' ∷ items') h = ap (λ (es : List Entry). entries_of_kept n 0 m ++ es) (same_pieces matched (suc n) meanings items items' h)
+same_pieces matched n meanings [] (i ∷ items') h = absurd h
+same_pieces matched n meanings (Rule r ∷ items) [] h = absurd h
+same_pieces matched n meanings (Rule r ∷ items) (KeptRule k ∷ items') h = absurd h
+same_pieces matched n meanings (Rule r ∷ items) (KeptBlock p ∷ items') h = absurd h
+same_pieces matched n meanings (KeptRule k ∷ items) [] h = absurd h
+same_pieces matched n meanings (KeptRule k ∷ items) (Rule r ∷ items') h = absurd h
+same_pieces matched n meanings (KeptRule k ∷ items) (KeptBlock p ∷ items') h = absurd h
+same_pieces matched n meanings (KeptBlock p ∷ items) [] h = absurd h
+same_pieces matched n meanings (KeptBlock p ∷ items) (Rule r ∷ items') h = absurd h
+same_pieces matched n meanings (KeptBlock p ∷ items) (KeptRule k ∷ items') h = absurd h
+
+-- the law `PiecesDoNotCount`
+pub pieces_alike : (items items' : List Item) → SameButPieces items items' → ApplyAlike items items'
+pieces_alike items items' h doc target meanings = ap (map outcome) (same_pieces (matches doc target) 0 meanings items items' h)

@@ -7,4 +7,8 @@ pub mod InOrder
 pub mod MatchingExamples
 pub mod MatchingWords
 pub mod Members
+mod PlainExamples
+pub mod PlainLemmas
 pub mod Ranking
+pub mod Same
+pub mod SliceRange

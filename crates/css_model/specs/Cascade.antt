@@ -13,6 +13,7 @@ use Rattle.css_model.specs.Matching.{matches}
 use Rattle.css_model.specs.RuleParts.{RuleParts}
 use Rattle.css_model.specs.SelectorParts.{SelectorParts}
 use Rattle.css_model.specs.Specificity.{specificity_of}
+use Rattle.css_model.specs.StyleRule.{selectors_of}
 
 -- a declaration, with the specificity that it applies with
 pub record Declared : Type 0 where
@@ -57,11 +58,7 @@ abbrev pub entries_of_kept : ℕ → ℕ → List Declared → List Entry
 entries_of_kept item position [] = []
 entries_of_kept item position (m ∷ meaning) = record { decl = m.decl; specificity = m.specificity; place = record { item = item; position = position } } ∷ entries_of_kept item (suc position) meaning
 
--- the selectors of a rule, in the order of the source
-abbrev pub selectors_of : RuleParts → List SelectorParts
-selectors_of rule = map (λ s. s.selector) rule.selectors
-
--- those that match
+-- the selectors of a rule that match, in the order of the source
 abbrev pub matching_of : (SelectorParts → Bool) → RuleParts → List SelectorParts
 matching_of matched rule = filter matched (selectors_of rule)
 

@@ -1,15 +1,16 @@
 -- The laws of matching and of the cascade. Each is the contract of a public function of `laws`.
-use Rattle.std.specs.Prelude.{◌≡◌, ◌⊎◌, ◌↔◌, ℕ, ◌<◌, true, false, IsTrue, List, ◌∷◌, ◌++◌, map, None, Some, IfSome}
+use Rattle.std.specs.Prelude.{◌≡◌, ◌⊎◌, ◌↔◌, ℕ, ◌<◌, true, false, IsTrue, List, [], ◌∷◌, ◌++◌, map, None, Some, IfSome}
 use Rattle.std.specs.List.{All, Contains}
 use Rattle.css_model.specs.declared.selector.Op.{Op}
 use Rattle.css_model.specs.declared.sheet.Item.{Item}
-use Rattle.css_model.specs.declared.sheet.Item.TheVariants.{Rule}
+use Rattle.css_model.specs.declared.sheet.Item.TheVariants.{Rule, KeptRule, KeptBlock}
 use Rattle.css_model.specs.Attribute.{Passes, passes}
-use Rattle.css_model.specs.Cascade.{Declared, Place, Entry, applied, Understood, is_understood, outranks, outcome, winner, selectors_of}
+use Rattle.css_model.specs.Cascade.{Declared, Place, Entry, applied, Understood, is_understood, outranks, outcome, winner}
 use Rattle.css_model.specs.Document.{Document, Target}
 use Rattle.css_model.specs.Matching.{Matches, matches}
 use Rattle.css_model.specs.RuleParts.{RuleParts}
 use Rattle.css_model.specs.SelectorParts.{SelectorParts}
+use Rattle.css_model.specs.StyleRule.{selectors_of, style_rule}
 
 -- the two forms of the attribute tests agree
 abbrev pub PassingIsDecided : Type 0
@@ -89,6 +90,18 @@ AlikeWinsAlike = (items items' : List Item) → ApplyAlike items items' → WinA
 -- an item before both lists changes nothing: with the law of joining this serves an induction over a sheet
 abbrev pub AlikeBehindAnItem : Type 0
 AlikeBehindAnItem = (item : Item) (items items' : List Item) → ApplyAlike items items' → ApplyAlike (item ∷ items) (item ∷ items')
+
+-- the same rules and as many kept items, item for item, wherever they stand in a source
+abbrev pub SameButPieces : List Item → List Item → Type 0
+SameButPieces [] [] = Unit {0}
+SameButPieces (Rule r ∷ items) (Rule r' ∷ items') = (style_rule r ≡ style_rule r') × SameButPieces items items'
+SameButPieces (KeptRule k ∷ items) (KeptRule k' ∷ items') = SameButPieces items items'
+SameButPieces (KeptBlock p ∷ items) (KeptBlock p' ∷ items') = SameButPieces items items'
+SameButPieces _ _ = ⊥
+
+-- so pieces of a source change nothing; what kept items mean is given beside them
+abbrev pub PiecesDoNotCount : Type 0
+PiecesDoNotCount = (items items' : List Item) → SameButPieces items items' → ApplyAlike items items'
 
 -- two rules as one: the selectors of the upper one, and the declarations of both
 abbrev pub joined : RuleParts → RuleParts → RuleParts

@@ -4,7 +4,13 @@ pub mod Document
 pub mod KeptRuleParts
 pub mod Laws
 pub mod Matching
+pub mod OptionHash
+pub mod Plain
+pub mod Printed
 pub mod RuleParts
 pub mod SelectorParts
+pub mod Sheet
 pub mod SheetParts
+pub mod Source
 pub mod Specificity
+pub mod StyleRule

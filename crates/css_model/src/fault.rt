@@ -1,3 +1,6 @@
+/// The greatest length of a style sheet that is read, in bytes.
+pub const LIMIT: u32 = 1_048_576;
+
 /// Why a style sheet is refused.
 #[derive(Clone, Copy, Debug, PartialEq, Eq, Hash)]
 pub enum FaultKind {

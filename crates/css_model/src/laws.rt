@@ -12,6 +12,7 @@ ghost use Rattle.css_model.specs.Laws.{
   AlikeBehindAnItem,
   JoiningAppliesAlike,
   JoiningKeepsWinners,
+  PiecesDoNotCount,
 };
 
 /// The words of Selectors 3, section 6.3, and the test of an attribute's value agree.
@@ -75,4 +76,9 @@ pub fn joining_applies_alike()
 /// To join two neighbouring rules with equal selectors keeps every winner.
 pub fn joining_keeps_winners()
     ensures { JoiningKeepsWinners }
+{}
+
+/// The same rules and kept items, read from other places of other sources, apply the same.
+pub fn pieces_do_not_count()
+    ensures { PiecesDoNotCount }
 {}

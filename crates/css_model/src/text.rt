@@ -1,5 +1,7 @@
-ghost use Rattle.std.specs.Prelude.{◌≡◌, List, ℕ};
+ghost use Rattle.std.specs.Prelude.{◌≡◌, List, ℕ, IfOk, IsTrue, ◌↔◌};
 
+use std::alloc::AllocError;
+use std::hash::{Hash, Hasher};
 use std::marker::Model;
 
 /// A text, as the list of its code points.
@@ -16,6 +18,43 @@ impl Model for Text {
     ghost view = { λ t. t.codes.items };
 }
 
+impl PartialEq for Text {
+    ghost use Rattle.std.specs.Prelude.{nat_eq};
+    ghost use Rattle.std.specs.Cmp.{partial_equiv_from_equiv};
+    ghost use Rattle.std.specs.Cmp.Lexicographic.{pointwise, nat_list_eq_equiv};
+
+    ghost eq = { λ a b. pointwise nat_eq a b };
+
+    ghost laws = { partial_equiv_from_equiv nat_list_eq_equiv };
+
+    fn eq(&self, other: &Text) -> bool
+        ensures eq { result ≡ ⟦<Text as PartialEq>⟧.eq self.now other.now }
+        ensures exact { IsTrue result ↔ (self.now ≡ other.now) }
+    {
+        self.codes == other.codes
+    }
+}
+
+impl Eq for Text {
+    ghost use Rattle.std.specs.Cmp.Lexicographic.{nat_list_eq_equiv};
+
+    ghost laws = { nat_list_eq_equiv };
+}
+
+impl Hash for Text {
+    ghost use Rattle.std.specs.Hash as fed;
+    ghost use Rattle.std.specs.Cmp.Rules.{hashing};
+    ghost use Rattle.std.proofs.Common.{rules};
+
+    ghost hash_input = { λ t. fed.slice fed.char t };
+
+    ghost respects_eq = { Prim.search (hashing, rules) };
+
+    fn hash<H: Hasher>(&self, state: &mut H) {
+        self.codes.hash(state);
+    }
+}
+
 impl Text {
     /// The text of these code points. Takes no memory.
     pub fn new(codes: Vec<char>) -> Text
@@ -29,5 +68,13 @@ impl Text {
         ensures { result.now ≡ self.now }
     {
         self.codes.as_slice()
+    }
+
+    /// A text of the same code points, in the memory of this one's allocator.
+    pub fn copy(&self) -> Result<Text, AllocError>
+        ensures { IfOk result (λ t. t ≡ self.now) }
+    {
+        let codes = Vec::from_slice(*self.codes.allocator(), self.codes.as_slice())?;
+        Ok(Text { codes })
     }
 }

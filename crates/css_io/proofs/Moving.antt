@@ -1,0 +1,23 @@
+-- What stays true while bytes are moved piece by piece.
+use Rattle.std.specs.Prelude.{◌≡◌, ℕ, ◌+◌, ◌<◌, ◌≤◌, ◌++◌, List, Option, Some, None, IfSome, length, take}
+use Rattle.std.proofs.Common.{arith, ap, sym, ◌∙◌, refl}
+use Rattle.std.proofs.lemmas.List.{take_at, length-append}
+use Rattle.css_io.specs.Io.{HasAdded}
+
+-- `taken` was the front of the bytes that were left, and the others are left
+abbrev pub TookFront : Option (List ℕ) → Option (List ℕ) → List ℕ → Type 0
+TookFront old now taken = IfSome old (λ bytes. (others : List ℕ) × (bytes ≡ taken ++ others) × (now ≡ Some others))
+
+-- all of `bytes` but their end `others` was written
+abbrev pub WroteFront : Option (List ℕ) → Option (List ℕ) → List ℕ → List ℕ → Type 0
+WroteFront old now bytes others = IfSome old (λ before. (done : List ℕ) × (bytes ≡ done ++ others) × (now ≡ Some (before ++ done)))
+
+-- where something is still to be written, only a part was; so it stays if no more is
+pub part_written : (old now new : Option (List ℕ)) (bytes others : List ℕ) → WroteFront old now bytes others
+    → 0 < length others → length others ≤ length bytes → new ≡ now → (n : ℕ) × (n < length bytes) × HasAdded (take n bytes) old new
+part_written None now new bytes others wrote some fewer same = (0, omega arith, tt)
+part_written (Some before) now new bytes others wrote some fewer same =
+    let done : List ℕ = wrote.0 in
+    let front : take (length done) bytes ≡ done = ap (take (length done)) wrote.1 ∙ take_at done others _ refl in
+    let size : length bytes ≡ length done + length others = ap length wrote.1 ∙ length-append done others in
+    (length done, omega arith, same ∙ wrote.2 ∙ ap (λ xs. Some (before ++ xs)) (sym front))

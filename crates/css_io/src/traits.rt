@@ -1,0 +1,55 @@
+ghost use Rattle.std.specs.Prelude.{◌≡◌, ◌+◌, ◌<◌, ◌≤◌, ◌++◌, ℕ, List, Option, drop, length, IfOk, OnErr};
+ghost use Rattle.css_io.specs.Io.{Rose, GivesFirst, TakesFirst};
+
+use thiserror::Error;
+
+/// A read or a write failed. The source or sink has counted it, if its count was not at its end.
+#[derive(Clone, Copy, Debug, PartialEq, Eq, Error)]
+#[error("the read or write failed")]
+pub struct Failed;
+
+/// Where bytes come from.
+pub trait Source {
+    // The bytes still to come, where the source tells them.
+    ghost left: { Self → Option (List ℕ) };
+
+    // How often reading failed. It never falls, and stays at 18,446,744,073,709,551,615.
+    ghost faults: { Self → ℕ };
+
+    /// Reads into the front of `into`, and answers how many bytes that were.
+    ///
+    /// `Ok(0)` into a buffer with room comes exactly at the end of the input. `Failed` takes no
+    /// byte away, and raises the count of faults.
+    fn read(&mut self, into: &mut [u8]) -> Result<usize, Failed>
+        ensures bytes { GivesFirst (left self.old) (left self.new) into.new result }
+        ensures bound { IfOk result (λ n. n ≤ length into.new) }
+        ensures later { faults self.old ≤ faults self.new }
+        ensures cause { OnErr result (Rose (faults self.old) (faults self.new)) };
+}
+
+/// Where bytes go to.
+pub trait Sink {
+    // The bytes taken so far, where the sink tells them.
+    ghost written: { Self → Option (List ℕ) };
+
+    // How often writing failed. It never falls, and stays at 18,446,744,073,709,551,615.
+    ghost faults: { Self → ℕ };
+
+    // That a piece may be written: always, but for a sink that never fails, where it has to fit.
+    ghost fits: { Self → List ℕ → Type 0 };
+
+    /// Writes some bytes of the front of `from`, and answers how many.
+    ///
+    /// They are one at least, unless `from` is empty. `Failed` writes nothing, and raises the
+    /// count of faults.
+    fn write(&mut self, from: &[u8]) -> Result<usize, Failed>
+        requires { fits self.old from.now }
+        ensures bytes { TakesFirst (written self.old) (written self.new) from.now result }
+        ensures later { faults self.old ≤ faults self.new }
+        ensures cause { OnErr result (Rose (faults self.old) (faults self.new)) }
+
+        // The rest of the piece fits afterwards, and so does what fitted behind the piece.
+        ensures rest { IfOk result (λ n. fits self.new (drop n from.now)) }
+        ensures more { IfOk result (λ n. (behind : List ℕ) → fits self.old (from.now ++ behind)
+            → fits self.new (drop n from.now ++ behind)) };
+}

@@ -1,0 +1,7 @@
+mod Inversions
+mod Joining
+mod Lengths
+mod RoundTrip
+mod Sound
+mod Texts
+mod Words

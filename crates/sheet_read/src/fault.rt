@@ -1,0 +1,55 @@
+ghost use Rattle.std.specs.Prelude.{◌≡◌};
+
+use css_model::SheetFault;
+use std::alloc::{AllocError, AllocFailed};
+use thiserror::Error;
+
+/// Why a style sheet was not read.
+#[derive(Debug, Drop, Error)]
+pub enum SheetError {
+    /// The sheet has a fault, at a place of its text.
+    #[error("the style sheet is refused")]
+    Fault(SheetFault),
+    /// There is not enough memory.
+    #[error("out of memory")]
+    NoMemory,
+}
+
+impl From<AllocError> for SheetError {
+    ghost use Rattle.sheet_read.specs.declared.fault.SheetError.TheVariants.{NoMemory};
+
+    ghost from_gives = { λ _ e. e ≡ NoMemory };
+
+    fn from(_: AllocError) -> SheetError {
+        SheetError::NoMemory
+    }
+}
+
+/// Why a part of a sheet was not read.
+#[derive(Debug, Drop)]
+pub(crate) enum PartError {
+    /// It is not of the plain form.
+    NotPlain,
+    /// There is not enough memory.
+    NoMemory,
+}
+
+impl From<AllocError> for PartError {
+    ghost use Rattle.sheet_read.specs.declared.fault.PartError.TheVariants.{NoMemory};
+
+    ghost from_gives = { λ _ e. e ≡ NoMemory };
+
+    fn from(_: AllocError) -> PartError {
+        PartError::NoMemory
+    }
+}
+
+impl<T: Drop> From<AllocFailed<T>> for PartError {
+    ghost use Rattle.sheet_read.specs.declared.fault.PartError.TheVariants.{NoMemory};
+
+    ghost from_gives = { λ _ e. e ≡ NoMemory };
+
+    fn from(_: AllocFailed<T>) -> PartError {
+        PartError::NoMemory
+    }
+}
