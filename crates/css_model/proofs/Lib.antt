@@ -1,4 +1,14 @@
+pub mod ApplyingAlike
+pub mod AttributeWords
+pub mod CascadeExamples
+pub mod CascadeWords
+pub mod Greatest
+pub mod InOrder
+pub mod MatchingExamples
+pub mod MatchingWords
+pub mod Members
 mod PlainExamples
 pub mod PlainLemmas
+pub mod Ranking
 pub mod Same
 pub mod SliceRange

@@ -1,4 +1,9 @@
+pub mod Attribute
+pub mod Cascade
+pub mod Document
 pub mod KeptRuleParts
+pub mod Laws
+pub mod Matching
 pub mod OptionHash
 pub mod Plain
 pub mod Printed
@@ -7,4 +12,5 @@ pub mod SelectorParts
 pub mod Sheet
 pub mod SheetParts
 pub mod Source
+pub mod Specificity
 pub mod StyleRule

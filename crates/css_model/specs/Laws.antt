@@ -1,0 +1,118 @@
+-- The laws of matching and of the cascade. Each is the contract of a public function of `laws`.
+use Rattle.std.specs.Prelude.{◌≡◌, ◌⊎◌, ◌↔◌, ℕ, ◌<◌, true, false, IsTrue, List, [], ◌∷◌, ◌++◌, map, None, Some, IfSome}
+use Rattle.std.specs.List.{All, Contains}
+use Rattle.css_model.specs.declared.selector.Op.{Op}
+use Rattle.css_model.specs.declared.sheet.Item.{Item}
+use Rattle.css_model.specs.declared.sheet.Item.TheVariants.{Rule, KeptRule, KeptBlock}
+use Rattle.css_model.specs.Attribute.{Passes, passes}
+use Rattle.css_model.specs.Cascade.{Declared, Place, Entry, applied, Understood, is_understood, outranks, outcome, winner}
+use Rattle.css_model.specs.Document.{Document, Target}
+use Rattle.css_model.specs.Matching.{Matches, matches}
+use Rattle.css_model.specs.RuleParts.{RuleParts}
+use Rattle.css_model.specs.SelectorParts.{SelectorParts}
+use Rattle.css_model.specs.StyleRule.{selectors_of, style_rule}
+
+-- the two forms of the attribute tests agree
+abbrev pub PassingIsDecided : Type 0
+PassingIsDecided = (op : Op) (v value : List ℕ) → IsTrue (passes op v value) ↔ Passes op v value
+
+-- the two forms of matching agree
+abbrev pub MatchingIsDecided : Type 0
+MatchingIsDecided = (doc : Document) (target : Target) (selector : SelectorParts) → IsTrue (matches doc target selector) ↔ Matches doc target selector
+
+-- The order of the cascade in words (CSS Cascading 3, section 6): importance, then specificity, then
+-- order of appearance.
+abbrev pub IsMoreImportant : Entry → Entry → Type 0
+IsMoreImportant e f = (e.decl.important ≡ true) × (f.decl.important ≡ false)
+
+abbrev pub IsMoreSpecific : Entry → Entry → Type 0
+IsMoreSpecific e f = let s = e.specificity in let t = f.specificity in
+    (t.a < s.a) ⊎ ((s.a ≡ t.a) × (t.b < s.b)) ⊎ ((s.a ≡ t.a) × (s.b ≡ t.b) × (t.c < s.c))
+
+abbrev pub IsLater : Place → Place → Type 0
+IsLater p q = (q.item < p.item) ⊎ ((p.item ≡ q.item) × (q.position < p.position))
+
+abbrev pub Outranks : Entry → Entry → Type 0
+Outranks e f = IsMoreImportant e f
+    ⊎ ((e.decl.important ≡ f.decl.important) × IsMoreSpecific e f)
+    ⊎ ((e.decl.important ≡ f.decl.important) × (e.specificity ≡ f.specificity) × IsLater e.place f.place)
+
+-- the test by ranks is that order
+abbrev pub OutrankingIsDecided : Type 0
+OutrankingIsDecided = (e f : Entry) → IsTrue (outranks e f) ↔ Outranks e f
+
+-- an entry is understood where its name and value are listed
+abbrev pub UnderstandingIsDecided : Type 0
+UnderstandingIsDecided = (us : List Understood) (e : Entry) → IsTrue (is_understood us e) ↔ Contains us (record { name = e.decl.name; value = e.decl.value })
+
+-- an applied entry that is understood, above which no other one stands
+pub record IsGreatest (us : List Understood) (entries : List Entry) (e : Entry) : Type 0 where
+  pub applied : Contains entries e
+  pub understood : IsTrue (is_understood us e)
+  pub greatest : All (λ f. IsTrue (is_understood us f) → outranks f e ≡ false) entries
+
+-- The winner is a greatest applied entry that is understood, without its place.
+abbrev pub WinnerIsGreatest : Type 0
+WinnerIsGreatest = (doc : Document) (target : Target) (meanings : List (List Declared)) (items : List Item) (us : List Understood) →
+    IfSome (winner doc target meanings items us) (λ w. (e : Entry) × IsGreatest us (applied doc target meanings items) e × (w ≡ outcome e))
+
+-- Each greatest one is the winner.
+abbrev pub GreatestIsWinner : Type 0
+GreatestIsWinner = (doc : Document) (target : Target) (meanings : List (List Declared)) (items : List Item) (us : List Understood) (e : Entry) →
+    IsGreatest us (applied doc target meanings items) e → winner doc target meanings items us ≡ Some (outcome e)
+
+-- There is no winner exactly where nothing that applies is understood.
+abbrev pub NoWinnerIsNoneUnderstood : Type 0
+NoWinnerIsNoneUnderstood = (doc : Document) (target : Target) (meanings : List (List Declared)) (items : List Item) (us : List Understood) →
+    (winner doc target meanings items us ≡ None) ↔ All (λ e. is_understood us e ≡ false) (applied doc target meanings items)
+
+-- Two lists of items apply the same to every target, up to places, whatever the kept items mean.
+abbrev pub ApplyAlike : List Item → List Item → Type 0
+ApplyAlike items items' = (doc : Document) (target : Target) (meanings : List (List Declared)) →
+    map outcome (applied doc target meanings items) ≡ map outcome (applied doc target meanings items')
+
+-- Two lists of items have the same winners, whatever the kept items mean and whatever is understood.
+abbrev pub WinAlike : List Item → List Item → Type 0
+WinAlike items items' = (doc : Document) (target : Target) (meanings : List (List Declared)) (us : List Understood) →
+    winner doc target meanings items us ≡ winner doc target meanings items' us
+
+-- The winner depends on what applies and on its order of appearance alone: the same entries in the
+-- same order, at whatever places, have the same winner.
+abbrev pub OrderDecidesWinner : Type 0
+OrderDecidesWinner = (doc doc' : Document) (target target' : Target) (meanings meanings' : List (List Declared)) (items items' : List Item) (us : List Understood) →
+    map outcome (applied doc target meanings items) ≡ map outcome (applied doc' target' meanings' items') →
+    winner doc target meanings items us ≡ winner doc' target' meanings' items' us
+
+-- so what applies alike wins alike
+abbrev pub AlikeWinsAlike : Type 0
+AlikeWinsAlike = (items items' : List Item) → ApplyAlike items items' → WinAlike items items'
+
+-- an item before both lists changes nothing: with the law of joining this serves an induction over a sheet
+abbrev pub AlikeBehindAnItem : Type 0
+AlikeBehindAnItem = (item : Item) (items items' : List Item) → ApplyAlike items items' → ApplyAlike (item ∷ items) (item ∷ items')
+
+-- the same rules and as many kept items, item for item, wherever they stand in a source
+abbrev pub SameButPieces : List Item → List Item → Type 0
+SameButPieces [] [] = Unit {0}
+SameButPieces (Rule r ∷ items) (Rule r' ∷ items') = (style_rule r ≡ style_rule r') × SameButPieces items items'
+SameButPieces (KeptRule k ∷ items) (KeptRule k' ∷ items') = SameButPieces items items'
+SameButPieces (KeptBlock p ∷ items) (KeptBlock p' ∷ items') = SameButPieces items items'
+SameButPieces _ _ = ⊥
+
+-- so pieces of a source change nothing; what kept items mean is given beside them
+abbrev pub PiecesDoNotCount : Type 0
+PiecesDoNotCount = (items items' : List Item) → SameButPieces items items' → ApplyAlike items items'
+
+-- two rules as one: the selectors of the upper one, and the declarations of both
+abbrev pub joined : RuleParts → RuleParts → RuleParts
+joined upper lower = record { selectors = upper.selectors; decls = upper.decls ++ lower.decls }
+
+-- two neighbouring rules with equal selectors apply the same when they are joined
+abbrev pub JoiningAppliesAlike : Type 0
+JoiningAppliesAlike = (before after : List Item) (upper lower : RuleParts) → selectors_of upper ≡ selectors_of lower →
+    ApplyAlike (before ++ Rule upper ∷ Rule lower ∷ after) (before ++ Rule (joined upper lower) ∷ after)
+
+-- so joining them keeps every winner
+abbrev pub JoiningKeepsWinners : Type 0
+JoiningKeepsWinners = (before after : List Item) (upper lower : RuleParts) → selectors_of upper ≡ selectors_of lower →
+    WinAlike (before ++ Rule upper ∷ Rule lower ∷ after) (before ++ Rule (joined upper lower) ∷ after)
