@@ -1,14 +1,16 @@
 -- What joins keep: each piece reads as what the sheet says of it, and the printed text grows no longer.
 use Rattle.std.proofs.Common.{◌≡◌, ◌≢◌, ℕ, zero, suc, ◌+◌, ◌≤◌, List, [], ◌∷◌, ◌++◌, length, map, refl, sym, ◌∙◌, ap, subst, arith}
-use Rattle.std.specs.List.{AllByRecursion, join_with_byte, flat_map}
+use Rattle.std.specs.List.{AllByRecursion, join_with_byte}
 use Rattle.std.proofs.lemmas.List.{length-append, map-append}
 use Rattle.std.proofs.lemmas.List.Concat.{flat_map-append}
 use Rattle.css_model.specs.declared.sheet.Item.{Item}
 use Rattle.css_model.specs.declared.sheet.Item.TheVariants.{Rule}
+use Rattle.css_model.specs.Cascade.{winner}
 use Rattle.css_model.specs.Printed.{printed_selector, printed_declaration, printed_rule, printed_item, printed}
 use Rattle.css_model.specs.RuleParts.{RuleParts}
 use Rattle.css_model.specs.Source.{IsSoundDeclaration, IsSoundRule, IsSoundItem, IsSound}
-use Rattle.cssmin.specs.Joining.{joined_rule, IsJoin, JoinsIn}
+use Rattle.css_model.specs.Laws.{joined, WinAlike, JoiningKeepsWinners}
+use Rattle.cssmin.specs.Joining.{IsJoin, JoinsIn}
 
 all_append : {X : Type 0} → (P : X → Type 0) (xs ys : List X) → AllByRecursion P xs → AllByRecursion P ys → AllByRecursion P (xs ++ ys)
 all_append P [] ys front back = back
@@ -22,7 +24,7 @@ grown : {X : Type 0} → (xs ys : List X) → xs ≢ [] → xs ++ ys ≢ []
 grown [] ys some = absurd (some refl)
 grown (x ∷ xs) ys some = λ is. cc
 
-rule_sound : (source : List ℕ) (upper lower : RuleParts) → IsSoundRule source upper → IsSoundRule source lower → IsSoundRule source (joined_rule upper lower)
+rule_sound : (source : List ℕ) (upper lower : RuleParts) → IsSoundRule source upper → IsSoundRule source lower → IsSoundRule source (joined upper lower)
 rule_sound source upper lower above below = record {
   one_selector = above.one_selector;
   has_declarations = grown upper.decls lower.decls above.has_declarations;
@@ -34,7 +36,7 @@ join_sound : (source : List ℕ) (old new : List Item) → IsJoin old new → Is
 join_sound source old new join sound =
     let parts = all_parts (IsSoundItem source) join.before ((Rule join.upper) ∷ (Rule join.lower) ∷ join.after) (subst (IsSound source) join.old_is sound) in
     subst (IsSound source) (sym join.new_is)
-    (all_append (IsSoundItem source) join.before ((Rule (joined_rule join.upper join.lower)) ∷ join.after) parts.0
+    (all_append (IsSoundItem source) join.before ((Rule (joined join.upper join.lower)) ∷ join.after) parts.0
     (rule_sound source join.upper join.lower parts.1.0 parts.1.1.0, parts.1.1.1))
 
 pub joins_sound : (source : List ℕ) (steps : ℕ) (old new : List Item) → JoinsIn steps old new → IsSound source old → IsSound source new
@@ -53,7 +55,7 @@ joined_length sign (x ∷ z ∷ xs) ys =
 rule_length : (selectors decls : List ℕ) → length (selectors ++ 123 ∷ decls ++ 125 ∷ []) ≡ length selectors + (length decls + 2)
 rule_length selectors decls = length-append (selectors ++ 123 ∷ decls) (125 ∷ []) ∙ ap (λ n. n + 1) (length-append selectors (123 ∷ decls)) ∙ omega arith
 
-rule_shorter : (source : List ℕ) (upper lower : RuleParts) → length (printed_rule source (joined_rule upper lower)) ≤ length (printed_rule source upper) + length (printed_rule source lower)
+rule_shorter : (source : List ℕ) (upper lower : RuleParts) → length (printed_rule source (joined upper lower)) ≤ length (printed_rule source upper) + length (printed_rule source lower)
 rule_shorter source upper lower =
     let text = λ (r : RuleParts). join_with_byte 59 (map (printed_declaration source) r.decls) in
     let front = λ (r : RuleParts). join_with_byte 44 (map (printed_selector source) r.selectors) in
@@ -69,11 +71,11 @@ join_shorter : (source : List ℕ) (old new : List Item) → IsJoin old new → 
 join_shorter source old new join =
     let text = printed_item source in
     let rest = printed source join.after in
-    let new_length : length (printed source new) ≡ length (printed source join.before) + (length (printed_rule source (joined_rule join.upper join.lower)) + length rest) =
+    let new_length : length (printed source new) ≡ length (printed source join.before) + (length (printed_rule source (joined join.upper join.lower)) + length rest) =
     ap (λ items. length (printed source items)) join.new_is
-    ∙ ap length (flat_map-append text join.before ((Rule (joined_rule join.upper join.lower)) ∷ join.after))
-    ∙ length-append (printed source join.before) (printed_rule source (joined_rule join.upper join.lower) ++ rest)
-    ∙ ap (λ n. length (printed source join.before) + n) (length-append (printed_rule source (joined_rule join.upper join.lower)) rest) in
+    ∙ ap length (flat_map-append text join.before ((Rule (joined join.upper join.lower)) ∷ join.after))
+    ∙ length-append (printed source join.before) (printed_rule source (joined join.upper join.lower) ++ rest)
+    ∙ ap (λ n. length (printed source join.before) + n) (length-append (printed_rule source (joined join.upper join.lower)) rest) in
     let old_length : length (printed source old) ≡ length (printed source join.before) + (length (printed_rule source join.upper) + (length (printed_rule source join.lower) + length rest)) =
     ap (λ items. length (printed source items)) join.old_is
     ∙ ap length (flat_map-append text join.before ((Rule join.upper) ∷ (Rule join.lower) ∷ join.after))
@@ -85,3 +87,12 @@ join_shorter source old new join =
 pub joins_shorter : (source : List ℕ) (steps : ℕ) (old new : List Item) → JoinsIn steps old new → length (printed source new) ≤ length (printed source old)
 joins_shorter source zero old new joins = subst (λ (items : List Item). length (printed source items) ≤ length (printed source old)) joins (omega arith)
 joins_shorter source (suc steps) old new joins = omega (arith, join_shorter source joins.0 new joins.2, joins_shorter source steps old joins.0 joins.1)
+
+pub joins_win_alike : JoiningKeepsWinners → (steps : ℕ) (old new : List Item) → JoinsIn steps old new → WinAlike old new
+joins_win_alike law zero old new joins = λ doc target meanings us. ap (λ (items : List Item). winner doc target meanings items us) joins
+joins_win_alike law (suc steps) old new joins = λ doc target meanings us.
+    let join = joins.2 in
+    joins_win_alike law steps old joins.0 joins.1 doc target meanings us
+    ∙ ap (λ (items : List Item). winner doc target meanings items us) join.old_is
+    ∙ law join.before join.after join.upper join.lower join.same_selectors doc target meanings us
+    ∙ ap (λ (items : List Item). winner doc target meanings items us) (sym join.new_is)

@@ -1,5 +1,5 @@
 -- A line that was written, or begun.
-use Rattle.std.proofs.Common.{◌≡◌, ◌⊎◌, inl, inr, ℕ, ◌<◌, ◌≤◌, List, Option, Result, Ok, Err, length, take, subst, sym, arith}
+use Rattle.std.proofs.Common.{inl, inr, ℕ, ◌<◌, List, Option, Result, Ok, Err, length, take, subst, sym, arith}
 use Rattle.std.specs.Prelude.{OnOk, OnErr}
 use Rattle.std.proofs.lemmas.List.{take_all}
 use Rattle.css_io.specs.Io.{Rose, HasAdded}

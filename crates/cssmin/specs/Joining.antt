@@ -1,13 +1,10 @@
 -- Joining rules with equal selectors that stand one after the other.
 use Rattle.std.specs.Prelude.{◌≡◌, ◌≢◌, ◌⊎◌, Option, Some, None, ℕ, zero, suc, List, [], ◌∷◌, ◌++◌}
 use Rattle.css_model.specs.declared.sheet.Item.{Item}
-use Rattle.css_model.specs.declared.sheet.Item.TheVariants.{Rule, KeptRule, KeptBlock}
+use Rattle.css_model.specs.declared.sheet.Item.TheVariants.{Rule}
+use Rattle.css_model.specs.Laws.{joined}
 use Rattle.css_model.specs.RuleParts.{RuleParts}
 use Rattle.css_model.specs.StyleRule.{selectors_of}
-
--- one rule in the place of two: the upper one, and then the declarations of the lower one
-abbrev pub joined_rule : RuleParts → RuleParts → RuleParts
-joined_rule upper lower = record upper { decls = upper.decls ++ lower.decls }
 
 -- in some place of a sheet, two neighbouring rules with equal selectors become one
 pub record IsJoin (old new : List Item) : Type 0 where
@@ -17,7 +14,7 @@ pub record IsJoin (old new : List Item) : Type 0 where
   pub after : List Item
   pub same_selectors : selectors_of upper ≡ selectors_of lower
   pub old_is : old ≡ before ++ (Rule upper) ∷ (Rule lower) ∷ after
-  pub new_is : new ≡ before ++ (Rule (joined_rule upper lower)) ∷ after
+  pub new_is : new ≡ before ++ (Rule (joined upper lower)) ∷ after
 
 -- so many joins lead from one sheet to another
 abbrev pub JoinsIn : ℕ → List Item → List Item → Type 0
@@ -37,7 +34,7 @@ HasNoEqualNeighbours (item ∷ next ∷ items) = AreUnlike item next × HasNoEqu
 
 -- what two neighbours become: one rule where they are rules with equal selectors, else they stay
 abbrev pub IsJoined : Item → Item → Item → Option Item → Type 0
-IsJoined upper lower first None = (r q : RuleParts) × (upper ≡ Rule r) × (lower ≡ Rule q) × (selectors_of r ≡ selectors_of q) × (first ≡ Rule (joined_rule r q))
+IsJoined upper lower first None = (r q : RuleParts) × (upper ≡ Rule r) × (lower ≡ Rule q) × (selectors_of r ≡ selectors_of q) × (first ≡ Rule (joined r q))
 IsJoined upper lower first (Some second) = (first ≡ upper) × (second ≡ lower) × AreUnlike upper lower
 
 -- an item behind others, joined to the last of them where that can be

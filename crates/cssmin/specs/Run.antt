@@ -1,5 +1,5 @@
 -- What a run of the program did, by its status.
-use Rattle.std.specs.Prelude.{◌≡◌, ◌⊎◌, ℕ, ◌+◌, ◌<◌, ◌≤◌, List, [], ◌∷◌, ◌++◌, Option, Some, Result, Ok, Err, IfSome, Vec, codes, length, take, drop}
+use Rattle.std.specs.Prelude.{◌≡◌, ◌⊎◌, ℕ, ◌+◌, ◌<◌, ◌≤◌, List, [], ◌∷◌, Option, Some, Result, Ok, Err, IfSome, Vec, codes, length, take, drop}
 use Rattle.std.specs.Global.{Global}
 use Rattle.css_io.specs.Io.{Rose, HasAdded}
 use Rattle.css_model.specs.declared.fault.SheetFault.{SheetFault}

@@ -2,7 +2,8 @@
 
 ghost use Rattle.std.specs.Prelude.{◌≡◌, ◌++◌, ◌∷◌, ◌↔◌, [], ℕ, map, IsTrue, IfOk, OnOk, OnErr};
 ghost use Rattle.css_model.specs.StyleRule.{selectors_of};
-ghost use Rattle.cssmin.specs.Joining.{joined_rule, JoinsIn, HasNoEqualNeighbours, IsJoined, PushesJoined};
+ghost use Rattle.css_model.specs.Laws as laws;
+ghost use Rattle.cssmin.specs.Joining.{JoinsIn, HasNoEqualNeighbours, IsJoined, PushesJoined};
 
 use css_model::{Item, Rule, SelItem};
 use std::alloc::{AllocError, Global};
@@ -25,7 +26,7 @@ fn same_selectors(left: &[SelItem], right: &[SelItem]) -> bool
 
 /// Puts the declarations of the lower rule behind those of the upper one.
 fn join(upper: &mut Rule, lower: Rule) -> Result<(), AllocError>
-    ensures ok { OnOk result (upper.new ≡ joined_rule upper.old lower) }
+    ensures ok { OnOk result (upper.new ≡ laws.joined upper.old lower) }
     ensures err { OnErr result (upper.new ≡ upper.old) }
 {
     let Rule {

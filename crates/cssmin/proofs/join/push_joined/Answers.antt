@@ -1,4 +1,4 @@
-use Rattle.std.proofs.Common.{◌≡◌, ◌∷◌, ◌++◌, [], ◌∙◌, ap, subst}
+use Rattle.std.proofs.Common.{◌∷◌, ◌++◌, [], ◌∙◌, ap, subst}
 use Rattle.cssmin.specs.Joining.{IsJoined}
 use Rattle.cssmin.proofs.Joins.{pushes_one, pushes_two}
 use Rattle.cssmin.proofs.join.push_joined.Goals as goal

@@ -1,4 +1,4 @@
-use Rattle.std.proofs.Common.{◌≡◌, ◌∙◌, ap, arith}
+use Rattle.std.proofs.Common.{◌∙◌, ap, arith}
 use Rattle.css_model.specs.declared.sheet.SelItem.{SelItem}
 use Rattle.cssmin.proofs.Selectors.{maps_at}
 use Rattle.cssmin.proofs.join.same_selectors.Goals as goal

@@ -1,6 +1,5 @@
-use Rattle.std.proofs.Common.{◌≡◌, List, ℕ, [], ◌∷◌, sym, ◌∙◌, ap, arith, rules, map, string_bytes}
+use Rattle.std.proofs.Common.{arith, map, string_bytes}
 use Rattle.std.specs.Prelude.{codes}
-use Rattle.std.proofs.lemmas.List.{get_or_default}
 use Rattle.cssmin.proofs.Words.{only_word, one_word_is}
 use Rattle.cssmin.proofs.top.is_min.Goals as goal
 

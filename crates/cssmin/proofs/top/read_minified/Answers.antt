@@ -1,4 +1,4 @@
-use Rattle.std.proofs.Common.{◌≡◌, ◌≤◌, length, Err, ap, subst, sym, ◌∙◌, arith}
+use Rattle.std.proofs.Common.{◌≡◌, Err, ap, subst, sym, ◌∙◌, arith}
 use Rattle.css_model.specs.Sheet.{sheet_of}
 use Rattle.sheet_read.specs.Reading.{Refuses}
 use Rattle.sheet_read.specs.declared.fault.SheetError.{SheetError}
