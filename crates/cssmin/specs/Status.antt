@@ -1,8 +1,6 @@
 -- What a run tells on standard error, and the exit status that it ends with.
 use Rattle.std.specs.Prelude.{ℕ, List, [], ◌∷◌, ◌++◌, codes}
-use Rattle.std.specs.Fmt.{decimal}
-use Rattle.css_model.specs.declared.fault.FaultKind.{FaultKind}
-use Rattle.css_model.specs.declared.fault.FaultKind.TheVariants.{TooLong, NotBuilt}
+use Rattle.css_model.specs.Fault.{text_of}
 use Rattle.cssmin.specs.declared.status.Status.{Status}
 use Rattle.cssmin.specs.declared.status.Status.TheVariants.{Done, Usage, SheetRefused, ReadFault, WriteFault, NoMemory}
 
@@ -14,15 +12,11 @@ number_of ReadFault = 4
 number_of WriteFault = 5
 number_of NoMemory = 6
 
-abbrev pub name_of : FaultKind → List ℕ
-name_of TooLong = codes "TooLong"
-name_of NotBuilt = codes "NotBuilt"
-
 -- one line, but for a run that is done, which tells nothing
 abbrev pub message : Status → List ℕ
 message Done = []
 message Usage = codes "usage: cssmin min" ++ 10 ∷ []
-message (SheetRefused fault) = codes "refused: " ++ name_of fault.kind ++ codes " at " ++ decimal fault.at ++ 10 ∷ []
+message (SheetRefused fault) = codes "refused: " ++ text_of fault ++ 10 ∷ []
 message ReadFault = codes "read fault" ++ 10 ∷ []
 message WriteFault = codes "write fault" ++ 10 ∷ []
 message NoMemory = codes "out of memory" ++ 10 ∷ []

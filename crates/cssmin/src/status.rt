@@ -1,9 +1,9 @@
 //! How a run ended, and what it tells.
 
 ghost use Rattle.std.specs.Prelude.{◌≡◌, IfOk, string_bytes};
-ghost use Rattle.cssmin.specs.Status.{message, name_of, number_of};
+ghost use Rattle.cssmin.specs.Status.{message, number_of};
 
-use css_model::{FaultKind, SheetFault};
+use css_model::SheetFault;
 use std::alloc::{AllocError, Global};
 
 /// How a run ended.
@@ -39,20 +39,9 @@ impl Status {
     }
 }
 
-fn kind_name(kind: FaultKind) -> &'static str
-    ensures { result.now ≡ name_of kind }
-{
-    match kind {
-        FaultKind::TooLong => "TooLong",
-        FaultKind::NotBuilt => "NotBuilt",
-    }
-}
-
 /// The line that names the fault of a sheet.
 pub(crate) fn refusal(alloc: Global, fault: SheetFault) -> Result<String, AllocError>
     ensures { IfOk result (λ text. string_bytes text ≡ message (Status.SheetRefused fault)) }
 {
-    let name = kind_name(fault.kind);
-    let at = fault.at;
-    format!(in alloc; "refused: {name} at {at}\n")
+    format!(in alloc; "refused: {fault}\n")
 }
