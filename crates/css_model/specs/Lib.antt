@@ -1,6 +1,7 @@
 pub mod Attribute
 pub mod Cascade
 pub mod Document
+pub mod Family
 pub mod KeptRuleParts
 pub mod Laws
 pub mod Matching
