@@ -2,6 +2,7 @@ pub mod ApplyingAlike
 pub mod AttributeWords
 pub mod CascadeExamples
 pub mod CascadeWords
+mod FamilyExamples
 pub mod Greatest
 pub mod InOrder
 pub mod MatchingExamples

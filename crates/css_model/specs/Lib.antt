@@ -2,6 +2,7 @@ pub mod Attribute
 pub mod Cascade
 pub mod Document
 pub mod Fault
+pub mod Family
 pub mod KeptRuleParts
 pub mod Laws
 pub mod Matching

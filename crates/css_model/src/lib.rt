@@ -3,6 +3,7 @@
 
 mod bytes;
 mod counting;
+mod family;
 mod fault;
 mod laws;
 mod position;
@@ -13,6 +14,7 @@ mod text;
 
 pub use bytes::Bytes;
 pub use counting::specificity;
+pub use family::{Family, relating_is_decided};
 pub use fault::{FaultKind, LIMIT, SheetFault};
 pub use laws::{
     alike_behind_an_item, alike_wins_alike, greatest_is_winner, joining_applies_alike,
