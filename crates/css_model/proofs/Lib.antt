@@ -1,3 +1,4 @@
+pub mod Applying
 pub mod ApplyingAlike
 pub mod AttributeWords
 pub mod CascadeExamples
