@@ -5,6 +5,7 @@ pub mod CascadeExamples
 pub mod CascadeWords
 pub mod Greatest
 pub mod InOrder
+pub mod LegalExamples
 pub mod MatchingExamples
 pub mod MatchingWords
 pub mod Members
