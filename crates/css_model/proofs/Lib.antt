@@ -1,3 +1,4 @@
+pub mod Applying
 pub mod ApplyingAlike
 pub mod AttributeWords
 pub mod CascadeExamples
@@ -5,6 +6,7 @@ pub mod CascadeWords
 mod FamilyExamples
 pub mod Greatest
 pub mod InOrder
+pub mod LegalExamples
 pub mod MatchingExamples
 pub mod MatchingWords
 pub mod Members

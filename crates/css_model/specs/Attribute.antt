@@ -10,7 +10,7 @@ use Rattle.css_model.specs.Document.{same_text}
 abbrev pub is_white : ℕ → Bool
 is_white c = c == 0x20 || c == 0x09 || c == 0x0A || c == 0x0C || c == 0x0D
 
--- the text begins with v, ends with v, contains v
+-- the text begins with v, ends with v, contains v (section 6.3.2)
 abbrev pub BeginsWith : List ℕ → List ℕ → Type 0
 BeginsWith text v = (rest : List ℕ) × (text ≡ v ++ rest)
 
@@ -20,16 +20,17 @@ EndsWith text v = (front : List ℕ) × (text ≡ front ++ v)
 abbrev pub HasPart : List ℕ → List ℕ → Type 0
 HasPart text v = (front : List ℕ) × (rest : List ℕ) × (text ≡ front ++ v ++ rest)
 
--- the text is empty or begins with white space
+-- the text is empty or begins with white space (for the words of section 6.3.1)
 abbrev pub StartsWhite : List ℕ → Type 0
 StartsWhite [] = Unit {0}
 StartsWhite (c ∷ cs) = is_white c ≡ true
 
--- the text is empty or ends with white space
+-- the text is empty or ends with white space (the same)
 abbrev pub EndsWhite : List ℕ → Type 0
 EndsWhite text = (text ≡ []) ⊎ ((front : List ℕ) × (c : ℕ) × (text ≡ front ++ c ∷ []) × (is_white c ≡ true))
 
--- v stands in the text with white space or an end of the text at both sides
+-- v stands in the text with white space or an end of the text at both sides: without white space
+-- in it, it is one of the words of the text (section 6.3.1)
 abbrev pub StandsAlone : List ℕ → List ℕ → Type 0
 StandsAlone text v = (front : List ℕ) × (rest : List ℕ) × (text ≡ front ++ v ++ rest) × EndsWhite front × StartsWhite rest
 
@@ -49,7 +50,7 @@ Passes Prefix v value = (v ≢ []) × BeginsWith value v
 Passes Suffix v value = (v ≢ []) × EndsWith value v
 Passes Part v value = (v ≢ []) × HasPart value v
 
--- The rest of this file is the same as tests that compute.
+-- The rest of this file is the same as tests that compute (own; a law says that they agree).
 
 abbrev pub is_empty : List ℕ → Bool
 is_empty [] = true

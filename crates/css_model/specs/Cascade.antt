@@ -15,7 +15,7 @@ use Rattle.css_model.specs.SelectorParts.{SelectorParts}
 use Rattle.css_model.specs.Specificity.{specificity_of}
 use Rattle.css_model.specs.StyleRule.{selectors_of}
 
--- a declaration, with the specificity that it applies with
+-- a declaration, with the specificity that it applies with (CSS Cascading 3, section 6)
 pub record Declared : Type 0 where
   pub decl : Decl
   pub specificity : Specificity
@@ -26,7 +26,8 @@ pub record Place : Type 0 where
   pub item : ℕ
   pub position : ℕ
 
--- a declaration that applies to a target, with its specificity and its place
+-- a declaration that applies to a target, with its specificity and its place (CSS Cascading 3,
+-- section 5)
 pub record Entry : Type 0 where
   pub decl : Decl
   pub specificity : Specificity
@@ -44,21 +45,22 @@ AreMeanings (KeptRule kept ∷ items) (m ∷ meanings) = All (λ e. Contains kep
 AreMeanings (KeptBlock piece ∷ items) [] = ⊥
 AreMeanings (KeptBlock piece ∷ items) (m ∷ meanings) = AreMeanings items meanings
 
--- one declaration of a rule applies once for each of the rule's selectors that matches
+-- one declaration of a rule applies once for each of the rule's selectors that matches (Selectors 3,
+-- section 5, and CSS Cascading 3, section 6: each with the specificity of its selector)
 abbrev pub entries_of_decl : List SelectorParts → Place → Decl → List Entry
 entries_of_decl matching place decl = map (λ selector. record { decl = decl; specificity = specificity_of selector; place = place }) matching
 
--- the declarations of a rule, the first of which has this position
+-- the declarations of a rule of this number, the first of which has this position
 abbrev pub entries_of_decls : List SelectorParts → ℕ → ℕ → List DeclItem → List Entry
 entries_of_decls matching item position [] = []
 entries_of_decls matching item position (d ∷ decls) = entries_of_decl matching (record { item = item; position = position }) d.decl ++ entries_of_decls matching item (suc position) decls
 
--- what a kept item applies, the first of which has this position
+-- what a kept item of this number applies, the first entry of which has this position (own)
 abbrev pub entries_of_kept : ℕ → ℕ → List Declared → List Entry
 entries_of_kept item position [] = []
 entries_of_kept item position (m ∷ meaning) = record { decl = m.decl; specificity = m.specificity; place = record { item = item; position = position } } ∷ entries_of_kept item (suc position) meaning
 
--- the selectors of a rule that match, in the order of the source
+-- the selectors of a rule that match, in the order of the source (Selectors 3, section 5)
 abbrev pub matching_of : (SelectorParts → Bool) → RuleParts → List SelectorParts
 matching_of matched rule = filter matched (selectors_of rule)
 
@@ -82,7 +84,7 @@ pub record Understood : Type 0 where
   pub name : List ℕ
   pub value : List ℕ
 
--- whether an entry's declaration is one of those that are understood
+-- whether an entry's declaration is one of those that are understood (CSS Cascading 3, section 5)
 abbrev pub is_understood : List Understood → Entry → Bool
 is_understood us e = list_any (λ u. same_text u.name e.decl.name && same_text u.value e.decl.value) us
 
@@ -91,16 +93,16 @@ is_understood us e = list_any (λ u. same_text u.name e.decl.name && same_text u
 abbrev pub rank : Entry → List ℕ
 rank e = (if e.decl.important then 1 else 0) ∷ e.specificity.a ∷ e.specificity.b ∷ e.specificity.c ∷ e.place.item ∷ e.place.position ∷ []
 
--- at the first place where two lists of numbers differ, the first list has the greater number
+-- at the first place where two lists of numbers differ, the first list has the greater number (own)
 abbrev pub exceeds : List ℕ → List ℕ → Bool
 exceeds (x ∷ xs) (y ∷ ys) = nat_lt y x || x == y && exceeds xs ys
 exceeds _ _ = false
 
--- whether one entry wins over another
+-- whether one entry wins over another (CSS Cascading 3, section 6)
 abbrev pub outranks : Entry → Entry → Bool
 outranks e f = exceeds (rank e) (rank f)
 
--- the greatest entry of a list
+-- the greatest entry of a list, if it has one (CSS Cascading 3, section 6)
 abbrev pub greater : Entry → Option Entry → Option Entry
 greater e None = Some e
 greater e (Some f) = if outranks e f then Some e else Some f
@@ -109,14 +111,15 @@ abbrev pub greatest : List Entry → Option Entry
 greatest [] = None
 greatest (e ∷ es) = greater e (greatest es)
 
--- what wins: a declaration, and the specificity that it applies with
+-- What wins: a declaration, and the specificity that it applies with. Without its place, so that
+-- winners of two sheets can be compared (own).
 pub record Winner : Type 0 where
   pub name : List ℕ
   pub value : List ℕ
   pub important : Bool
   pub specificity : Specificity
 
--- an entry without its place
+-- an entry without its place (own)
 abbrev pub outcome : Entry → Winner
 outcome e = record { name = e.decl.name; value = e.decl.value; important = e.decl.important; specificity = e.specificity }
 

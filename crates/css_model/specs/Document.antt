@@ -12,9 +12,10 @@ pub record Attribute : Type 0 where
   pub name : List ℕ
   pub value : List ℕ
 
--- What an element has beside its children (Selectors 3, section 2): its type, its attributes, the
--- flags that the dynamic and user-interface pseudo-classes ask for (sections 6.6.1, 6.6.2 and
--- 6.6.4), and whether it has text of its own, so that `:empty` does not hold (section 6.6.5.12).
+-- What an element has beside its children: its type (Selectors 3, section 6.1), its attributes
+-- (section 6.3), the flags that the dynamic and user-interface pseudo-classes ask for (sections
+-- 6.6.1, 6.6.2 and 6.6.4), and whether it has text of its own, so that `:empty` does not hold
+-- (section 6.6.5.12).
 pub record Element : Type 0 where
   pub kind : List ℕ
   pub attributes : List Attribute
@@ -22,7 +23,7 @@ pub record Element : Type 0 where
   pub text : Bool
 
 -- Elements side by side below one parent, in order: the first one, with its own children, and its
--- later siblings.
+-- later siblings (the document tree of Selectors 3, section 2).
 pub data Siblings : Type 0 where
   none : Siblings
   first : (element : Element) (children later : Siblings) → Siblings
@@ -34,14 +35,14 @@ pub record Document : Type 0 where
   pub children : Siblings
   pub root_is_child : Bool
 
--- An element in its place: its children, and its later siblings.
+-- an element in its place, with its children and its later siblings (own)
 pub record Placed : Type 0 where
   pub element : Element
   pub children : Siblings
   pub later : Siblings
 
 -- the element that a path leads to, from elements side by side on: each number says how many
--- siblings to pass
+-- siblings to pass (own)
 abbrev pub element_below : Siblings → ℕ → List ℕ → Option Placed
 element_below none i path = None
 element_below (first e children later) zero [] = Some (record { element = e; children = children; later = later })
@@ -59,29 +60,30 @@ pub record Target : Type 0 where
   pub path : List ℕ
   pub pseudo : Option Pseudo
 
--- whether two texts are equal
+-- whether two texts are equal: names arrive decoded, and where HTML compares them without case, in
+-- lower case (Selectors 3, section 3, leaves it to the document language)
 abbrev pub same_text : List ℕ → List ℕ → Bool
 same_text = pointwise nat_eq
 
--- the value of the attribute of a name, in a list of attributes
+-- the value of the attribute of a name, in a list of attributes (Selectors 3, section 6.3)
 abbrev pub value_among : List Attribute → List ℕ → Option (List ℕ)
 value_among [] name = None
 value_among (a ∷ rest) name = if same_text a.name name then Some a.value else value_among rest name
 
--- the value of an element's attribute of a name, if it has one
+-- the value of an element's attribute of a name, if it has one (Selectors 3, section 6.3)
 abbrev pub attribute_value : Element → List ℕ → Option (List ℕ)
 attribute_value e name = value_among e.attributes name
 
--- all elements below, each before its descendants and its later siblings
+-- all elements below, each before its descendants and its later siblings (own)
 abbrev pub elements_below : Siblings → List Element
 elements_below none = []
 elements_below (first e children later) = e ∷ elements_below children ++ elements_below later
 
--- all elements of a document, in document order
+-- all elements of a document, in document order (own)
 abbrev pub elements_of : Document → List Element
 elements_of doc = doc.root ∷ elements_below doc.children
 
--- a text that is not empty
+-- a text that is not empty (own)
 abbrev pub if_not_empty : Option (List ℕ) → Option (List ℕ)
 if_not_empty None = None
 if_not_empty (Some []) = None
@@ -91,7 +93,7 @@ if_not_empty (Some (c ∷ cs)) = Some (c ∷ cs)
 abbrev pub ids_of : Document → List (List ℕ)
 ids_of doc = filter_map (λ e. if_not_empty (attribute_value e (codes "id"))) (elements_of doc)
 
--- each number is a code point: at most 10FFFF, and no surrogate
+-- each number is a code point: at most 10FFFF, and no surrogate (CSS Syntax 3, section 3.3)
 abbrev pub IsText : List ℕ → Type 0
 IsText numbers = All IsScalar numbers
 

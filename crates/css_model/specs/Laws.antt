@@ -1,15 +1,18 @@
 -- The laws of matching and of the cascade. Each is the contract of a public function of `laws`.
-use Rattle.std.specs.Prelude.{◌≡◌, ◌⊎◌, ◌↔◌, ℕ, ◌<◌, true, false, IsTrue, List, [], ◌∷◌, ◌++◌, map, None, Some, IfSome}
+use Rattle.std.specs.Prelude.{Bool, ◌≡◌, ◌⊎◌, ◌↔◌, ℕ, zero, suc, ◌<◌, true, false, IsTrue, List, [], ◌∷◌, ◌++◌, map, None, Some, IfSome, slice_get}
 use Rattle.std.specs.List.{All, Contains}
 use Rattle.css_model.specs.declared.selector.Op.{Op}
+use Rattle.css_model.specs.declared.sheet.DeclItem.{DeclItem}
 use Rattle.css_model.specs.declared.sheet.Item.{Item}
 use Rattle.css_model.specs.declared.sheet.Item.TheVariants.{Rule, KeptRule, KeptBlock}
+use Rattle.css_model.specs.declared.sheet.SelItem.{SelItem}
 use Rattle.css_model.specs.Attribute.{Passes, passes}
 use Rattle.css_model.specs.Cascade.{Declared, Place, Entry, applied, Understood, is_understood, outranks, outcome, winner}
 use Rattle.css_model.specs.Document.{Document, Target}
 use Rattle.css_model.specs.Matching.{Matches, matches}
 use Rattle.css_model.specs.RuleParts.{RuleParts}
 use Rattle.css_model.specs.SelectorParts.{SelectorParts}
+use Rattle.css_model.specs.Specificity.{specificity_of}
 use Rattle.css_model.specs.StyleRule.{selectors_of, style_rule}
 
 -- the two forms of the attribute tests agree
@@ -19,6 +22,51 @@ PassingIsDecided = (op : Op) (v value : List ℕ) → IsTrue (passes op v value)
 -- the two forms of matching agree
 abbrev pub MatchingIsDecided : Type 0
 MatchingIsDecided = (doc : Document) (target : Target) (selector : SelectorParts) → IsTrue (matches doc target selector) ↔ Matches doc target selector
+
+-- a kept rule or a kept block
+abbrev pub is_kept : Item → Bool
+is_kept (Rule rule) = false
+is_kept (KeptRule kept) = true
+is_kept (KeptBlock piece) = true
+
+-- how many of the first items are kept
+abbrev pub kept_before : ℕ → List Item → ℕ
+kept_before zero items = 0
+kept_before (suc i) [] = 0
+kept_before (suc i) (Rule rule ∷ items) = kept_before i items
+kept_before (suc i) (KeptRule kept ∷ items) = suc (kept_before i items)
+kept_before (suc i) (KeptBlock piece ∷ items) = suc (kept_before i items)
+
+-- An entry that a rule applies, in words: at its item's number stands a rule, at its position one of
+-- the rule's declarations, and one of the rule's selectors matches (CSS Cascading 3, section 5).
+pub record AppliesByRule (doc : Document) (target : Target) (items : List Item) (e : Entry) : Type 0 where
+  pub rule : RuleParts
+  pub decl : DeclItem
+  pub selector : SelItem
+  pub rule_at : slice_get items e.place.item ≡ Some (Rule rule)
+  pub decl_at : slice_get rule.decls e.place.position ≡ Some decl
+  pub selector_in : Contains rule.selectors selector
+  pub matching : Matches doc target selector.selector
+  pub decl_is : e.decl ≡ decl.decl
+  pub specificity_is : e.specificity ≡ specificity_of selector.selector
+
+-- An entry that a kept item applies: at its item's number stands a kept item, and at its position
+-- one of the entries that this item is said to mean (own).
+pub record AppliesByKept (meanings : List (List Declared)) (items : List Item) (e : Entry) : Type 0 where
+  pub item : Item
+  pub meaning : List Declared
+  pub declared : Declared
+  pub item_at : slice_get items e.place.item ≡ Some item
+  pub kept : is_kept item ≡ true
+  pub meaning_at : slice_get meanings (kept_before e.place.item items) ≡ Some meaning
+  pub declared_at : slice_get meaning e.place.position ≡ Some declared
+  pub decl_is : e.decl ≡ declared.decl
+  pub specificity_is : e.specificity ≡ declared.specificity
+
+-- the list of what applies has exactly these
+abbrev pub AppliedIsWhatApplies : Type 0
+AppliedIsWhatApplies = (doc : Document) (target : Target) (meanings : List (List Declared)) (items : List Item) (e : Entry) →
+    Contains (applied doc target meanings items) e ↔ (AppliesByRule doc target items e ⊎ AppliesByKept meanings items e)
 
 -- The order of the cascade in words (CSS Cascading 3, section 6): importance, then specificity, then
 -- order of appearance.

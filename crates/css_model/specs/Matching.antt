@@ -15,19 +15,20 @@ use Rattle.css_model.specs.Attribute.{Passes, passes}
 use Rattle.css_model.specs.Document.{Siblings, none, first, Document, Placed, element_at, Target, same_text, attribute_value}
 use Rattle.css_model.specs.SelectorParts.{SelectorParts}
 
--- how many elements stand side by side
+-- how many elements stand side by side (Selectors 3, section 6.6.5)
 abbrev pub count_siblings : Siblings → ℕ
 count_siblings none = 0
 count_siblings (first e children later) = suc (count_siblings later)
 
 -- Which child of its parent an element is, from 1 on: one more than the number of its siblings
--- before it. The root is a child only where the document says so (own), and then the first.
+-- before it (Selectors 3, section 6.6.5.2). The root is a child only where the document says so, and
+-- then the first (own).
 abbrev pub place_from_start : Document → List ℕ → Option ℕ
 place_from_start doc [] = if doc.root_is_child then Some 1 else None
 place_from_start doc (i ∷ []) = Some (suc i)
 place_from_start doc (i ∷ j ∷ path) = place_from_start doc (j ∷ path)
 
--- the same, counted from the last child back
+-- the same, counted from the last child back (Selectors 3, section 6.6.5.3)
 abbrev pub place_from_end : Document → List ℕ → Placed → Option ℕ
 place_from_end doc [] here = if doc.root_is_child then Some 1 else None
 place_from_end doc (i ∷ path) here = Some (suc (count_siblings here.later))
@@ -92,7 +93,7 @@ pub record Matches (doc : Document) (target : Target) (selector : SelectorParts)
   pub pseudo : target.pseudo ≡ selector.pseudo
   pub element : MatchesFrom doc selector.chain selector.links target.path
 
--- The rest of this file is the same as a test that computes.
+-- The rest of this file is the same as a test that computes (own; a law says that they agree).
 
 -- a difference is a step taken some number of times, perhaps 0
 abbrev pub is_multiple : ℤ → ℤ → Bool

@@ -8,12 +8,12 @@ use Rattle.css_model.specs.declared.selector.Test.{Test}
 use Rattle.css_model.specs.declared.selector.Test.TheVariants.{Kind, Id, Attr, Nth, NthLast, OnlyChild, Root, Empty, State}
 use Rattle.css_model.specs.SelectorParts.{SelectorParts}
 
--- an id selector
+-- an id selector (Selectors 3, section 6.5)
 abbrev pub is_id : Test → Bool
 is_id (Id name) = true
 is_id _ = false
 
--- a class, an attribute selector or a pseudo-class
+-- a class, an attribute selector or a pseudo-class (Selectors 3, sections 6.3, 6.4 and 6.6)
 abbrev pub is_class : Test → Bool
 is_class (Attr test) = true
 is_class (Nth x) = true
@@ -24,17 +24,17 @@ is_class Empty = true
 is_class (State flag) = true
 is_class _ = false
 
--- a type selector; `*` is none
+-- a type selector (Selectors 3, section 6.1); `*` is none (section 6.2)
 abbrev pub is_type : Test → Bool
 is_type (Kind name) = true
 is_type _ = false
 
--- how many pseudo-elements
+-- how many pseudo-elements (Selectors 3, section 7: at most one)
 abbrev pub pseudo_count : Option Pseudo → ℕ
 pseudo_count None = 0
 pseudo_count (Some pseudo) = 1
 
--- all simple selectors of a selector
+-- all simple selectors of a selector (Selectors 3, section 4)
 abbrev pub simples_of : SelectorParts → List Simple
 simples_of selector = flat_map (λ compound. compound) selector.chain
 

@@ -13,6 +13,7 @@ ghost use Rattle.css_model.specs.Laws.{
   JoiningAppliesAlike,
   JoiningKeepsWinners,
   PiecesDoNotCount,
+  AppliedIsWhatApplies,
 };
 
 /// The words of Selectors 3, section 6.3, and the test of an attribute's value agree.
@@ -24,6 +25,12 @@ pub fn passing_is_decided()
 /// target and selector.
 pub fn matching_is_decided()
     ensures { MatchingIsDecided }
+{}
+
+/// What is listed as applied is what the rules apply, in the words of CSS Cascading 3, section 5, and
+/// what the kept items are said to apply.
+pub fn applied_is_what_applies()
+    ensures { AppliedIsWhatApplies }
 {}
 
 /// The order by ranks is that of CSS Cascading 3, section 6: importance, then specificity, then order
