@@ -2,6 +2,10 @@
 //! and how far a gap between siblings has to be looked at.
 #![tactic(auto)]
 
+mod gap;
+mod limits;
 mod membership;
 
+pub use gap::{Bounds, reduce, reduction_keeps_members};
+pub use limits::bounds;
 pub use membership::member;
