@@ -1,5 +1,5 @@
 -- Multiples of a signed step: what the quotient and the remainder say of them.
-use Rattle.std.proofs.Common.{◌≡◌, ◌≢◌, ℕ, zero, suc, ◌+◌, ◌*◌, ◌%◌, ◌/◌, ◌<◌, ◌≤◌, ℤ, pos, negsuc, ◌+ℤ◌, ◌-ℤ◌, ◌*ℤ◌, ◌≤ℤ◌, neg_ℤ, refl, sym, ap, ◌∙◌, subst, arith, w64, to_z, of_z, ◌^◌}
+use Rattle.std.proofs.Common.{◌≡◌, ℕ, zero, suc, ◌*◌, ◌%◌, ◌/◌, ◌<◌, ◌≤◌, ℤ, pos, negsuc, ◌+ℤ◌, ◌-ℤ◌, ◌*ℤ◌, ◌≤ℤ◌, neg_ℤ, refl, sym, ap, ◌∙◌, subst, arith, w64, to_z, of_z, ◌^◌}
 use Rattle.std.specs.Prelude.{unsigned_abs, int_div, int_rem, int_le, FitsSigned, Bool, true, false, T}
 use Rattle.std.proofs.lemmas.Int.{ints, quot-rem, quot_is, to_z-of_z, fits_signed_from_abs}
 use Rattle.std.proofs.Math.Nat.{mul-mod_right, zero-mod, div-le_self, lt_of_le_of_lt}

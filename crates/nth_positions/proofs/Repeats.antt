@@ -1,7 +1,6 @@
 -- Beyond its offset the members of a part repeat with its step, so a reduced gap changes none.
-use Rattle.std.proofs.Common.{◌≡◌, ℕ, zero, suc, ◌+◌, ◌-◌, ◌*◌, ◌/◌, ◌%◌, ◌<◌, ◌≤◌, ◌↔◌, ◌⊎◌, inl, inr, List, ℤ, pos, negsuc, ◌+ℤ◌, ◌*ℤ◌, refl, sym, ap, subst, ◌∙◌, arith, cond, lt-ltb, le-ltb}
-use Rattle.std.specs.Prelude.{unsigned_abs, Contains, nat_lt}
-use Rattle.std.specs.Int.{◌∣◌}
+use Rattle.std.proofs.Common.{◌≡◌, ℕ, zero, suc, ◌+◌, ◌-◌, ◌*◌, ◌/◌, ◌%◌, ◌<◌, ◌≤◌, ◌↔◌, inl, inr, List, ℤ, pos, negsuc, ◌+ℤ◌, ◌*ℤ◌, sym, ap, subst, ◌∙◌, arith, cond, lt-ltb, le-ltb}
+use Rattle.std.specs.Prelude.{unsigned_abs, Contains}
 use Rattle.std.proofs.lemmas.Int.{ints}
 use Rattle.std.proofs.lemmas.Bool.{cases_lt}
 use Rattle.std.proofs.Math.Nat.{mul-div_cancel', div-add-mod, mul-le-mul_left, mod-lt}

@@ -5,7 +5,9 @@
 mod gap;
 mod limits;
 mod membership;
+mod notation;
 
 pub use gap::{Bounds, reduce, reduction_keeps_members};
 pub use limits::bounds;
 pub use membership::member;
+pub use notation::{AnbFault, read_anb};

@@ -1,5 +1,5 @@
 -- The first multiple of a that is one of b, or the product, is the least common one.
-use Rattle.std.proofs.Common.{arith, refl}
+use Rattle.std.proofs.Common.{arith}
 use Rattle.std.proofs.Math.Nat.{mul-mod_left}
 use Rattle.nth_positions.proofs.CommonMultiples.{first_multiple}
 use Rattle.nth_positions.proofs.limits.least_common_multiple.Goals as goal

@@ -1,12 +1,12 @@
 -- One part more makes the period the least common multiple of both.
-use Rattle.std.proofs.Common.{◌≡◌, ℕ, ◌+◌, ◌≤◌, ◌<◌, ◌*◌, ◌^◌, pos, ◌∙◌, sym, ap, subst, arith, rules, get_or, take, List, [], ◌∷◌, ◌++◌, w32, ℤ, to_z, of_z, refl, cond, length}
-use Rattle.std.specs.Prelude.{unsigned_abs, FitsSigned, count_by, nat_le}
-use Rattle.std.proofs.lemmas.Int.{to_z-of_z, ints}
+use Rattle.std.proofs.Common.{◌≡◌, ℕ, ◌+◌, ◌≤◌, ◌<◌, ◌*◌, ◌^◌, pos, ◌∙◌, sym, ap, subst, arith, rules, get_or, take, List, [], ◌∷◌, ◌++◌, w32, refl, cond}
+use Rattle.std.specs.Prelude.{unsigned_abs, FitsSigned, count_by}
+use Rattle.std.proofs.lemmas.Int.{to_z-of_z}
 use Rattle.std.proofs.lemmas.List.{take_more, take_all}
 use Rattle.std.proofs.lemmas.List.Sums.{sum_by_more, sum_by-take-le}
 use Rattle.css_model.specs.declared.position.AnB.{AnB}
 use Rattle.nth_positions.specs.Positions.{is_stepped}
-use Rattle.nth_positions.specs.Gaps.{period_of, IsLeastCommonMultiple}
+use Rattle.nth_positions.specs.Gaps.{IsLeastCommonMultiple}
 use Rattle.nth_positions.proofs.CommonMultiples.{IsPeriod, period_none, period_more, period_past_zero, period_is, room, grown, period_small, kept, size_from_bits, no_size_from_bits}
 use Rattle.nth_positions.proofs.limits.period.Goals as goal
 use Rattle.nth_positions.proofs.limits.period.Goals.{then-x-ne0, else-x-ne0}

@@ -1,5 +1,5 @@
 -- So far it is the period of the parts so far, and has a factor of at most 32 for each stepped one.
-use Rattle.std.proofs.Common.{◌≡◌, ◌≤◌, ◌^◌, take}
+use Rattle.std.proofs.Common.{◌≤◌, ◌^◌, take}
 use Rattle.std.specs.Prelude.{count_by}
 use Rattle.nth_positions.specs.Positions.{is_stepped}
 use Rattle.nth_positions.proofs.CommonMultiples.{IsPeriod}

@@ -1,5 +1,5 @@
 -- One part more makes the threshold the greater of the two.
-use Rattle.std.proofs.Common.{◌≡◌, ℕ, ◌≤◌, pos, ◌∙◌, sym, ap, arith, rules, get_or, w32, ℤ, to_z, of_z, max, cond}
+use Rattle.std.proofs.Common.{◌≡◌, ◌≤◌, pos, ◌∙◌, sym, ap, arith, rules, get_or, w32, max}
 use Rattle.std.specs.Prelude.{unsigned_abs, FitsSigned}
 use Rattle.std.proofs.lemmas.Int.{to_z-of_z}
 use Rattle.css_model.specs.declared.position.AnB.{AnB}

@@ -1,6 +1,5 @@
 -- The leading zeros leave the width.
-use Rattle.std.proofs.Common.{◌≡◌, ◌-◌, ◌≤◌, ℕ, subst, sym, arith}
-use Rattle.nth_positions.specs.Gaps.{width_of}
+use Rattle.std.proofs.Common.{◌≤◌, ℕ, subst, sym, arith}
 use Rattle.nth_positions.proofs.FirstPassing.{width_is, width_least}
 use Rattle.nth_positions.proofs.limits.width.Goals as goal
 

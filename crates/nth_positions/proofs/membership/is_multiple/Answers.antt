@@ -1,5 +1,5 @@
 -- The remainder and the quotient decide whether a number of steps covers the distance.
-use Rattle.std.proofs.Common.{◌≡◌, pos, ◌≤ℤ◌, nat_eq, ℤ, of_z, w64, sym, ap, subst, ◌∙◌, eqb-true}
+use Rattle.std.proofs.Common.{◌≡◌, pos, ◌≤ℤ◌, ℤ, of_z, w64, sym, ap, subst, ◌∙◌, eqb-true}
 use Rattle.std.specs.Prelude.{int_div, int_rem}
 use Rattle.nth_positions.proofs.Multiples.{no_remainder, steps_from_quotient, quotient_tested, quotient_of_steps, remainder_tested, rem_of_steps, le_from_true, true_from_le}
 use Rattle.nth_positions.proofs.membership.is_multiple.Goals as goal

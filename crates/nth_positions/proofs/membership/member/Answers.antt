@@ -1,6 +1,6 @@
 -- k is reached where the distance from the offset is a number of steps.
 use Rattle.std.proofs.Common.{rules, ◌≡◌, pos, ◌*ℤ◌, ◌-ℤ◌, arith, w32, w64, FitsSigned, ℤ, to_z, of_z, sym, ap, ◌∙◌}
-use Rattle.std.proofs.lemmas.Int.{ints, to_z-of_z}
+use Rattle.std.proofs.lemmas.Int.{ints}
 use Rattle.nth_positions.proofs.Multiples.{distance_is, is_distance}
 use Rattle.nth_positions.proofs.membership.member.Goals as goal
 
