@@ -18,7 +18,7 @@ pub record Answers (text : List ℕ) (result : Result AnB AnbFault) : Type 0 whe
   pub out_of_range : (result ≡ Err OutOfRange) ↔ ((x : AnB) × IsNotation text x × (IsInRange x → ⊥))
 
 -- nothing was read: the text is not in the notation
-no_notation : (text : List ℕ) → None ≡ body_of (past_blanks text) → (x : AnB) → IsNotation text x → ⊥
+pub no_notation : (text : List ℕ) → None ≡ body_of (past_blanks text) → (x : AnB) → IsNotation text x → ⊥
 no_notation text e x n = none_is_no_some (e ∙ (text_reads text x n).found)
 
 pub answers_none : (text : List ℕ) → None ≡ body_of (past_blanks text) → Answers text (Err NotAnB)

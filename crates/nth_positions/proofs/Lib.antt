@@ -5,6 +5,7 @@ pub mod Caps
 pub mod Cases
 pub mod CommonMultiples
 pub mod Digits
+mod Examples
 pub mod FirstPassing
 pub mod Multiples
 pub mod Numbers

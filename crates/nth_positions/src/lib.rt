@@ -11,3 +11,6 @@ pub use gap::{Bounds, reduce, reduction_keeps_members};
 pub use limits::bounds;
 pub use membership::member;
 pub use notation::{AnbFault, read_anb};
+
+#[cfg(test)]
+mod tests;
