@@ -24,7 +24,7 @@ threshold_of parts = max 1 (greatest_offset parts)
 abbrev pub is_common_multiple : List AnB → ℕ → Bool
 is_common_multiple parts k = list_all (λ x. (unsigned_abs x.a == 0) || (k % unsigned_abs x.a == 0)) parts
 
--- the product of the sizes of the steps that are not 0: a common multiple, so no search goes further
+-- the product of the sizes of the steps that are not 0, which is a common multiple: no search goes further
 abbrev pub product_of_steps : List AnB → ℕ
 product_of_steps [] = 1
 product_of_steps (x ∷ parts) = max 1 (unsigned_abs x.a) * product_of_steps parts

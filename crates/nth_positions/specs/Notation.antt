@@ -48,7 +48,7 @@ pub data IsStepSize (digits : List ℕ) (size : ℕ) : Type 0 where
   one : digits ≡ [] → size ≡ 1 → IsStepSize digits size
   written : AreDigits digits → size ≡ value digits → IsStepSize digits size
 
--- what follows the n: nothing, or an offset with its sign, each of which blanks may precede
+-- what follows the n: nothing, or a sign and the digits of the offset, with blanks before either
 pub data IsOffset (text : List ℕ) (offset : ℤ) : Type 0 where
   nothing : text ≡ [] → offset ≡ pos 0 → IsOffset text offset
   signed : (before between digits : List ℕ) (sign : ℕ) → text ≡ before ++ (sign ∷ (between ++ digits)) → AreBlanks before → AreBlanks between → AreDigits digits → IsSignBefore sign (value digits) offset → IsOffset text offset

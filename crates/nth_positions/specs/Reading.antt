@@ -1,5 +1,5 @@
--- What each step of the reader gives, for the contracts of its parts. No public contract cites any of it: what is read is
--- the notation, and a number at the cap or beyond it is out of range either way.
+-- What each part of the reader gives, for the contracts of these parts. No public contract cites any of it: that of the
+-- whole reader says what is read by the notation alone. A number from the cap on is read as the cap, which is out of range.
 use Rattle.std.specs.Prelude.{ℕ, zero, suc, Bool, true, false, not, ◌&&◌, ◌||◌, ◌==◌, min, List, [], ◌∷◌, length, map, take, drop, ℤ, pos, neg_ℤ, Option, Some, None, option_map, codes, if◌then◌else◌}
 use Rattle.std.specs.Char.{is_ascii_digit, to_ascii_lowercase}
 use Rattle.std.specs.List.{prefix_len}
@@ -28,14 +28,16 @@ skip (suc count) text = elim (past_blank text) [ None ↦ text | Some rest ↦ s
 unfoldable pub past_blanks : List ℕ → List ℕ
 past_blanks text = skip (length text) text
 
+-- whether no byte is left
 abbrev pub is_empty : List ℕ → Bool
 is_empty [] = true
 is_empty (c ∷ cs) = false
 
--- the digits at the front, and what follows them
+-- the digits at the front
 abbrev pub digits_of : List ℕ → List ℕ
 digits_of text = take (prefix_len is_ascii_digit text) text
 
+-- what follows them
 abbrev pub past_digits : List ℕ → List ℕ
 past_digits text = drop (prefix_len is_ascii_digit text) text
 
@@ -43,29 +45,34 @@ past_digits text = drop (prefix_len is_ascii_digit text) text
 abbrev pub capped : ℕ → ℕ
 capped number = min number 1001
 
+-- the number of a size behind a sign
 abbrev pub signed : Bool → ℕ → ℤ
 signed negative size = if negative then neg_ℤ (pos size) else pos size
 
+-- whether a `-` stands at the front
 abbrev pub is_minus : List ℕ → Bool
 is_minus [] = false
 is_minus (c ∷ cs) = c == 45
 
+-- what follows the sign at the front, if one is there
 abbrev pub past_sign : List ℕ → List ℕ
 past_sign [] = []
 past_sign (c ∷ cs) = if (c == 43) || (c == 45) then cs else (c ∷ cs)
 
--- the digits at the front, with nothing but blanks behind them
+-- the number at the front, with nothing but blanks behind it
 unfoldable pub last_number : Bool → List ℕ → Option ℤ
 last_number negative text = if is_empty (digits_of text) || not (is_empty (past_blanks (past_digits text))) then None else Some (signed negative (capped (value (digits_of text))))
 
--- what follows the n
+-- the offset in what follows an n and the blanks behind it
 abbrev pub offset_from : List ℕ → Option ℤ
 offset_from [] = Some (pos 0)
 offset_from (c ∷ cs) = if (c == 43) || (c == 45) then last_number (c == 45) (past_blanks cs) else None
 
+-- the offset in what follows an n
 unfoldable pub offset_of : List ℕ → Option ℤ
 offset_of text = offset_from (past_blanks text)
 
+-- the size of a step: 1 where no digits are written
 abbrev pub step_size : List ℕ → ℕ
 step_size digits = if is_empty digits then 1 else capped (value digits)
 
@@ -74,6 +81,7 @@ abbrev pub numbers_from : Bool → List ℕ → List ℕ → Option AnB
 numbers_from negative text [] = option_map (λ b. record { a = pos 0; b = b }) (last_number negative text)
 numbers_from negative text (c ∷ cs) = if (c == 110) || (c == 78) then option_map (λ b. record { a = signed negative (step_size (digits_of text)); b = b }) (offset_of cs) else option_map (λ b. record { a = pos 0; b = b }) (last_number negative text)
 
+-- an integer or a step
 unfoldable pub numbers_of : List ℕ → Option AnB
 numbers_of text = numbers_from (is_minus text) (past_sign text) (past_digits (past_sign text))
 
@@ -85,6 +93,7 @@ past_word word text = if bytes_eq (map to_ascii_lowercase (take (length word) te
 unfoldable pub alone : AnB → List ℕ → Option AnB
 alone x rest = if is_empty (past_blanks rest) then Some x else None
 
+-- `odd`, `even`, an integer or a step, with nothing but blanks behind it
 unfoldable pub body_of : List ℕ → Option AnB
 body_of text = elim (past_word (codes "odd") text) [
   | Some rest ↦ alone (record { a = pos 2; b = pos 1 }) rest

@@ -1,6 +1,8 @@
-ghost use Rattle.std.specs.Prelude.{◌≡◌, ◌<◌, ◌≤◌, ◌*◌, ◌^◌, All, count_by, ℕ};
+ghost use Rattle.std.specs.Prelude.{◌≡◌, ◌<◌, ◌≤◌, ◌*◌, ◌^◌, ℕ, true, List, All, Contains, count_by, unsigned_abs};
+ghost use Rattle.std.specs.Int.{◌∣◌};
+ghost use Rattle.css_model.specs.declared.position.AnB.{AnB};
 ghost use Rattle.nth_positions.specs.Positions.{IsInRange, is_stepped};
-ghost use Rattle.nth_positions.specs.Gaps.{bounds_of, threshold_of, period_of, width_of, greatest_count, IsLeastCommonMultiple};
+ghost use Rattle.nth_positions.specs.Gaps.{bounds_of, threshold_of, is_common_multiple, period_of, width_of, greatest_count, IsLeastCommonMultiple};
 
 use crate::gap::Bounds;
 use css_model::AnB;
@@ -28,6 +30,17 @@ pub fn bounds(parts: &[AnB]) -> Bounds
         width,
     }
 }
+
+/// What the bounds of any list are good for: no offset is beyond the threshold, the period is a
+/// multiple of each step that is not 0 and divides each other such multiple, and no less width holds
+/// the greatest number of siblings.
+pub fn bounds_are_tight()
+    ensures offsets { (parts : List AnB) (x : AnB) → Contains parts x → unsigned_abs x.b ≤ (bounds_of parts).threshold }
+    ensures steps { (parts : List AnB) (x : AnB) → Contains parts x → 0 < unsigned_abs x.a → unsigned_abs x.a ∣ (bounds_of parts).period }
+    ensures multiples { (parts : List AnB) (k : ℕ) → is_common_multiple parts k ≡ true → (bounds_of parts).period ∣ k }
+    ensures positive { (parts : List AnB) → (0 < (bounds_of parts).threshold) × (0 < (bounds_of parts).period) }
+    ensures least { (parts : List AnB) (w : ℕ) → greatest_count (bounds_of parts).threshold (bounds_of parts).period < 2 ^ w → (bounds_of parts).width ≤ w }
+{}
 
 /// The greatest size of an offset, and at least 1.
 fn threshold(parts: &[AnB]) -> u32

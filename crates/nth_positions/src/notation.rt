@@ -10,13 +10,14 @@ ghost use Rattle.nth_positions.specs.Reading.{past_close, past_blank, past_blank
 use css_model::AnB;
 use thiserror::Error;
 
-/// The greatest size of a step, and that of an offset.
+/// The greatest size of a step.
 const MAX_STEP: u32 = 32;
 
+/// The greatest size of an offset.
 const MAX_OFFSET: u32 = 1000;
 
-/// A number that is out of range, for each that is greater.
-const CAP: u32 = 1001;
+/// Stands for each number from it on, all of which are out of range, so that digits of any number fit.
+const CAP: u32 = MAX_OFFSET + 1;
 
 /// Why a text is read as no step and offset.
 #[derive(Clone, Copy, Debug, PartialEq, Eq, Error)]
