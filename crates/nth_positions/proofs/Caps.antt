@@ -39,7 +39,7 @@ same_if_true_small y z (inr f) h = let g : 1000 < unsigned_abs y = f.0 in absurd
 both : (a b c d : ℤ) → a ≡ c → b ≡ d → (let p : ℤ × ℤ = (a, b) in p) ≡ (c, d)
 both a b c d e f = cc
 
-pair : (y z : AnB) → z.a ≡ y.a → z.b ≡ y.b → z ≡ y
+pub pair : (y z : AnB) → z.a ≡ y.a → z.b ≡ y.b → z ≡ y
 pair y z e f = ap (λ (p : ℤ × ℤ). let x : AnB = record { a = p.0; b = p.1 } in x) (both z.a z.b y.a y.b e f)
 
 -- what was read is what the text has, where either is in range

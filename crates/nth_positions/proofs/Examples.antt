@@ -6,7 +6,7 @@ use Rattle.nth_positions.specs.Positions.{IsMember}
 use Rattle.nth_positions.specs.Gaps.{bounds_of, reduced}
 use Rattle.nth_positions.specs.Notation.{IsNotation, AreBlanks, white_space, comment, odd, step, written, signed}
 use Rattle.nth_positions.specs.Reading.{body_of, past_word, past_blanks, numbers_of, offset_of, last_number}
-use Rattle.nth_positions.proofs.Answers.{no_notation}
+use Rattle.nth_positions.proofs.Outcomes.{no_notation}
 
 -- 2n+1 reaches 5, and -n+6 reaches 1
 odd_position : IsMember (record { a = pos 2; b = pos 1 }) 5

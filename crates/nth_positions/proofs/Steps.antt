@@ -46,7 +46,7 @@ unsigned_at c cs p m =
     let b : (c == 45) ≡ false = is_false (c == 45) (λ e. m (eqb-true c 45 e)) in
     record { stays = ap (λ x. cond (x || (c == 45)) cs (c ∷ cs)) a ∙ ap (λ x. cond x cs (c ∷ cs)) b; plain = b }
 
-unsigned_digits : (digits rest : List ℕ) → AreDigits digits → IsUnsigned (digits ++ rest)
+pub unsigned_digits : (digits rest : List ℕ) → AreDigits digits → IsUnsigned (digits ++ rest)
 unsigned_digits [] rest h = absurd (let l : 0 < length {A = ℕ} [] = h.some in omega arith)
 unsigned_digits (c ∷ cs) rest h = (let l = (digit_range c (both_are (is_ascii_digit c) (list_all is_ascii_digit cs) h.each).0).0 in unsigned_at c (cs ++ rest) (λ e. omega arith) (λ e. omega arith))
 
@@ -54,7 +54,7 @@ pub record SignRead (text rest : List ℕ) (size : ℕ) (y : ℤ) : Type 0 where
   pub past : past_sign text ≡ rest
   pub number : signed (is_minus text) size ≡ y
 
-sign_reads : (sign rest : List ℕ) (size : ℕ) (y : ℤ) → IsSigned sign size y → IsUnsigned rest → SignRead (sign ++ rest) rest size y
+pub sign_reads : (sign rest : List ℕ) (size : ℕ) (y : ℤ) → IsSigned sign size y → IsUnsigned rest → SignRead (sign ++ rest) rest size y
 sign_reads [] rest size y h u = record { past = u.stays; number = ap (λ b. signed b size) u.plain ∙ sym h }
 sign_reads (c ∷ cs) rest size y h u = subst (λ (t : List ℕ). SignRead (c ∷ (t ++ rest)) rest size y) (sym h.0) (go h.1)
   where
@@ -160,7 +160,7 @@ blanks_begin c cs b = go b.blanks b.each b.joined
     go [] a j = cc
     go (blank ∷ blanks) a j = first blank (concat blanks) a.0 j
 
-no_letter_in_blanks : (c : ℕ) (cs : List ℕ) → AreBlanks (c ∷ cs) → ((c == 110) || (c == 78)) ≡ false
+pub no_letter_in_blanks : (c : ℕ) (cs : List ℕ) → AreBlanks (c ∷ cs) → ((c == 110) || (c == 78)) ≡ false
 no_letter_in_blanks c cs b = is_false ((c == 110) || (c == 78)) (λ t. go (blanks_begin c cs b) (letter_cases c t))
   where
     go : (c ≤ 32) ⊎ (c ≡ 47) → (c ≡ 110) ⊎ (c ≡ 78) → ⊥
@@ -195,20 +195,20 @@ pub record StepDigits (digits : List ℕ) (size : ℕ) : Type 0 where
   pub each : list_all is_ascii_digit digits ≡ true
   pub read : step_size digits ≡ capped size
 
-step_digits : (digits : List ℕ) (size : ℕ) → IsStepSize digits size → StepDigits digits size
+pub step_digits : (digits : List ℕ) (size : ℕ) → IsStepSize digits size → StepDigits digits size
 step_digits digits size (one e f) = record { each = ap (list_all is_ascii_digit) e; read = ap step_size e ∙ sym (ap capped f) }
 step_digits digits size (written d f) = record { each = d.each; read = ap (λ b. cond b 1 (capped (value digits))) (digits_not_empty digits d) ∙ sym (ap capped f) }
 
-letter_no_digit : (n : ℕ) (rest : List ℕ) → (n ≡ 110) ⊎ (n ≡ 78) → prefix_len is_ascii_digit (n ∷ rest) ≡ 0
+pub letter_no_digit : (n : ℕ) (rest : List ℕ) → (n ≡ 110) ⊎ (n ≡ 78) → prefix_len is_ascii_digit (n ∷ rest) ≡ 0
 letter_no_digit n rest (inl e) = ap (λ c. prefix_len is_ascii_digit (c ∷ rest)) e
 letter_no_digit n rest (inr e) = ap (λ c. prefix_len is_ascii_digit (c ∷ rest)) e
 
-unsigned_step : (digits rest : List ℕ) (n size : ℕ) → (n ≡ 110) ⊎ (n ≡ 78) → IsStepSize digits size → IsUnsigned (digits ++ (n ∷ rest))
+pub unsigned_step : (digits rest : List ℕ) (n size : ℕ) → (n ≡ 110) ⊎ (n ≡ 78) → IsStepSize digits size → IsUnsigned (digits ++ (n ∷ rest))
 unsigned_step digits rest n size l (written d f) = unsigned_digits digits (n ∷ rest) d
 unsigned_step digits rest n size (inl l) (one e f) = subst (λ (t : List ℕ). IsUnsigned (t ++ (n ∷ rest))) (sym e) (unsigned_at n rest (λ g. omega arith) (λ g. omega arith))
 unsigned_step digits rest n size (inr l) (one e f) = subst (λ (t : List ℕ). IsUnsigned (t ++ (n ∷ rest))) (sym e) (unsigned_at n rest (λ g. omega arith) (λ g. omega arith))
 
-letter_true : (n : ℕ) → (n ≡ 110) ⊎ (n ≡ 78) → ((n == 110) || (n == 78)) ≡ true
+pub letter_true : (n : ℕ) → (n ≡ 110) ⊎ (n ≡ 78) → ((n == 110) || (n == 78)) ≡ true
 letter_true n (inl e) = ap (λ c. (c == 110) || (c == 78)) e
 letter_true n (inr e) = ap (λ c. (c == 110) || (c == 78)) e
 

@@ -36,7 +36,7 @@ word_splits word text rest e = elim (chosen (bytes_eq (map to_ascii_lowercase (t
   | inr w ↦ absurd (none_is_no_some w.1)
 ]
 
-word_read : (word front rest : List ℕ) → map to_ascii_lowercase front ≡ word → past_word word (front ++ rest) ≡ Some rest
+pub word_read : (word front rest : List ℕ) → map to_ascii_lowercase front ≡ word → past_word word (front ++ rest) ≡ Some rest
 unfolding past_word
 word_read word front rest e =
     let n : length word ≡ length front = sym (ap length e) ∙ length-map front to_ascii_lowercase in
@@ -136,11 +136,11 @@ pub record BeginsNumeric (text : List ℕ) : Type 0 where
   pub is : text ≡ byte ∷ rest
   pub numeric : IsNumeric byte
 
-digits_begin : (digits rest : List ℕ) → AreDigits digits → BeginsNumeric (digits ++ rest)
+pub digits_begin : (digits rest : List ℕ) → AreDigits digits → BeginsNumeric (digits ++ rest)
 digits_begin [] rest h = absurd (let l : 0 < length {A = ℕ} [] = h.some in omega arith)
 digits_begin (c ∷ cs) rest h = record { byte = c; rest = cs ++ rest; is = refl; numeric = digit c (both_are (is_ascii_digit c) (list_all is_ascii_digit cs) h.each).0 }
 
-signed_begin : (sign rest : List ℕ) (size : ℕ) (y : ℤ) → IsSigned sign size y → BeginsNumeric rest → BeginsNumeric (sign ++ rest)
+pub signed_begin : (sign rest : List ℕ) (size : ℕ) (y : ℤ) → IsSigned sign size y → BeginsNumeric rest → BeginsNumeric (sign ++ rest)
 signed_begin [] rest size y h b = b
 signed_begin (c ∷ cs) rest size y h b = record { byte = c; rest = cs ++ rest; is = refl; numeric = go h.1 }
   where
@@ -148,12 +148,12 @@ signed_begin (c ∷ cs) rest size y h b = record { byte = c; rest = cs ++ rest; 
     go (inl w) = numeric_at c 43 w.0 plus
     go (inr w) = numeric_at c 45 w.0 minus
 
-step_begins : (digits rest : List ℕ) (n size : ℕ) → (n ≡ 110) ⊎ (n ≡ 78) → IsStepSize digits size → BeginsNumeric (digits ++ (n ∷ rest))
+pub step_begins : (digits rest : List ℕ) (n size : ℕ) → (n ≡ 110) ⊎ (n ≡ 78) → IsStepSize digits size → BeginsNumeric (digits ++ (n ∷ rest))
 step_begins digits rest n size l (written d e) = digits_begin digits (n ∷ rest) d
 step_begins digits rest n size (inl l) (one e f) = subst (λ (t : List ℕ). BeginsNumeric (t ++ (n ∷ rest))) (sym e) (record { byte = n; rest = rest; is = refl; numeric = numeric_at n 110 l small_n })
 step_begins digits rest n size (inr l) (one e f) = subst (λ (t : List ℕ). BeginsNumeric (t ++ (n ∷ rest))) (sym e) (record { byte = n; rest = rest; is = refl; numeric = numeric_at n 78 l capital_n })
 
-numeric_no_word : (text : List ℕ) → BeginsNumeric text → (past_word (codes "odd") text ≡ None) × (past_word (codes "even") text ≡ None)
+pub numeric_no_word : (text : List ℕ) → BeginsNumeric text → (past_word (codes "odd") text ≡ None) × (past_word (codes "even") text ≡ None)
 numeric_no_word text b = subst (λ (t : List ℕ). (past_word (codes "odd") t ≡ None) × (past_word (codes "even") t ≡ None)) (sym b.is)
     (other_word 111 (codes "dd") b.byte b.rest b.numeric.no_odd, other_word 101 (codes "ven") b.byte b.rest b.numeric.no_even)
 
@@ -176,7 +176,7 @@ word_no_blank (c ∷ cs) after w ws h e = letter_no_blank c w (cs ++ after) h (c
 keyword_read : (y z : AnB) (after : List ℕ) (o : Option AnB) → AreBlanks after → y ≡ z → o ≡ alone z after → ReadsBody o y
 keyword_read y z after o b e f = record { pair = z; found = f ∙ alone_read z after b; caps = record { step = inl (sym (ap (λ (x : AnB). x.a) e)); offset = inl (sym (ap (λ (x : AnB). x.b) e)) } }
 
-even_is_not_odd : (body after : List ℕ) → map to_ascii_lowercase body ≡ codes "even" → past_word (codes "odd") (body ++ after) ≡ None
+pub even_is_not_odd : (body after : List ℕ) → map to_ascii_lowercase body ≡ codes "even" → past_word (codes "odd") (body ++ after) ≡ None
 even_is_not_odd [] after e = cc
 even_is_not_odd (c ∷ cs) after e = other_word 111 (codes "dd") c (cs ++ after) (λ f. (let g : to_ascii_lowercase c ≡ 101 = cc in omega arith))
 

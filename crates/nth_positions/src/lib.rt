@@ -10,7 +10,7 @@ mod notation;
 pub use gap::{Bounds, reduce, reduction_keeps_members};
 pub use limits::{bounds, bounds_are_tight};
 pub use membership::member;
-pub use notation::{AnbFault, read_anb};
+pub use notation::{AnbFault, notation_is_unambiguous, read_anb};
 
 #[cfg(test)]
 mod tests;

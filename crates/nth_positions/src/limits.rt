@@ -35,11 +35,17 @@ pub fn bounds(parts: &[AnB]) -> Bounds
 /// multiple of each step that is not 0 and divides each other such multiple, and no less width holds
 /// the greatest number of siblings.
 pub fn bounds_are_tight()
-    ensures offsets { (parts : List AnB) (x : AnB) → Contains parts x → unsigned_abs x.b ≤ (bounds_of parts).threshold }
-    ensures steps { (parts : List AnB) (x : AnB) → Contains parts x → 0 < unsigned_abs x.a → unsigned_abs x.a ∣ (bounds_of parts).period }
-    ensures multiples { (parts : List AnB) (k : ℕ) → is_common_multiple parts k ≡ true → (bounds_of parts).period ∣ k }
-    ensures positive { (parts : List AnB) → (0 < (bounds_of parts).threshold) × (0 < (bounds_of parts).period) }
-    ensures least { (parts : List AnB) (w : ℕ) → greatest_count (bounds_of parts).threshold (bounds_of parts).period < 2 ^ w → (bounds_of parts).width ≤ w }
+    ensures offsets { (parts : List AnB) (x : AnB) → Contains parts x →
+        unsigned_abs x.b ≤ (bounds_of parts).threshold }
+    ensures steps { (parts : List AnB) (x : AnB) → Contains parts x → 0 < unsigned_abs x.a →
+        unsigned_abs x.a ∣ (bounds_of parts).period }
+    ensures multiples { (parts : List AnB) (k : ℕ) → is_common_multiple parts k ≡ true →
+        (bounds_of parts).period ∣ k }
+    ensures positive { (parts : List AnB) →
+        (0 < (bounds_of parts).threshold) × (0 < (bounds_of parts).period) }
+    ensures least { (parts : List AnB) (w : ℕ) →
+        greatest_count (bounds_of parts).threshold (bounds_of parts).period < 2 ^ w →
+        (bounds_of parts).width ≤ w }
 {}
 
 /// The greatest size of an offset, and at least 1.

@@ -1,4 +1,4 @@
-ghost use Rattle.std.specs.Prelude.{◌≡◌, ℕ, ◌+◌, ◌<◌, ◌≤◌, ◌↔◌, IsTrue, Ok, Err, map, min, neg_ℤ, pos, take, drop, length, option_copied};
+ghost use Rattle.std.specs.Prelude.{◌≡◌, ℕ, ◌+◌, ◌<◌, ◌≤◌, ◌↔◌, IsTrue, List, Ok, Err, map, min, neg_ℤ, pos, take, drop, length, option_copied};
 ghost use Rattle.std.specs.List.{AllPass, prefix_len};
 ghost use Rattle.std.specs.Char.{is_ascii_digit, to_ascii_lowercase};
 ghost use Rattle.css_model.specs.declared.position.AnB.{AnB};
@@ -48,6 +48,11 @@ pub fn read_anb(text: &[u8]) -> Result<AnB, AnbFault>
         Some(_) => Err(AnbFault::OutOfRange),
     }
 }
+
+/// A text stands for one step and offset at most.
+pub fn notation_is_unambiguous()
+    ensures { (text : List ℕ) (x y : AnB) → IsNotation text x → IsNotation text y → x ≡ y }
+{}
 
 /// Whether the step is at most 32 and the offset at most 1,000 in size.
 fn is_in_range(x: AnB) -> bool
