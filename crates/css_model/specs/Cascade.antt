@@ -35,7 +35,8 @@ pub record Entry : Type 0 where
 
 -- What the kept items of a sheet apply to a target, which nobody here can tell (own): one list for
 -- each kept item, in their order. A kept rule applies some of its own declarations, a kept block
--- whatever it likes.
+-- whatever it likes. A kept item changes nothing about the other items (own; `@namespace` would, so it
+-- must not be kept). The laws hold for any lists, also for others than these.
 abbrev pub AreMeanings : List Item → List (List Declared) → Type 0
 AreMeanings [] [] = Unit {0}
 AreMeanings [] (m ∷ meanings) = ⊥
@@ -73,13 +74,14 @@ applied_from matched item (m ∷ meanings) (KeptRule kept ∷ items) = entries_o
 applied_from matched item [] (KeptBlock piece ∷ items) = applied_from matched (suc item) [] items
 applied_from matched item (m ∷ meanings) (KeptBlock piece ∷ items) = entries_of_kept item 0 m ++ applied_from matched (suc item) meanings items
 
--- The declarations of a sheet that apply to a target (CSS Cascading 3, section 5): those of each rule
+-- The declarations of a sheet that apply to a target, understood or not (CSS Cascading 3, section 5,
+-- without its last condition, which `is_understood` adds): those of each rule
 -- with a selector that matches, and those that the kept items apply.
 abbrev pub applied : Document → Target → List (List Declared) → List Item → List Entry
 applied doc target meanings items = applied_from (matches doc target) 0 meanings items
 
 -- A declaration that a browser understands: it knows the property, and the value is one of it
--- (CSS Cascading 3, section 5).
+-- (CSS Cascading 3, section 5). Every selector of the model counts as understood (own).
 pub record Understood : Type 0 where
   pub name : List ℕ
   pub value : List ℕ
@@ -102,17 +104,19 @@ exceeds _ _ = false
 abbrev pub outranks : Entry → Entry → Bool
 outranks e f = exceeds (rank e) (rank f)
 
--- the greatest entry of a list, if it has one (CSS Cascading 3, section 6)
+-- the greater of two entries; of equal ones the second
 abbrev pub greater : Entry → Option Entry → Option Entry
 greater e None = Some e
 greater e (Some f) = if outranks e f then Some e else Some f
 
+-- the greatest entry of a list, if it has one (CSS Cascading 3, section 6)
 abbrev pub greatest : List Entry → Option Entry
 greatest [] = None
 greatest (e ∷ es) = greater e (greatest es)
 
 -- What wins: a declaration, and the specificity that it applies with. Without its place, so that
--- winners of two sheets can be compared (own).
+-- winners of two sheets can be compared; with importance and specificity, so that a winner can be put
+-- against those of other sheets (own).
 pub record Winner : Type 0 where
   pub name : List ℕ
   pub value : List ℕ
@@ -126,6 +130,7 @@ outcome e = record { name = e.decl.name; value = e.decl.value; important = e.dec
 -- The winner of the cascade for a target (CSS Cascading 3, section 6): the greatest of the applied
 -- declarations that are understood, if there is one. `us` stands at once for what a browser
 -- understands and for which properties set one longhand (own): the declarations that compete for a
--- longhand are those of one property and of its shorthands. The laws hold for each list `us`.
+-- longhand are those of one property and of its shorthands (section 3). A list is enough, as a sheet
+-- has finitely many declarations. The laws hold for each list `us`.
 abbrev pub winner : Document → Target → List (List Declared) → List Item → List Understood → Option Winner
 winner doc target meanings items us = option_map outcome (greatest (filter (is_understood us) (applied doc target meanings items)))

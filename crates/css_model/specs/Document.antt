@@ -1,4 +1,7 @@
--- Documents as Selectors 3 sees them: trees of elements. All texts are lists of code points.
+-- Documents as Selectors 3 sees them: trees of elements. All texts are lists of code points. Names and
+-- values compare code point by code point, there are no namespaces, and ids and classes are the
+-- attributes `id` and `class` (own: Selectors 3, sections 3, 6.1.1, 6.3.3, 6.4 and 6.5, leave these to
+-- the document language).
 use Rattle.std.specs.Prelude.{◌≡◌, ◌≢◌, ℕ, zero, suc, Bool, true, if◌then◌else◌, List, [], ◌∷◌, ◌++◌, Option, Some, None, nat_eq, codes}
 use Rattle.std.specs.List.{All, AllPairs, filter_map}
 use Rattle.std.specs.Char.{IsScalar}
@@ -13,9 +16,9 @@ pub record Attribute : Type 0 where
   pub value : List ℕ
 
 -- What an element has beside its children: its type (Selectors 3, section 6.1), its attributes
--- (section 6.3), the flags that the dynamic and user-interface pseudo-classes ask for (sections
--- 6.6.1, 6.6.2 and 6.6.4), and whether it has text of its own, so that `:empty` does not hold
--- (section 6.6.5.12).
+-- (section 6.3), the flags that the dynamic, target and user-interface pseudo-classes ask for (sections
+-- 6.6.1, 6.6.2 and 6.6.4), and whether it has text of its own, be it white space alone, so that
+-- `:empty` does not hold (section 6.6.5.12).
 pub record Element : Type 0 where
   pub kind : List ℕ
   pub attributes : List Attribute
@@ -93,7 +96,7 @@ if_not_empty (Some (c ∷ cs)) = Some (c ∷ cs)
 abbrev pub ids_of : Document → List (List ℕ)
 ids_of doc = filter_map (λ e. if_not_empty (attribute_value e (codes "id"))) (elements_of doc)
 
--- each number is a code point: at most 10FFFF, and no surrogate (CSS Syntax 3, section 3.3)
+-- each number is a scalar value: a code point that is no surrogate (CSS Syntax 3, section 3.3)
 abbrev pub IsText : List ℕ → Type 0
 IsText numbers = All IsScalar numbers
 

@@ -114,7 +114,9 @@ abbrev pub NoWinnerIsNoneUnderstood : Type 0
 NoWinnerIsNoneUnderstood = (doc : Document) (target : Target) (meanings : List (List Declared)) (items : List Item) (us : List Understood) →
     (winner doc target meanings items us ≡ None) ↔ All (λ e. is_understood us e ≡ false) (applied doc target meanings items)
 
--- Two lists of items apply the same to every target, up to places, whatever the kept items mean.
+-- Two lists of items apply the same to every target of every document, legal or not, up to places,
+-- whatever the kept items mean. The kept items of both are taken to mean the same, one by one: that
+-- they are the same has to be shown apart.
 abbrev pub ApplyAlike : List Item → List Item → Type 0
 ApplyAlike items items' = (doc : Document) (target : Target) (meanings : List (List Declared)) →
     map outcome (applied doc target meanings items) ≡ map outcome (applied doc target meanings items')
@@ -139,7 +141,7 @@ AlikeWinsAlike = (items items' : List Item) → ApplyAlike items items' → WinA
 abbrev pub AlikeBehindAnItem : Type 0
 AlikeBehindAnItem = (item : Item) (items items' : List Item) → ApplyAlike items items' → ApplyAlike (item ∷ items) (item ∷ items')
 
--- the same rules and as many kept items, item for item, wherever they stand in a source
+-- the same rules, and kept items of the same kinds between them, whatever these are
 abbrev pub SameButPieces : List Item → List Item → Type 0
 SameButPieces [] [] = Unit {0}
 SameButPieces (Rule r ∷ items) (Rule r' ∷ items') = (style_rule r ≡ style_rule r') × SameButPieces items items'

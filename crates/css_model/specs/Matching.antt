@@ -79,7 +79,8 @@ Allows Next path other = (parent : List ℕ) × (i : ℕ) × (path ≡ parent ++
 Allows Later path other = (parent : List ℕ) × (i : ℕ) × (j : ℕ) × (path ≡ parent ++ i ∷ []) × (other ≡ parent ++ j ∷ []) × (j < i)
 
 -- The sequences, from right to left, match at the path: the first one holds there, and the others
--- match at some element that the combinator allows (Selectors 3, sections 4 and 8).
+-- match at some element that the combinator allows (Selectors 3, sections 4 and 8). More combinators
+-- than needed are ignored, and an empty sequence holds of each element; no text reads as either.
 abbrev pub MatchesFrom : Document → List (List Simple) → List Combinator → List ℕ → Type 0
 MatchesFrom doc [] links path = ⊥
 MatchesFrom doc (c ∷ []) links path = CompoundHolds doc path c
@@ -95,7 +96,7 @@ pub record Matches (doc : Document) (target : Target) (selector : SelectorParts)
 
 -- The rest of this file is the same as a test that computes (own; a law says that they agree).
 
--- a difference is a step taken some number of times, perhaps 0
+-- the second number is the first one times some n of at least 0
 abbrev pub is_multiple : ℤ → ℤ → Bool
 is_multiple (pos zero) (pos zero) = true
 is_multiple (pos zero) _ = false

@@ -21,7 +21,7 @@ abbrev pub JoinsIn : ℕ → List Item → List Item → Type 0
 JoinsIn zero old new = old ≡ new
 JoinsIn (suc steps) old new = (between : List Item) × JoinsIn steps old between × IsJoin between new
 
--- two neighbours that no join is left for
+-- two neighbours that cannot be joined
 abbrev pub AreUnlike : Item → Item → Type 0
 AreUnlike (Rule upper) (Rule lower) = selectors_of upper ≢ selectors_of lower
 AreUnlike upper lower = Unit {0}
@@ -37,6 +37,7 @@ abbrev pub IsJoined : Item → Item → Item → Option Item → Type 0
 IsJoined upper lower first None = (r q : RuleParts) × (upper ≡ Rule r) × (lower ≡ Rule q) × (selectors_of r ≡ selectors_of q) × (first ≡ Rule (joined r q))
 IsJoined upper lower first (Some second) = (first ≡ upper) × (second ≡ lower) × AreUnlike upper lower
 
--- an item behind others, joined to the last of them where that can be
+-- an item behind others, and at most one join; where the others had no equal neighbours, the result
+-- has none
 abbrev pub PushesJoined : List Item → Item → List Item → Type 0
 PushesJoined old item new = ((new ≡ old ++ item ∷ []) ⊎ IsJoin (old ++ item ∷ []) new) × (HasNoEqualNeighbours old → HasNoEqualNeighbours new)

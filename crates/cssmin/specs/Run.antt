@@ -18,7 +18,8 @@ IsMin words = words ≡ codes "min" ∷ []
 abbrev pub IsAllRead : List ℕ → (left left' : Option (List ℕ)) → Type 0
 IsAllRead read left left' = IfSome left (λ bytes. (bytes ≡ read) × (left' ≡ Some []))
 
--- All that was left was read, and a text that minifies it was written.
+-- All that was left was read, and a text that minifies it was written, as far as the source and the
+-- sink tell it.
 pub record Did (left left' written written' : Option (List ℕ)) : Type 0 where
   pub read : List ℕ
   pub text : List ℕ
@@ -26,7 +27,7 @@ pub record Did (left left' written written' : Option (List ℕ)) : Type 0 where
   pub minified : IsMinified read text
   pub added : HasAdded text written written'
 
--- All that was left was read, and a front of a text that minifies it was written.
+-- All that was left was read, and a front of a text that minifies it was written, as far as they tell it.
 pub record Began (left left' written written' : Option (List ℕ)) : Type 0 where
   pub read : List ℕ
   pub text : List ℕ
@@ -36,7 +37,8 @@ pub record Began (left left' written written' : Option (List ℕ)) : Type 0 wher
   pub part : count < length text
   pub added : HasAdded (take count text) written written'
 
--- All that was left was read, or one byte past the limit, and the sheet has this fault.
+-- All that was left was read, but no more than one byte past the limit, and the sheet has this fault,
+-- where the source tells its bytes.
 abbrev pub IsRefused : SheetFault → (left left' : Option (List ℕ)) → Type 0
 IsRefused fault left left' = IfSome left (λ read. (sheet_of read ≡ Err fault) × (left' ≡ Some (drop (LIMIT + 1) read)))
 

@@ -25,7 +25,7 @@ fn is_min(words: &Vec<String>) -> bool
     }
 }
 
-/// Reads a sheet to its end, and answers its text with fewer bytes.
+/// Reads a sheet to its end, and answers its text in no more bytes.
 fn read_minified<S: Source>(alloc: Global, input: &mut S) -> Result<Vec<u8>, Status>
     ensures read { Reads result (S.left input.old) (S.left input.new) (record { before = S.faults input.old; after = S.faults input.new }) }
     ensures bounded { (n : ℕ) × (n ≤ 1048577) × HasTaken n (S.left input.old) (S.left input.new) }
@@ -114,11 +114,12 @@ pub(crate) fn tell<E: Sink>(alloc: Global, status: Status, err: &mut E) -> Statu
 }
 
 /// Runs the program on the words after its name: with the one word `min` it reads a style sheet from
-/// `input` to its end, and writes it to `out` with fewer bytes and the same meaning. It tells on `err`
+/// `input` to its end, and writes it to `out` with the same meaning, in no more bytes. It tells on `err`
 /// what else happened, in one line.
 ///
-/// A sheet of more than 1,048,576 bytes is refused after one byte more, and nothing is written to `out`
-/// before the whole text is made.
+/// A sheet that is not of the plain form is refused, and so is one of more than 1,048,576 bytes, after
+/// one byte more. Nothing is written to `out` before the whole text is made; of this the clauses
+/// `untouched` and `part` are what is proved.
 pub fn run<S: Source, O: Sink, E: Sink>(
     alloc: Global,
     words: &Vec<String>,
@@ -126,19 +127,23 @@ pub fn run<S: Source, O: Sink, E: Sink>(
     out: &mut O,
     err: &mut E,
 ) -> Status
+    // Every text may be written.
     requires out_fits { (bytes : List ℕ) → O.fits out.old bytes }
     requires err_fits { (bytes : List ℕ) → E.fits err.old bytes }
 
     // The text that was written minifies the bytes that were read, all that were left.
     ensures done { result ≡ Status.Done → Did (S.left input.old) (S.left input.new) (O.written out.old) (O.written out.new) }
 
-    // When each other status comes. There may be no memory at any point before the first byte is written.
+    // When each other status comes. No clause tells when memory is short: it may be at any point before
+    // the first byte is written, and a body that always answered so would meet them all. Tests stand
+    // against that.
     ensures usage { (result ≡ Status.Usage) ↔ (IsMin (map string_bytes words.now.items) → ⊥) }
     ensures refused { (fault : SheetFault) → result ≡ Status.SheetRefused fault → IsRefused fault (S.left input.old) (S.left input.new) }
     ensures read_fault { result ≡ Status.ReadFault → Rose (S.faults input.old) (S.faults input.new) }
     ensures write_fault { result ≡ Status.WriteFault → Rose (O.faults out.old) (O.faults out.new) }
 
-    // A sheet with a fault is refused for it, and any other is minified, where no fault came between.
+    // A sheet with a fault is refused for it, and any other is minified, where no fault of reading or
+    // writing came between and the memory sufficed.
     ensures refuses { (fault : SheetFault) → IsMin (map string_bytes words.now.items) → IsSomeAnd (S.left input.old) (λ bytes. sheet_of bytes ≡ Err fault)
         → (Rose (S.faults input.old) (S.faults input.new) → ⊥)
         → (result ≡ Status.SheetRefused fault) ⊎ (result ≡ Status.NoMemory) }
