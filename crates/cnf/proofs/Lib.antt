@@ -1,0 +1,2 @@
+pub mod LitLemmas
+pub mod LayoutLemmas

@@ -1,0 +1,4 @@
+pub mod Cnf
+pub mod Layout
+pub mod Lits
+pub mod Values

@@ -1,0 +1,11 @@
+//! Formulas in conjunctive normal form: literals, clauses, what follows from them, and gates that
+//! add clauses so that a literal or a number is fixed.
+#![tactic(auto)]
+
+mod formula;
+mod ledger;
+mod lit;
+
+pub use formula::Formula;
+pub use ledger::{Bits, Clause, Ledger, NO_LIMIT};
+pub use lit::Lit;
