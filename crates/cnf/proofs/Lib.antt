@@ -1,2 +1,6 @@
-pub mod LitLemmas
+pub mod Examples
+pub mod ExtensionLemmas
+pub mod GateLemmas
 pub mod LayoutLemmas
+pub mod LitLemmas
+pub mod PropagationLemmas

@@ -1,5 +1,5 @@
 -- Formulas in conjunctive normal form.
-use Rattle.std.specs.Prelude.{◌≡◌, ℕ, Bool, List, [], ◌∷◌, ◌++◌, IsTrue, length}
+use Rattle.std.specs.Prelude.{◌≡◌, ℕ, Bool, List, IsTrue, length}
 use Rattle.std.specs.List.{list_all}
 use Rattle.cnf.specs.declared.lit.Lit.{Lit}
 use Rattle.cnf.specs.Lits.{are_below}
@@ -9,10 +9,6 @@ use Rattle.cnf.specs.Values.{holds, all_hold}
 pub record Cnf : Type 0 where
   pub vars : ℕ
   pub clauses : List (List Lit)
-
--- with one more clause
-abbrev pub with_clause : Cnf → List Lit → Cnf
-with_clause f clause = record f { clauses = f.clauses ++ clause ∷ [] }
 
 -- whether each literal of the clauses has a variable of the formula
 abbrev pub is_in_range : Cnf → Bool

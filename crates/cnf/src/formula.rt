@@ -28,7 +28,8 @@ impl Model for Formula {
 }
 
 impl Formula {
-    ghost use Rattle.cnf.specs.Cnf.{with_clause, is_in_range};
+    ghost use Rattle.cnf.specs.Cnf.{is_in_range};
+    ghost use Rattle.cnf.specs.Gates.{with_clause, with_fresh};
     ghost use Rattle.cnf.specs.Lits.{are_below, positive};
 
     /// A formula of so many variables without clauses. Takes no memory.
@@ -79,7 +80,7 @@ impl Formula {
     pub fn fresh(&mut self) -> Lit
         requires { self.old.vars < 2 ^ 30 }
         ensures value { result ≡ positive self.old.vars }
-        ensures after { self.new ≡ record self.old { vars = self.old.vars + 1 } }
+        ensures after { self.new ≡ with_fresh self.old }
     {
         let lit = Lit(2 * self.vars);
         self.vars += 1;

@@ -3,9 +3,11 @@
 #![tactic(auto)]
 
 mod formula;
+mod laws;
 mod ledger;
 mod lit;
 
 pub use formula::Formula;
+pub use laws::forced_clause_follows;
 pub use ledger::{Bits, Clause, Ledger, NO_LIMIT};
 pub use lit::Lit;
