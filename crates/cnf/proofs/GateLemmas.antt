@@ -1,13 +1,15 @@
 -- What the gates on literals keep, allow and mean.
-use Rattle.std.proofs.Common.{◌≡◌, ◌+◌, ℕ, Bool, true, false, not, ◌&&◌, ◌||◌, IsTrue, List, [], ◌∷◌, ◌++◌, map, length, refl, sym, ap, ◌∙◌, arith}
-use Rattle.std.specs.List.{list_all}
-use Rattle.std.proofs.lemmas.Bool.{and_parts, and_from, or_left}
+use Rattle.std.proofs.Common.{◌≡◌, ◌+◌, ◌<◌, ◌≤◌, ◌⊎◌, ◌↔◌, ℕ, suc, Bool, true, false, not, cond, ◌&&◌, ◌||◌, IsTrue, List, [], ◌∷◌, ◌++◌, map, length, refl, sym, ap, ◌∙◌, inl, inr, arith}
+use Rattle.std.specs.Prelude.{count_by}
+use Rattle.std.specs.List.{list_all, list_any}
+use Rattle.std.proofs.lemmas.Bool.{and_parts, and_from, cases_Bool, cases_eq, false≢true, or_from, or_left, or_right, or_parts}
+use Rattle.std.proofs.lemmas.List.Sums.{sum_by-cons}
 use Rattle.cnf.specs.declared.lit.Lit.{Lit}
-use Rattle.cnf.specs.Cnf.{Cnf, is_in_range}
-use Rattle.cnf.specs.Gates.{Extends, all_clauses, with_and_gate, with_or_gate, with_true, with_false}
+use Rattle.cnf.specs.Cnf.{Cnf, Satisfies, is_in_range}
+use Rattle.cnf.specs.Gates.{Extends, with_exactly_one, not_both, all_clauses, with_and_gate, with_or_gate, with_true, with_false}
 use Rattle.cnf.specs.Lits.{negation, positive, is_below, are_below}
 use Rattle.cnf.specs.Values.{value, holds, all_hold}
-use Rattle.cnf.proofs.LitLemmas.{value-negation, value-append, is_below-negation, is_below-positive, is_below-mono, are_below-mono, list_all-append, list_all-append-from, list_all-append-parts}
+use Rattle.cnf.proofs.LitLemmas.{value-negation, value-append, is_below-negation, is_below-positive, is_below-mono, are_below-mono, are_below-negations, pair_below, list_all-append, list_all-append-from, list_all-append-parts}
 use Rattle.cnf.proofs.ExtensionLemmas.{extends-by, value-first}
 
 -- one formula for "gate or not" over a list
@@ -70,15 +72,6 @@ list_all-values vs ws (l ∷ ls) h =
     let parts = and_parts (is_below (length vs) l) (are_below (length vs) ls) h in
     ap (λ b. b && list_all (value (vs ++ ws)) ls) (value-append vs ws l parts.0)
     ∙ ap (λ b. value vs l && b) (list_all-values vs ws ls parts.1)
-
-are_below-negations : (n : ℕ) (ls : List Lit) → IsTrue (are_below n ls) → IsTrue (are_below n (map negation ls))
-are_below-negations n [] h = refl
-are_below-negations n (l ∷ ls) h =
-    let parts = and_parts (is_below n l) (are_below n ls) h in
-    and_from _ _ (is_below-negation n l parts.0) (are_below-negations n ls parts.1)
-
-pair_below : (n : ℕ) (a b : Lit) → IsTrue (is_below n a) → IsTrue (is_below n b) → IsTrue (are_below n (a ∷ b ∷ []))
-pair_below n a b h k = and_from _ _ h (and_from _ true k refl)
 
 each_below : (n : ℕ) (gate : Lit) (ls : List Lit) → IsTrue (is_below n gate) → IsTrue (are_below n ls) → IsTrue (list_all (are_below n) (map (λ l. negation gate ∷ l ∷ []) ls))
 each_below n gate [] g h = refl
@@ -208,3 +201,120 @@ false-means f vs h =
     not_true : (b : Bool) → not b ≡ true → b ≡ false
     not_true true h = sym h
     not_true false h = refl
+
+-- not one literal with each of the others
+not_with-value : (vs : List Bool) (l : Lit) (ls : List Lit) → all_hold vs (map (λ m. negation l ∷ negation m ∷ []) ls) ≡ (not (value vs l) || not (list_any (value vs) ls))
+not_with-value vs l [] = or_true (not (value vs l))
+  where
+    or_true : (b : Bool) → true ≡ (b || true)
+    or_true true = refl
+    or_true false = refl
+not_with-value vs l (m ∷ ms) =
+    ap (λ b. (b || (value vs (negation m) || false)) && all_hold vs (map (λ m. negation l ∷ negation m ∷ []) ms)) (value-negation vs l)
+    ∙ (ap (λ b. (not (value vs l) || (b || false)) && all_hold vs (map (λ m. negation l ∷ negation m ∷ []) ms)) (value-negation vs m)
+    ∙ (ap (λ b. (not (value vs l) || (not (value vs m) || false)) && b) (not_with-value vs l ms)
+    ∙ distribute (not (value vs l)) (value vs m) (list_any (value vs) ms)))
+  where
+    distribute : (a b c : Bool) → ((a || (not b || false)) && (a || not c)) ≡ (a || not (b || c))
+    distribute true b c = refl
+    distribute false true c = refl
+    distribute false false c = refl
+
+-- a true place counts 1
+abbrev digit : Bool → ℕ
+digit b = cond b 1 0
+
+count-cons : (vs : List Bool) (l : Lit) (ls : List Lit) → count_by (value vs) (l ∷ ls) ≡ digit (value vs l) + count_by (value vs) ls
+count-cons vs l ls = sum_by-cons (λ m. cond (value vs m) 1 0) l ls
+
+count-none : (vs : List Bool) (ls : List Lit) → list_any (value vs) ls ≡ false → count_by (value vs) ls ≡ 0
+count-none vs [] h = refl
+count-none vs (l ∷ ls) h =
+    let parts = or_parts (value vs l) (list_any (value vs) ls) h in
+    omega (arith, count-cons vs l ls, ap digit parts.0, count-none vs ls parts.1)
+
+none-count : (vs : List Bool) (ls : List Lit) → count_by (value vs) ls ≡ 0 → list_any (value vs) ls ≡ false
+none-count vs [] h = refl
+none-count vs (l ∷ ls) h =
+    elim (cases_Bool (value vs l)) [
+        inl t ↦ absurd (omega (arith, count-cons vs l ls, h, ap digit t))
+      | inr e ↦ or_from (value vs l) (list_any (value vs) ls) e (none-count vs ls (omega (arith, count-cons vs l ls, h, ap digit e)))
+    ]
+
+not_both-count : (vs : List Bool) (ls : List Lit) → IsTrue (all_hold vs (not_both ls)) → count_by (value vs) ls ≤ 1
+not_both-count vs [] h = omega arith
+not_both-count vs (l ∷ ls) h =
+    let parts = list_all-append-parts (holds vs) (map (λ m. negation l ∷ negation m ∷ []) ls) (not_both ls) h in
+    let first = sym (not_with-value vs l ls) ∙ parts.0 in
+    elim (cases_Bool (value vs l)) [
+        inl t ↦
+          let none : list_any (value vs) ls ≡ false = alone (value vs l) (list_any (value vs) ls) t first in
+          omega (arith, count-cons vs l ls, ap digit t, count-none vs ls none)
+      | inr e ↦ omega (arith, count-cons vs l ls, ap digit e, not_both-count vs ls parts.1)
+    ]
+  where
+    alone : (a b : Bool) → a ≡ true → (not a || not b) ≡ true → b ≡ false
+    alone true true t h = sym h
+    alone true false t h = refl
+    alone false b t h = absurd (false≢true t)
+
+count-not_both : (vs : List Bool) (ls : List Lit) → count_by (value vs) ls ≤ 1 → IsTrue (all_hold vs (not_both ls))
+count-not_both vs [] h = refl
+count-not_both vs (l ∷ ls) h =
+    list_all-append-from (holds vs) (map (λ m. negation l ∷ negation m ∷ []) ls) (not_both ls) (not_with-value vs l ls ∙ first (cases_Bool (value vs l))) (count-not_both vs ls (omega (arith, count-cons vs l ls, h)))
+  where
+    first : ((value vs l ≡ true) ⊎ (value vs l ≡ false)) → (not (value vs l) || not (list_any (value vs) ls)) ≡ true
+    first (inl t) =
+        let none : count_by (value vs) ls ≡ 0 = omega (arith, count-cons vs l ls, h, ap digit t) in
+        or_right (not (value vs l)) _ (ap not (none-count vs ls none))
+    first (inr e) = or_left _ _ (ap not e)
+
+exactly_one-count : (vs : List Bool) (ls : List Lit) → IsTrue (all_hold vs (ls ∷ not_both ls)) → count_by (value vs) ls ≡ 1
+exactly_one-count vs ls h =
+    let parts = and_parts (holds vs ls) (all_hold vs (not_both ls)) h in
+    elim (cases_eq (count_by (value vs) ls) 0) [
+        inl z ↦ absurd (false≢true (sym (none-count vs ls z) ∙ parts.0))
+      | inr n ↦ omega (arith, n, not_both-count vs ls parts.1)
+    ]
+
+count-exactly_one : (vs : List Bool) (ls : List Lit) → count_by (value vs) ls ≡ 1 → IsTrue (all_hold vs (ls ∷ not_both ls))
+count-exactly_one vs ls h =
+    and_from (holds vs ls) _ (some (cases_Bool (holds vs ls))) (count-not_both vs ls (omega (arith, h)))
+  where
+    some : ((holds vs ls ≡ true) ⊎ (holds vs ls ≡ false)) → holds vs ls ≡ true
+    some (inl t) = t
+    some (inr e) = absurd (omega (arith, h, count-none vs ls e))
+
+pub exactly_one-means : (f : Cnf) (ls : List Lit) (vs : List Bool) → Satisfies vs (with_exactly_one f ls) ↔ (Satisfies vs f × (count_by (value vs) ls ≡ 1))
+unfolding with_exactly_one
+exactly_one-means f ls vs = (
+  λ s.
+    let parts = list_all-append-parts (holds vs) f.clauses (ls ∷ not_both ls) s.each_holds in
+    (record { one_each = s.one_each; each_holds = parts.0 }, exactly_one-count vs ls parts.1),
+  λ s.
+    record {
+      one_each = s.0.one_each;
+      each_holds = list_all-append-from (holds vs) f.clauses (ls ∷ not_both ls) s.0.each_holds (count-exactly_one vs ls s.1);
+    }
+)
+
+not_with-below : (n : ℕ) (l : Lit) (ls : List Lit) → IsTrue (is_below n l) → IsTrue (are_below n ls) → IsTrue (list_all (are_below n) (map (λ m. negation l ∷ negation m ∷ []) ls))
+not_with-below n l [] h k = refl
+not_with-below n l (m ∷ ms) h k =
+    let parts = and_parts (is_below n m) (are_below n ms) k in
+    and_from _ _ (pair_below n (negation l) (negation m) (is_below-negation n l h) (is_below-negation n m parts.0)) (not_with-below n l ms h parts.1)
+
+not_both-below : (n : ℕ) (ls : List Lit) → IsTrue (are_below n ls) → IsTrue (list_all (are_below n) (not_both ls))
+not_both-below n [] h = refl
+not_both-below n (l ∷ ls) h =
+    let parts = and_parts (is_below n l) (are_below n ls) h in
+    list_all-append-from (are_below n) (map (λ m. negation l ∷ negation m ∷ []) ls) (not_both ls) (not_with-below n l ls parts.0 parts.1) (not_both-below n ls parts.1)
+
+pub exactly_one-in_range : (f : Cnf) (ls : List Lit) → IsTrue (is_in_range f) → IsTrue (are_below f.vars ls) → IsTrue (is_in_range (with_exactly_one f ls))
+unfolding with_exactly_one
+exactly_one-in_range f ls r h =
+    list_all-append-from (are_below f.vars) f.clauses (ls ∷ not_both ls) r (and_from _ _ h (not_both-below f.vars ls h))
+
+pub exactly_one-keeps : (f : Cnf) (ls : List Lit) → (more : List (List Lit)) × ((with_exactly_one f ls).clauses ≡ f.clauses ++ more)
+unfolding with_exactly_one
+exactly_one-keeps f ls = (ls ∷ not_both ls, refl)

@@ -1,3 +1,4 @@
+pub mod CellLemmas
 pub mod Examples
 pub mod ExtensionLemmas
 pub mod GateLemmas

@@ -1,5 +1,5 @@
 -- Lemmas on literals, their values, and values with more behind them.
-use Rattle.std.proofs.Common.{◌≡◌, ◌+◌, ◌-◌, ◌%◌, ◌<◌, ◌≤◌, ◌⊎◌, ℕ, Bool, true, false, not, ◌&&◌, ◌||◌, cond, eqb, IsTrue, zero, suc, Option, None, Some, List, [], ◌∷◌, ◌++◌, length, get_or, refl, sym, ap, ◌∙◌, inl, inr, arith}
+use Rattle.std.proofs.Common.{◌≡◌, ◌+◌, ◌-◌, ◌%◌, ◌<◌, ◌≤◌, ◌⊎◌, ℕ, Bool, true, false, not, ◌&&◌, ◌||◌, cond, eqb, ltb, IsTrue, zero, suc, Option, None, Some, List, [], ◌∷◌, ◌++◌, length, map, take, drop, get_or, refl, sym, ap, ◌∙◌, inl, inr, arith}
 use Rattle.std.specs.List.{list_all, slice_get}
 use Rattle.std.proofs.lemmas.Bool.{cases_eq, cond-true, cond-false, eq-eqb, ne_eqb, ltb-true, lt-ltb, and_parts, and_from}
 use Rattle.std.proofs.lemmas.List.{get_or_append_left}
@@ -143,3 +143,53 @@ pub list_all-get : {X : Type 0} (p : X → Bool) (xs : List X) (k : ℕ) (x : X)
 list_all-get p [] k x h e = absurd (None≢Some _ refl e)
 list_all-get p (y ∷ ys) zero x h e = rw (← same_in_some e) (and_parts (p y) (list_all p ys) h).0
 list_all-get p (y ∷ ys) (suc k) x h e = list_all-get p ys k x (and_parts (p y) (list_all p ys) h).1 e
+
+-- clauses of a few literals
+pub one_below : (n : ℕ) (a : Lit) → IsTrue (is_below n a) → IsTrue (are_below n (a ∷ []))
+one_below n a h = and_from (is_below n a) true h refl
+
+pub pair_below : (n : ℕ) (a b : Lit) → IsTrue (is_below n a) → IsTrue (is_below n b) → IsTrue (are_below n (a ∷ b ∷ []))
+pair_below n a b h k = and_from (is_below n a) _ h (one_below n b k)
+
+pub triple_below : (n : ℕ) (a b c : Lit) → IsTrue (is_below n a) → IsTrue (is_below n b) → IsTrue (is_below n c) → IsTrue (are_below n (a ∷ b ∷ c ∷ []))
+triple_below n a b c h k m = and_from (is_below n a) _ h (pair_below n b c k m)
+
+pub quadruple_below : (n : ℕ) (a b c d : Lit) → IsTrue (is_below n a) → IsTrue (is_below n b) → IsTrue (is_below n c) → IsTrue (is_below n d) → IsTrue (are_below n (a ∷ b ∷ c ∷ d ∷ []))
+quadruple_below n a b c d h k m o = and_from (is_below n a) _ h (triple_below n b c d k m o)
+
+-- a literal of the same variable
+pub is_below-same : (n : ℕ) (a b : Lit) → variable b ≡ variable a → IsTrue (is_below n a) → IsTrue (is_below n b)
+is_below-same n a b e h = ap (λ v. ltb v n) e ∙ h
+
+pub is_below-suc : (n : ℕ) (a : Lit) → IsTrue (is_below n a) → IsTrue (is_below (n + 1) a)
+is_below-suc n a h = is_below-mono n (n + 1) (omega arith) a h
+
+pub are_below-suc : (n : ℕ) (ls : List Lit) → IsTrue (are_below n ls) → IsTrue (are_below (n + 1) ls)
+are_below-suc n ls h = are_below-mono n (n + 1) (omega arith) ls h
+
+pub are_below-negations : (n : ℕ) (ls : List Lit) → IsTrue (are_below n ls) → IsTrue (are_below n (map negation ls))
+are_below-negations n [] h = refl
+are_below-negations n (l ∷ ls) h =
+    let parts = and_parts (is_below n l) (are_below n ls) h in
+    and_from _ _ (is_below-negation n l parts.0) (are_below-negations n ls parts.1)
+
+pub or_not_below : (n : ℕ) (gate : Lit) (ls : List Lit) → IsTrue (is_below n gate) → IsTrue (are_below n ls) → IsTrue (are_below n (gate ∷ map negation ls))
+or_not_below n gate ls h k = and_from (is_below n gate) _ h (are_below-negations n ls k)
+
+pub are_below-get : (n : ℕ) (ls : List Lit) (k : ℕ) (d : Lit) → IsTrue (are_below n ls) → k < length ls → IsTrue (is_below n (get_or ls k d))
+are_below-get n [] k d h b = absurd (omega arith)
+are_below-get n (l ∷ ls) zero d h b = (and_parts (is_below n l) (are_below n ls) h).0
+are_below-get n (l ∷ ls) (suc k) d h b = are_below-get n ls k d (and_parts (is_below n l) (are_below n ls) h).1 (omega arith)
+
+pub are_below-drop : (n k : ℕ) (ls : List Lit) → IsTrue (are_below n ls) → IsTrue (are_below n (drop k ls))
+are_below-drop n zero ls h = h
+are_below-drop n (suc k) [] h = h
+are_below-drop n (suc k) (l ∷ ls) h = are_below-drop n k ls (and_parts (is_below n l) (are_below n ls) h).1
+
+pub are_below-take : (n k : ℕ) (ls : List Lit) → IsTrue (are_below n ls) → IsTrue (are_below n (take k ls))
+are_below-take n zero ls h = refl
+are_below-take n (suc k) [] h = h
+are_below-take n (suc k) (l ∷ ls) h =
+    let parts = and_parts (is_below n l) (are_below n ls) h in and_from _ _ parts.0 (are_below-take n k ls parts.1)
+
+pub ruleset clauses_in_range = (one_below, pair_below, triple_below, is_below-same, is_below-suc, are_below-suc, or_not_below)

@@ -30,7 +30,7 @@ impl Model for Formula {
 impl Formula {
     ghost use Rattle.cnf.specs.Cnf.{is_in_range};
     ghost use Rattle.cnf.specs.Gates.{with_clause, with_fresh};
-    ghost use Rattle.cnf.specs.Lits.{are_below, positive};
+    ghost use Rattle.cnf.specs.Lits.{is_below, are_below, positive};
 
     /// A formula of so many variables without clauses. Takes no memory.
     pub fn new(alloc: Global, vars: u32) -> Formula
@@ -81,6 +81,7 @@ impl Formula {
         requires { self.old.vars < 2 ^ 30 }
         ensures value { result ≡ positive self.old.vars }
         ensures after { self.new ≡ with_fresh self.old }
+        ensures below { IsTrue (is_below self.new.vars result) }
     {
         let lit = Lit(2 * self.vars);
         self.vars += 1;

@@ -3,11 +3,13 @@
 #![tactic(auto)]
 
 mod formula;
+mod gates;
 mod laws;
 mod ledger;
 mod lit;
 
 pub use formula::Formula;
-pub use laws::forced_clause_follows;
+pub use gates::{and_gate, exactly_one};
+pub use laws::{and_gate_law, exactly_one_law, forced_clause_follows};
 pub use ledger::{Bits, Clause, Ledger, NO_LIMIT};
 pub use lit::Lit;

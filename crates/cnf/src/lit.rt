@@ -18,6 +18,7 @@ impl Lit {
     /// The literal that is true where this one is false. Takes no memory.
     pub fn negation(self) -> Lit
         ensures value { result ≡ negation self }
+        ensures same_variable { variable result ≡ variable self }
         ensures flips { (vs : List Bool) → value vs result ≡ not (value vs self) }
     {
         if self.0 % 2 == 0 {

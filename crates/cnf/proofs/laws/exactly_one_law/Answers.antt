@@ -1,0 +1,5 @@
+use Rattle.cnf.proofs.GateLemmas.{exactly_one-keeps, exactly_one-in_range, exactly_one-means}
+use Rattle.cnf.proofs.laws.exactly_one_law.Goals as goal
+
+pub returns : goal.returns
+returns c = record { kept = exactly_one-keeps; in_range = exactly_one-in_range; means = exactly_one-means }
