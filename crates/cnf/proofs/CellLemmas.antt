@@ -109,3 +109,114 @@ full-below n x y z s c hx hy hz hs hc =
     let ns = is_below-negation n s hs in
     let nc = is_below-negation n c hc in
     simp (hx, hy, hz, hs, hc, nx, ny, nz, ns, nc)
+
+-- an optional literal as a digit, and its range
+abbrev pub option_bit : List Bool → Option Lit → ℕ
+option_bit vs None = 0
+option_bit vs (Some l) = bit (value vs l)
+
+abbrev pub option_below : ℕ → Option Lit → Bool
+option_below n None = true
+option_below n (Some l) = is_below n l
+
+pub option_below-mono : (m n : ℕ) → m ≤ n → (o : Option Lit) → IsTrue (option_below m o) → IsTrue (option_below n o)
+option_below-mono m n h None b = refl
+option_below-mono m n h (Some l) b = is_below-mono m n h l b
+
+-- what a cell keeps, allows and means
+pub record CellFacts (f : Cnf) (total : List Bool → ℕ) (r : Cell) : Type 0 where
+  pub extends : Extends f r.formula
+  pub sum_below : IsTrue (is_below r.formula.vars r.sum)
+  pub carry_below : IsTrue (option_below r.formula.vars r.carry)
+  pub means : (vs : List Bool) → IsTrue (all_hold vs r.formula.clauses) → bit (value vs r.sum) + 2 * option_bit vs r.carry ≡ total vs
+
+half-facts : (f : Cnf) (x y : Lit) → IsTrue (is_in_range f) → IsTrue (is_below f.vars x) → IsTrue (is_below f.vars y) → CellFacts f (λ vs. bit (value vs x) + bit (value vs y)) (with_half_adder f x y)
+unfolding with_half_adder
+half-facts f x y r hx hy =
+    let s = positive f.vars in
+    let c = positive (f.vars + 1) in
+    let n = f.vars + 2 in
+    let up = is_below-mono f.vars n (omega arith) in
+    let hs = is_below-positive n f.vars (omega arith) in
+    let hc = is_below-positive n (f.vars + 1) (omega arith) in
+    record {
+      extends = extends-by f 2 (half_adder_clauses x y s c) r (half-below n x y s c (up x hx) (up y hy) hs hc) (λ vs e.
+        let a = value vs x in
+        let b = value vs y in
+        let more = xor a b ∷ (a && b) ∷ [] in
+        (
+          more,
+          refl,
+          half-value (vs ++ more) x y s c
+          ∙ (ap (λ v. half_table v (value (vs ++ more) y) (value (vs ++ more) s) (value (vs ++ more) c)) (value-append vs more x (rw e hx))
+          ∙ (ap (λ v. half_table a v (value (vs ++ more) s) (value (vs ++ more) c)) (value-append vs more y (rw e hy))
+          ∙ (ap (λ v. half_table a b v (value (vs ++ more) c)) (value-first vs ((a && b) ∷ []) (xor a b) f.vars e)
+          ∙ (ap (λ v. half_table a b (xor a b) v) (value-second vs [] (xor a b) (a && b) f.vars e) ∙ half-hold a b))))
+        ));
+      sum_below = hs;
+      carry_below = hc;
+      means =
+        λ vs h.
+          let new = (list_all-append-parts (holds vs) f.clauses (half_adder_clauses x y s c) h).1 in
+          half-mean (value vs x) (value vs y) (value vs s) (value vs c) (sym (half-value vs x y s c) ∙ new);
+    }
+
+full-facts : (f : Cnf) (x y z : Lit) → IsTrue (is_in_range f) → IsTrue (is_below f.vars x) → IsTrue (is_below f.vars y) → IsTrue (is_below f.vars z) → CellFacts f (λ vs. bit (value vs x) + bit (value vs y) + bit (value vs z)) (with_full_adder f x y z)
+unfolding with_full_adder
+full-facts f x y z r hx hy hz =
+    let s = positive f.vars in
+    let c = positive (f.vars + 1) in
+    let n = f.vars + 2 in
+    let up = is_below-mono f.vars n (omega arith) in
+    let hs = is_below-positive n f.vars (omega arith) in
+    let hc = is_below-positive n (f.vars + 1) (omega arith) in
+    record {
+      extends = extends-by f 2 (full_adder_clauses x y z s c) r (full-below n x y z s c (up x hx) (up y hy) (up z hz) hs hc) (λ vs e.
+        let a = value vs x in
+        let b = value vs y in
+        let d = value vs z in
+        let sum = xor a (xor b d) in
+        let most = majority a b d in
+        let more = sum ∷ most ∷ [] in
+        (
+          more,
+          refl,
+          full-value (vs ++ more) x y z s c
+          ∙ (ap (λ v. full_table v (value (vs ++ more) y) (value (vs ++ more) z) (value (vs ++ more) s) (value (vs ++ more) c)) (value-append vs more x (rw e hx))
+          ∙ (ap (λ v. full_table a v (value (vs ++ more) z) (value (vs ++ more) s) (value (vs ++ more) c)) (value-append vs more y (rw e hy))
+          ∙ (ap (λ v. full_table a b v (value (vs ++ more) s) (value (vs ++ more) c)) (value-append vs more z (rw e hz))
+          ∙ (ap (λ v. full_table a b d v (value (vs ++ more) c)) (value-first vs (most ∷ []) sum f.vars e)
+          ∙ (ap (λ v. full_table a b d sum v) (value-second vs [] sum most f.vars e) ∙ full-hold a b d)))))
+        ));
+      sum_below = hs;
+      carry_below = hc;
+      means =
+        λ vs h.
+          let new = (list_all-append-parts (holds vs) f.clauses (full_adder_clauses x y z s c) h).1 in
+          full-mean (value vs x) (value vs y) (value vs z) (value vs s) (value vs c) (sym (full-value vs x y z s c) ∙ new);
+    }
+
+pub cell-facts : (f : Cnf) (x : Lit) (y z : Option Lit) → IsTrue (is_in_range f) → IsTrue (is_below f.vars x) → IsTrue (option_below f.vars y) → IsTrue (option_below f.vars z) → CellFacts f (λ vs. bit (value vs x) + option_bit vs y + option_bit vs z) (with_cell f x y z)
+cell-facts f x None None r hx hy hz = record {
+  extends = Extends-refl f r;
+  sum_below = hx;
+  carry_below = refl;
+  means = λ vs h. omega arith;
+}
+cell-facts f x None (Some z) r hx hy hz =
+    let c = half-facts f x z r hx hz in
+    record {
+      extends = c.extends;
+      sum_below = c.sum_below;
+      carry_below = c.carry_below;
+      means = λ vs h. omega (arith, c.means vs h);
+    }
+cell-facts f x (Some y) None r hx hy hz =
+    let c = half-facts f x y r hx hy in
+    record {
+      extends = c.extends;
+      sum_below = c.sum_below;
+      carry_below = c.carry_below;
+      means = λ vs h. omega (arith, c.means vs h);
+    }
+cell-facts f x (Some y) (Some z) r hx hy hz = full-facts f x y z r hx hy hz

@@ -5,3 +5,4 @@ pub mod GateLemmas
 pub mod LayoutLemmas
 pub mod LitLemmas
 pub mod PropagationLemmas
+pub mod SumLemmas
