@@ -1,4 +1,6 @@
 pub mod CellLemmas
+pub mod ComparisonLemmas
+pub mod DivisionLemmas
 pub mod Examples
 pub mod ExtensionLemmas
 pub mod GateLemmas
