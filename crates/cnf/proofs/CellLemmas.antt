@@ -6,7 +6,7 @@ use Rattle.cnf.specs.declared.lit.Lit.{Lit}
 use Rattle.cnf.specs.Cnf.{Cnf, is_in_range}
 use Rattle.cnf.specs.Gates.{Extends}
 use Rattle.cnf.specs.Lits.{negation, positive, is_below, are_below}
-use Rattle.cnf.specs.Sums.{bit, Cell, half_adder_clauses, full_adder_clauses, with_half_adder, with_full_adder, with_cell}
+use Rattle.cnf.specs.Sums.{bit, option_below, Cell, half_adder_clauses, full_adder_clauses, with_half_adder, with_full_adder, with_cell}
 use Rattle.cnf.specs.Values.{value, holds, all_hold}
 use Rattle.cnf.proofs.LitLemmas.{value-negation, value-positive, value-append, is_below-negation, is_below-positive, is_below-mono, pair_below, triple_below, quadruple_below, list_all-append-parts}
 use Rattle.cnf.proofs.ExtensionLemmas.{Extends-refl, extends-by, value-first, value-second}
@@ -110,14 +110,10 @@ full-below n x y z s c hx hy hz hs hc =
     let nc = is_below-negation n c hc in
     simp (hx, hy, hz, hs, hc, nx, ny, nz, ns, nc)
 
--- an optional literal as a digit, and its range
+-- an optional literal as a digit
 abbrev pub option_bit : List Bool → Option Lit → ℕ
 option_bit vs None = 0
 option_bit vs (Some l) = bit (value vs l)
-
-abbrev pub option_below : ℕ → Option Lit → Bool
-option_below n None = true
-option_below n (Some l) = is_below n l
 
 pub option_below-mono : (m n : ℕ) → m ≤ n → (o : Option Lit) → IsTrue (option_below m o) → IsTrue (option_below n o)
 option_below-mono m n h None b = refl

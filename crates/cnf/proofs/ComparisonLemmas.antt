@@ -7,13 +7,13 @@ use Rattle.cnf.specs.declared.lit.Lit.{Lit}
 use Rattle.cnf.specs.Cnf.{Cnf, is_in_range}
 use Rattle.cnf.specs.Gates.{Extends, with_and_gate, with_or_gate, with_true, with_false}
 use Rattle.cnf.specs.Lits.{is_below, are_below}
-use Rattle.cnf.specs.Numbers.{with_digit, with_comparison, with_found, with_at_least}
-use Rattle.cnf.specs.Sums.{bit, number}
+use Rattle.cnf.specs.Numbers.{with_digit, with_compared_digit, with_comparison, with_found, with_at_least}
+use Rattle.cnf.specs.Sums.{bit, number, option_below}
 use Rattle.cnf.specs.Values.{value, all_hold}
 use Rattle.cnf.proofs.LitLemmas.{are_below-mono, pair_below}
 use Rattle.cnf.proofs.ExtensionLemmas.{Extends-refl, Extends-trans, kept-hold}
 use Rattle.cnf.proofs.GateLemmas.{and_gate-extends, and_gate-below, and_gate-means, or_gate-extends, or_gate-below, or_gate-means, true-extends, true-below, true-means, false-extends, false-below, false-means}
-use Rattle.cnf.proofs.CellLemmas.{option_below}
+
 
 -- None stands for "true"
 abbrev pub found_value : List Bool → Option Lit → Bool
@@ -62,6 +62,10 @@ digit-facts f false digit below r h k = record {
   in_range = or_gate-below f digit below;
   means = λ vs m. or_gate-means f digit below vs m;
 }
+
+pub next-facts : (f : Cnf) (below : Option Lit) (digit : Lit) (one : Bool) → IsTrue (is_in_range f) → IsTrue (option_below f.vars below) → IsTrue (is_below f.vars digit) → StepFacts f one digit below (with_compared_digit f below digit one)
+next-facts f None digit one r hb hd = first-facts f one digit r hd
+next-facts f (Some below) digit one r hb hd = digit-facts f one digit below r hd hb
 
 MatchBool-map : (b : Bool) {P P' Q Q' : Type 0} → (P → P') → (Q → Q') → MatchBool b P Q → MatchBool b P' Q'
 MatchBool-map true p q h = p h
@@ -116,15 +120,11 @@ comparison-facts f below [] bound r hb hd small = record {
     at_end : (b : Bool) → Compared b bound (0 + bit b)
     at_end true = omega arith
     at_end false = omega arith
-comparison-facts f None (digit ∷ digits) bound r hb hd small =
+comparison-facts f below (digit ∷ digits) bound r hb hd small =
     let parts = and_parts (is_below f.vars digit) (are_below f.vars digits) hd in
-    let one = first-facts f (eqb (bound % 2) 1) digit r parts.0 in
-    then_others f None digit digits bound (f, cond (eqb (bound % 2) 1) (Some digit) None) _ one (comparison-facts f (cond (eqb (bound % 2) 1) (Some digit) None) digits (bound / 2) r one.in_range parts.1 (half_bound bound (length digits) small))
-comparison-facts f (Some below) (digit ∷ digits) bound r hb hd small =
-    let parts = and_parts (is_below f.vars digit) (are_below f.vars digits) hd in
-    let one = digit-facts f (eqb (bound % 2) 1) digit below r parts.0 hb in
-    let gate = with_digit f (eqb (bound % 2) 1) digit below in
-    then_others f (Some below) digit digits bound (gate.0, Some gate.1) _ one (comparison-facts gate.0 (Some gate.1) digits (bound / 2) one.extends.in_range one.in_range (are_below-mono f.vars gate.0.vars one.extends.more_vars digits parts.1) (half_bound bound (length digits) small))
+    let one = next-facts f below digit (eqb (bound % 2) 1) r hb parts.0 in
+    let next = with_compared_digit f below digit (eqb (bound % 2) 1) in
+    then_others f below digit digits bound next _ one (comparison-facts next.0 next.1 digits (bound / 2) one.extends.in_range one.in_range (are_below-mono f.vars next.0.vars one.extends.more_vars digits parts.1) (half_bound bound (length digits) small))
 
 -- a number is below the power of its digits
 pub number-lt : (vs : List Bool) (ls : List Lit) → number vs ls < 2 ^ length ls

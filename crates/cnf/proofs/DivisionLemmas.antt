@@ -13,12 +13,12 @@ use Rattle.cnf.specs.Cnf.{Cnf, is_in_range}
 use Rattle.cnf.specs.Gates.{Extends}
 use Rattle.cnf.specs.Lits.{is_below, are_below}
 use Rattle.cnf.specs.Numbers.{with_at_least, remainder_digits, scaled_columns, with_reduced, Divided, with_next_digit, with_division}
-use Rattle.cnf.specs.Sums.{bit, number, with_columns}
+use Rattle.cnf.specs.Sums.{bit, number, option_below, columns_below, with_columns}
 use Rattle.cnf.specs.Values.{value, all_hold}
 use Rattle.cnf.proofs.LitLemmas.{is_below-mono, are_below-mono, are_below-take}
 use Rattle.cnf.proofs.ExtensionLemmas.{Extends-refl, Extends-trans, kept-hold}
-use Rattle.cnf.proofs.CellLemmas.{option_bit, option_below}
-use Rattle.cnf.proofs.SumLemmas.{columns_number, columns_below, columns-facts}
+use Rattle.cnf.proofs.CellLemmas.{option_bit}
+use Rattle.cnf.proofs.SumLemmas.{columns_number, columns-facts}
 use Rattle.cnf.proofs.ComparisonLemmas.{number-lt, at_least-facts}
 
 -- how many digits a remainder has

@@ -1,9 +1,11 @@
+pub mod AdderCode
 pub mod CellLemmas
 pub mod ComparisonLemmas
 pub mod DivisionLemmas
 pub mod Examples
 pub mod ExtensionLemmas
 pub mod GateLemmas
+pub mod GrowLemmas
 pub mod LayoutLemmas
 pub mod LitLemmas
 pub mod PropagationLemmas

@@ -8,12 +8,12 @@ use Rattle.cnf.specs.declared.lit.Lit.{Lit}
 use Rattle.cnf.specs.Cnf.{Cnf, is_in_range}
 use Rattle.cnf.specs.Gates.{Extends, with_false}
 use Rattle.cnf.specs.Lits.{is_below, are_below}
-use Rattle.cnf.specs.Sums.{bit, number, Cell, Sums, with_cell, with_columns, columns, with_carry, with_adder}
+use Rattle.cnf.specs.Sums.{bit, number, option_below, columns_below, Cell, Sums, with_cell, with_columns, columns, with_carry, with_adder}
 use Rattle.cnf.specs.Values.{value, all_hold}
 use Rattle.cnf.proofs.LitLemmas.{is_below-mono, are_below-mono, list_all-append-from}
 use Rattle.cnf.proofs.ExtensionLemmas.{Extends-refl, Extends-trans, kept-hold}
 use Rattle.cnf.proofs.GateLemmas.{false-extends, false-below, false-means}
-use Rattle.cnf.proofs.CellLemmas.{option_bit, option_below, option_below-mono, CellFacts, cell-facts}
+use Rattle.cnf.proofs.CellLemmas.{option_bit, option_below-mono, CellFacts, cell-facts}
 
 -- what columns add up to, and their range
 abbrev pub columns_number : List Bool → List (Lit × Option Lit) → ℕ
@@ -22,9 +22,6 @@ columns_number vs (c ∷ cs) = bit (value vs c.0) + option_bit vs c.1 + 2 * colu
 
 abbrev pub column_below : ℕ → Lit × Option Lit → Bool
 column_below n c = is_below n c.0 && option_below n c.1
-
-abbrev pub columns_below : ℕ → List (Lit × Option Lit) → Bool
-columns_below n cs = list_all (column_below n) cs
 
 pub columns_below-mono : (m n : ℕ) → m ≤ n → (cs : List (Lit × Option Lit)) → IsTrue (columns_below m cs) → IsTrue (columns_below n cs)
 columns_below-mono m n h [] b = refl

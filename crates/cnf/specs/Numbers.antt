@@ -11,13 +11,17 @@ use Rattle.cnf.specs.Sums.{with_columns}
 abbrev pub with_digit : Cnf → Bool → Lit → Lit → Cnf × Lit
 with_digit f one digit below = if one then with_and_gate f (digit ∷ below ∷ []) else with_or_gate f digit below
 
--- whether a number is at least the bound, from the least digit; None stands for "true"
+-- the outcome by one digit more; None stands for "true"
+abbrev pub with_compared_digit : Cnf → Option Lit → Lit → Bool → Cnf × Option Lit
+with_compared_digit f None digit one = (f, if one then Some digit else None)
+with_compared_digit f (Some below) digit one = let gate = with_digit f one digit below in (gate.0, Some gate.1)
+
+-- whether a number is at least the bound, from the least digit
 abbrev pub with_comparison : Cnf → Option Lit → List Lit → ℕ → Cnf × Option Lit
 with_comparison f below [] bound = (f, below)
-with_comparison f None (digit ∷ digits) bound =
-    with_comparison f (if bound % 2 == 1 then Some digit else None) digits (bound / 2)
-with_comparison f (Some below) (digit ∷ digits) bound =
-    let gate = with_digit f (bound % 2 == 1) digit below in with_comparison gate.0 (Some gate.1) digits (bound / 2)
+with_comparison f below (digit ∷ digits) bound =
+    let next = with_compared_digit f below digit (bound % 2 == 1) in
+    with_comparison next.0 next.1 digits (bound / 2)
 
 -- what a comparison found, as a literal
 abbrev pub with_found : Cnf → Option Lit → Cnf × Lit

@@ -1,9 +1,10 @@
 -- Numbers in binary and their sums, by half and full adders.
-use Rattle.std.specs.Prelude.{◌+◌, ◌*◌, ℕ, Bool, true, false, List, [], ◌∷◌, ◌++◌, Option, Some, None}
+use Rattle.std.specs.Prelude.{◌+◌, ◌*◌, ℕ, Bool, true, false, ◌&&◌, List, [], ◌∷◌, ◌++◌, Option, Some, None}
+use Rattle.std.specs.List.{list_all}
 use Rattle.cnf.specs.declared.lit.Lit.{Lit}
 use Rattle.cnf.specs.Cnf.{Cnf}
 use Rattle.cnf.specs.Gates.{with_clauses, with_false}
-use Rattle.cnf.specs.Lits.{negation, positive}
+use Rattle.cnf.specs.Lits.{negation, positive, is_below}
 use Rattle.cnf.specs.Values.{value}
 
 -- a truth value as a digit
@@ -108,6 +109,14 @@ columns [] [] = []
 columns [] (y ∷ ys) = (y, None) ∷ columns [] ys
 columns (x ∷ xs) [] = (x, None) ∷ columns xs []
 columns (x ∷ xs) (y ∷ ys) = (x, Some y) ∷ columns xs ys
+
+-- whether a literal that may be there, and each of some columns, has one of the first n variables
+abbrev pub option_below : ℕ → Option Lit → Bool
+option_below n None = true
+option_below n (Some l) = is_below n l
+
+abbrev pub columns_below : ℕ → List (Lit × Option Lit) → Bool
+columns_below n cs = list_all (λ c. is_below n c.0 && option_below n c.1) cs
 
 -- a carry as a literal
 abbrev pub with_carry : Cnf → Option Lit → Cnf × Lit

@@ -7,9 +7,11 @@ mod gates;
 mod laws;
 mod ledger;
 mod lit;
+mod sums;
 
 pub use formula::Formula;
 pub use gates::{and_gate, exactly_one};
 pub use laws::{and_gate_law, exactly_one_law, forced_clause_follows};
 pub use ledger::{Bits, Clause, Ledger, NO_LIMIT};
 pub use lit::Lit;
+pub use sums::adder;
