@@ -1,5 +1,6 @@
 pub mod AdderCode
 pub mod CellLemmas
+pub mod ComparisonCode
 pub mod ComparisonLemmas
 pub mod DivisionLemmas
 pub mod Examples

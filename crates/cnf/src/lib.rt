@@ -2,6 +2,7 @@
 //! add clauses so that a literal or a number is fixed.
 #![tactic(auto)]
 
+mod comparison;
 mod formula;
 mod gates;
 mod laws;
@@ -9,6 +10,7 @@ mod ledger;
 mod lit;
 mod sums;
 
+pub use comparison::at_least;
 pub use formula::Formula;
 pub use gates::{and_gate, exactly_one};
 pub use laws::{and_gate_law, exactly_one_law, forced_clause_follows};
