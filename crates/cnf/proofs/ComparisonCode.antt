@@ -19,7 +19,7 @@ digit-below : (f : Cnf) (one : Bool) (digit below : Lit) → IsTrue (is_below (w
 digit-below f true digit below = and_gate-below f (digit ∷ below ∷ [])
 digit-below f false digit below = or_gate-below f digit below
 
-compared_digit-below : (f : Cnf) (below : Option Lit) (digit : Lit) (one : Bool) → IsTrue (is_below f.vars digit) → IsTrue (option_below (with_compared_digit f below digit one).0.vars (with_compared_digit f below digit one).1)
+pub compared_digit-below : (f : Cnf) (below : Option Lit) (digit : Lit) (one : Bool) → IsTrue (is_below f.vars digit) → IsTrue (option_below (with_compared_digit f below digit one).0.vars (with_compared_digit f below digit one).1)
 compared_digit-below f None digit true h = h
 compared_digit-below f None digit false h = refl
 compared_digit-below f (Some below) digit one h = digit-below f one digit below

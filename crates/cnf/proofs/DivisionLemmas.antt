@@ -22,7 +22,7 @@ use Rattle.cnf.proofs.SumLemmas.{columns_number, columns-facts}
 use Rattle.cnf.proofs.ComparisonLemmas.{number-lt, at_least-facts}
 
 -- how many digits a remainder has
-digits-over : (by : ℕ) → 0 < by → by < 2 ^ 32 → by ≤ 2 ^ remainder_digits by
+pub digits-over : (by : ℕ) → 0 < by → by < 2 ^ 32 → by ≤ 2 ^ remainder_digits by
 unfolding remainder_digits
 digits-over by pos small =
     elim (cases_eq by 1) [
@@ -73,7 +73,7 @@ scaled-number vs gate factor (l ∷ ls) h =
         let whole = ap (λ x. g * x) split in
         grind arith
 
-scaled-below : (n : ℕ) (gate : Lit) (factor : ℕ) (ls : List Lit) → IsTrue (is_below n gate) → IsTrue (are_below n ls) → IsTrue (columns_below n (scaled_columns gate factor ls))
+pub scaled-below : (n : ℕ) (gate : Lit) (factor : ℕ) (ls : List Lit) → IsTrue (is_below n gate) → IsTrue (are_below n ls) → IsTrue (columns_below n (scaled_columns gate factor ls))
 scaled-below n gate factor [] hg hl = refl
 scaled-below n gate factor (l ∷ ls) hg hl =
     let parts = and_parts (is_below n l) (are_below n ls) hl in
@@ -125,11 +125,11 @@ pub record ReducedFacts (f : Cnf) (fits : Lit) (x : List Lit) (by : ℕ) (r : Cn
   pub digits : length r.1 ≤ remainder_digits by
   pub means : (vs : List Bool) → IsTrue (all_hold vs r.0.clauses) → number vs x < 2 * by → MatchBool (value vs fits) (by ≤ number vs x) (number vs x < by) → number vs x ≡ number vs r.1 + by * bit (value vs fits)
 
-few : (f : Cnf) (fits : Lit) (x : List Lit) (by : ℕ) → length x < remainder_digits by → with_reduced f fits x by ≡ (f, x)
+pub few : (f : Cnf) (fits : Lit) (x : List Lit) (by : ℕ) → length x < remainder_digits by → with_reduced f fits x by ≡ (f, x)
 unfolding with_reduced
 few f fits x by h = cond-true (ltb (length x) (remainder_digits by)) _ _ (lt-ltb _ _ h)
 
-many : (f : Cnf) (fits : Lit) (x : List Lit) (by : ℕ) → remainder_digits by ≤ length x → with_reduced f fits x by ≡ (let n = remainder_digits by in let sum = with_columns f None (scaled_columns fits (2 ^ n - by) (take n x)) in (sum.formula, sum.sums))
+pub many : (f : Cnf) (fits : Lit) (x : List Lit) (by : ℕ) → remainder_digits by ≤ length x → with_reduced f fits x by ≡ (let n = remainder_digits by in let sum = with_columns f None (scaled_columns fits (2 ^ n - by) (take n x)) in (sum.formula, sum.sums))
 unfolding with_reduced
 many f fits x by h = cond-false (ltb (length x) (remainder_digits by)) _ _ (le-ltb _ _ h)
 

@@ -2,6 +2,7 @@ pub mod AdderCode
 pub mod CellLemmas
 pub mod ComparisonCode
 pub mod ComparisonLemmas
+pub mod DivisionCode
 pub mod DivisionLemmas
 pub mod Examples
 pub mod ExtensionLemmas

@@ -3,6 +3,7 @@
 #![tactic(auto)]
 
 mod comparison;
+mod division;
 mod formula;
 mod gates;
 mod laws;
@@ -11,6 +12,7 @@ mod lit;
 mod sums;
 
 pub use comparison::at_least;
+pub use division::divide_by;
 pub use formula::Formula;
 pub use gates::{and_gate, exactly_one};
 pub use laws::{and_gate_law, exactly_one_law, forced_clause_follows};
