@@ -83,7 +83,7 @@ scaled-below n gate factor (l ∷ ls) hg hl =
     either true = hg
     either false = refl
 
-length-scaled : (gate : Lit) (factor : ℕ) (ls : List Lit) → length (scaled_columns gate factor ls) ≡ length ls
+pub length-scaled : (gate : Lit) (factor : ℕ) (ls : List Lit) → length (scaled_columns gate factor ls) ≡ length ls
 length-scaled gate factor [] = refl
 length-scaled gate factor (l ∷ ls) = ap suc (length-scaled gate (factor / 2) ls)
 

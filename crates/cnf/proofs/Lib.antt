@@ -11,4 +11,5 @@ pub mod GrowLemmas
 pub mod LayoutLemmas
 pub mod LitLemmas
 pub mod PropagationLemmas
+pub mod SizeLemmas
 pub mod SumLemmas

@@ -149,3 +149,15 @@ adder-facts f x y r hx hy =
           ∙ (ap (λ b. number vs below.sums + 2 ^ length cs * b) last
           ∙ (sum ∙ (zero-add _ ∙ columns_number-sum vs x y))));
     }
+
+length-sums : (f : Cnf) (carry : Option Lit) (cs : List (Lit × Option Lit)) → length (with_columns f carry cs).sums ≡ length cs
+length-sums f carry [] = refl
+length-sums f carry (c ∷ cs) =
+    let cell = with_cell f c.0 c.1 carry in ap suc (length-sums cell.formula cell.carry cs)
+
+pub length-adder : (f : Cnf) (x y : List Lit) → length (with_adder f x y).1 ≡ max (length x) (length y) + 1
+unfolding with_adder
+length-adder f x y =
+    let below = with_columns f None (columns x y) in
+    let top = with_carry below.formula below.carry in
+    omega (arith, length-append below.sums (top.1 ∷ []), length-sums f None (columns x y), length-columns x y)

@@ -1,6 +1,6 @@
 -- Gates on literals, as clauses: the Tseitin encoding of "all" and "one of two", and the pairwise
 -- encoding of "exactly one". Each takes a formula and gives the one that it becomes.
-use Rattle.std.specs.Prelude.{◌≡◌, ◌+◌, ◌≤◌, Bool, List, [], ◌∷◌, ◌++◌, map, IsTrue}
+use Rattle.std.specs.Prelude.{ℕ, ◌≡◌, ◌+◌, ◌≤◌, Bool, List, [], ◌∷◌, ◌++◌, map, length, IsTrue}
 use Rattle.cnf.specs.declared.lit.Lit.{Lit}
 use Rattle.cnf.specs.Cnf.{Cnf, is_in_range, Satisfies}
 use Rattle.cnf.specs.Lits.{negation, positive}
@@ -24,6 +24,11 @@ pub record Extends (old new : Cnf) : Type 0 where
   pub kept : (more : List (List Lit)) × (new.clauses ≡ old.clauses ++ more)
   pub in_range : IsTrue (is_in_range new)
   pub extendable : (vs : List Bool) → Satisfies vs old → (more : List Bool) × Satisfies (vs ++ more) new
+
+-- at most so many variables and clauses more
+pub record GrowsBy (old new : Cnf) (vars clauses : ℕ) : Type 0 where
+  pub vars_bound : new.vars ≤ old.vars + vars
+  pub clauses_bound : length new.clauses ≤ length old.clauses + clauses
 
 -- not two of them: a clause for each two places
 abbrev pub not_both : List Lit → List (List Lit)

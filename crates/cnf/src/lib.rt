@@ -15,7 +15,9 @@ pub use comparison::at_least;
 pub use division::divide_by;
 pub use formula::Formula;
 pub use gates::{and_gate, exactly_one};
-pub use laws::{and_gate_law, exactly_one_law, forced_clause_follows};
+pub use laws::{
+    adder_law, and_gate_law, at_least_law, divide_by_law, exactly_one_law, forced_clause_follows,
+};
 pub use ledger::{Bits, Clause, Ledger, NO_LIMIT};
 pub use lit::Lit;
 pub use sums::adder;

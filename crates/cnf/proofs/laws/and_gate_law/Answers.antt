@@ -1,4 +1,5 @@
 use Rattle.cnf.proofs.GateLemmas.{and_gate-extends, and_gate-below, and_gate-means}
+use Rattle.cnf.proofs.SizeLemmas.{and_gate-size}
 use Rattle.cnf.proofs.laws.and_gate_law.Goals as goal
 
 pub returns : goal.returns
@@ -6,4 +7,5 @@ returns c = record {
   extends = and_gate-extends;
   in_range = and_gate-below;
   means = λ f lits vs s. and_gate-means f lits vs s.each_holds;
+  size = and_gate-size;
 }
