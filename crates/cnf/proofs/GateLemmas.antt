@@ -285,18 +285,28 @@ count-exactly_one vs ls h =
     some (inl t) = t
     some (inr e) = absurd (omega (arith, h, count-none vs ls e))
 
-pub exactly_one-means : (f : Cnf) (ls : List Lit) (vs : List Bool) → Satisfies vs (with_exactly_one f ls) ↔ (Satisfies vs f × (count_by (value vs) ls ≡ 1))
+pub exactly_one-means : (f : Cnf) (ls : List Lit) (vs : List Bool) → IsTrue (all_hold vs (with_exactly_one f ls).clauses) ↔ (IsTrue (all_hold vs f.clauses) × (count_by (value vs) ls ≡ 1))
 unfolding with_exactly_one
 exactly_one-means f ls vs = (
-  λ s.
-    let parts = list_all-append-parts (holds vs) f.clauses (ls ∷ not_both ls) s.each_holds in
-    (record { one_each = s.one_each; each_holds = parts.0 }, exactly_one-count vs ls parts.1),
-  λ s.
-    record {
-      one_each = s.0.one_each;
-      each_holds = list_all-append-from (holds vs) f.clauses (ls ∷ not_both ls) s.0.each_holds (count-exactly_one vs ls s.1);
-    }
+  λ h.
+    let parts = list_all-append-parts (holds vs) f.clauses (ls ∷ not_both ls) h in
+    (parts.0, exactly_one-count vs ls parts.1),
+  λ h. list_all-append-from (holds vs) f.clauses (ls ∷ not_both ls) h.0 (count-exactly_one vs ls h.1)
 )
+
+exactly_one-vars : (f : Cnf) (ls : List Lit) → (with_exactly_one f ls).vars ≡ f.vars
+unfolding with_exactly_one
+exactly_one-vars f ls = refl
+
+pub exactly_one-satisfied : (f : Cnf) (ls : List Lit) (vs : List Bool) → Satisfies vs (with_exactly_one f ls) ↔ (Satisfies vs f × (count_by (value vs) ls ≡ 1))
+exactly_one-satisfied f ls vs =
+    let m = exactly_one-means f ls vs in
+    let v = exactly_one-vars f ls in
+    (
+      λ s.
+        let parts = m.0 s.each_holds in (record { one_each = s.one_each ∙ v; each_holds = parts.0 }, parts.1),
+      λ s. record { one_each = s.0.one_each ∙ sym v; each_holds = m.1 (s.0.each_holds, s.1) }
+    )
 
 not_with-below : (n : ℕ) (l : Lit) (ls : List Lit) → IsTrue (is_below n l) → IsTrue (are_below n ls) → IsTrue (list_all (are_below n) (map (λ m. negation l ∷ negation m ∷ []) ls))
 not_with-below n l [] h k = refl

@@ -121,3 +121,11 @@ cell_carry-below f x None None = refl
 cell_carry-below f x None (Some z) = half_carry-below f x z
 cell_carry-below f x (Some y) None = half_carry-below f x y
 cell_carry-below f x (Some y) (Some z) = full_carry-below f x y z
+
+pub adder-grows : (f : Cnf) (x y : List Lit) → f.vars ≤ (with_adder f x y).0.vars
+unfolding with_adder
+adder-grows f x y =
+    let sum = with_columns f None (columns x y) in
+    let one = columns-grows f None (columns x y) in
+    let two = carry-grows sum.formula sum.carry in
+    omega arith

@@ -11,5 +11,6 @@ pub mod GrowLemmas
 pub mod LayoutLemmas
 pub mod LitLemmas
 pub mod PropagationLemmas
+pub mod RangeLemmas
 pub mod SizeLemmas
 pub mod SumLemmas

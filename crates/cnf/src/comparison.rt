@@ -19,6 +19,8 @@ pub fn at_least(alloc: Global, f: &mut Formula, x: &Bits, bound: u32) -> Result<
     requires room { (with_at_least f.old x.now bound).0.vars ≤ 2 ^ 30 }
     ensures formula { OnOk result (f.new ≡ (with_at_least f.old x.now bound).0) }
     ensures answer { IfOk result (λ l. l ≡ (with_at_least f.old x.now bound).1) }
+    ensures in_range { IfOk result (λ l. IsTrue (is_below f.new.vars l)) }
+    ensures grows { OnOk result (f.old.vars ≤ f.new.vars) }
 {
     is_at_least(alloc, f, &x.bits, bound)
 }

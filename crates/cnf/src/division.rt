@@ -27,6 +27,9 @@ pub fn divide_by(
     ensures formula { OnOk result (f.new ≡ (with_division f.old x.now by).formula) }
     ensures quotient { IfOk result (λ r. r.0 ≡ (with_division f.old x.now by).quotient) }
     ensures remainder { IfOk result (λ r. r.1 ≡ (with_division f.old x.now by).remainder) }
+    ensures quotient_in_range { IfOk result (λ r. IsTrue (are_below f.new.vars r.0)) }
+    ensures remainder_in_range { IfOk result (λ r. IsTrue (are_below f.new.vars r.1)) }
+    ensures grows { OnOk result (f.old.vars ≤ f.new.vars) }
 {
     let (quotient, remainder) = divide(alloc, f, &x.bits, by)?;
     Ok((Bits { bits: quotient }, Bits { bits: remainder }))

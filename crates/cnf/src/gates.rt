@@ -44,6 +44,8 @@ pub fn and_gate(alloc: Global, f: &mut Formula, lits: &[Lit]) -> Result<Lit, All
     requires room { (with_and_gate f.old lits.now).0.vars ≤ 2 ^ 30 }
     ensures formula { OnOk result (f.new ≡ (with_and_gate f.old lits.now).0) }
     ensures answer { IfOk result (λ gate. gate ≡ (with_and_gate f.old lits.now).1) }
+    ensures in_range { IfOk result (λ gate. IsTrue (is_below f.new.vars gate)) }
+    ensures grows { OnOk result (f.old.vars ≤ f.new.vars) }
 {
     let gate = f.fresh();
     imply_each(f, gate, lits)?;

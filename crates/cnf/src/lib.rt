@@ -16,7 +16,8 @@ pub use division::divide_by;
 pub use formula::Formula;
 pub use gates::{and_gate, exactly_one};
 pub use laws::{
-    adder_law, and_gate_law, at_least_law, divide_by_law, exactly_one_law, forced_clause_follows,
+    adder_law, and_gate_law, at_least_law, divide_by_law, exactly_one_law, extends_law,
+    forced_clause_follows, values_law,
 };
 pub use ledger::{Bits, Clause, Ledger, NO_LIMIT};
 pub use lit::Lit;

@@ -189,6 +189,8 @@ pub fn adder(alloc: Global, f: &mut Formula, x: &Bits, y: &Bits) -> Result<Bits,
     requires room { (with_adder f.old x.now y.now).0.vars ≤ 2 ^ 30 }
     ensures formula { OnOk result (f.new ≡ (with_adder f.old x.now y.now).0) }
     ensures answer { IfOk result (λ sum. sum ≡ (with_adder f.old x.now y.now).1) }
+    ensures in_range { IfOk result (λ sum. IsTrue (are_below f.new.vars sum)) }
+    ensures grows { OnOk result (f.old.vars ≤ f.new.vars) }
 {
     Ok(Bits {
         bits: add_numbers(alloc, f, &x.bits, &y.bits)?,

@@ -1,6 +1,6 @@
 use Rattle.std.proofs.Common.{◌≤◌, arith}
 use Rattle.cnf.specs.Numbers.{with_at_least}
-use Rattle.cnf.proofs.DivisionCode.{at_least-below}
+use Rattle.cnf.proofs.RangeLemmas.{at_least-below}
 use Rattle.cnf.proofs.GrowLemmas.{at_least-grows, reduced-grows}
 use Rattle.cnf.proofs.LitLemmas.{are_below-mono}
 use Rattle.cnf.proofs.division.take_off.Goals as goal

@@ -6,6 +6,6 @@ pub returns : goal.returns
 returns c = record {
   extends = and_gate-extends;
   in_range = and_gate-below;
-  means = λ f lits vs s. and_gate-means f lits vs s.each_holds;
+  means = and_gate-means;
   size = and_gate-size;
 }
