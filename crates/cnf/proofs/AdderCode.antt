@@ -1,5 +1,5 @@
 -- The formula that the code of the adders leaves.
-use Rattle.std.proofs.Common.{◌≡◌, ◌+◌, ◌≤◌, ℕ, IsTrue, Option, None, List, [], ◌∷◌, ◌++◌, length, drop, get_or, ◌<◌, refl, sym, ap, ◌∙◌, arith}
+use Rattle.std.proofs.Common.{◌≡◌, ◌+◌, ◌≤◌, ℕ, IsTrue, Option, None, List, [], ◌∷◌, ◌++◌, length, drop, get_or, ◌<◌, sym, ap, ◌∙◌, arith}
 use Rattle.std.proofs.lemmas.List.{append_assoc, at_drop_more}
 use Rattle.cnf.specs.declared.lit.Lit.{Lit}
 use Rattle.cnf.specs.Cnf.{Cnf}
@@ -17,6 +17,7 @@ two_calls f g h i j a b one two first second =
   where
     make : ℕ → List (List Lit) → Cnf
     make n cs = record { vars = n; clauses = cs }
+
     sum_of : (n : ℕ) → n + 1 + 1 ≡ n + 2
     sum_of n = omega arith
 
@@ -56,9 +57,9 @@ next_column start f g all sums sums' carry carry' k d s b eg es ec =
     let rest = with_columns cell.formula cell.carry (drop (k + 1) all) in
     record {
       formula =
-        rw (eg, ec) (sym (at_drop_more (λ cs. (with_columns f carry cs).formula) all k d b) ∙ s.formula);
+          rw (eg, ec) (sym (at_drop_more (λ cs. (with_columns f carry cs).formula) all k d b) ∙ s.formula);
       sums_are =
-        rw (eg, ec, es) (append_assoc sums (cell.sum ∷ []) rest.sums ∙ (sym (ap (λ ls. sums ++ ls) (at_drop_more (λ cs. (with_columns f carry cs).sums) all k d b)) ∙ s.sums_are));
+          rw (eg, ec, es) (append_assoc sums (cell.sum ∷ []) rest.sums ∙ (sym (ap (λ ls. sums ++ ls) (at_drop_more (λ cs. (with_columns f carry cs).sums) all k d b)) ∙ s.sums_are));
       carry_is = rw (eg, ec) (sym (at_drop_more (λ cs. (with_columns f carry cs).carry) all k d b) ∙ s.carry_is);
       carry_below = rw (eg, ec) (cell_carry-below f x y carry);
       grows = let up = cell-grows f x y carry in let same = ap (λ h. h.vars) eg in omega (arith, s.grows, up, same);

@@ -1,14 +1,14 @@
 -- What half and full adders keep, allow and mean.
-use Rattle.std.proofs.Common.{◌≡◌, ◌+◌, ◌*◌, ◌<◌, ◌≤◌, ℕ, Bool, true, false, not, cond, eqb, ◌&&◌, ◌||◌, IsTrue, List, [], ◌∷◌, ◌++◌, Option, None, Some, refl, sym, ap, ◌∙◌, arith, length}
-use Rattle.std.specs.List.{list_all, list_any}
-use Rattle.std.proofs.lemmas.Bool.{and_parts, and_from, eqb-true, false≢true}
+use Rattle.std.proofs.Common.{◌≡◌, ◌+◌, ◌*◌, ◌≤◌, ℕ, Bool, true, false, not, eqb, ◌&&◌, ◌||◌, IsTrue, List, [], ◌∷◌, ◌++◌, Option, None, Some, refl, sym, ap, ◌∙◌, arith}
+use Rattle.std.specs.List.{list_all}
+use Rattle.std.proofs.lemmas.Bool.{and_parts, eqb-true, false≢true}
 use Rattle.cnf.specs.declared.lit.Lit.{Lit}
 use Rattle.cnf.specs.Cnf.{Cnf, is_in_range}
 use Rattle.cnf.specs.Gates.{Extends}
 use Rattle.cnf.specs.Lits.{negation, positive, is_below, are_below}
 use Rattle.cnf.specs.Sums.{bit, option_below, Cell, half_adder_clauses, full_adder_clauses, with_half_adder, with_full_adder, with_cell}
 use Rattle.cnf.specs.Values.{value, holds, all_hold}
-use Rattle.cnf.proofs.LitLemmas.{value-negation, value-positive, value-append, is_below-negation, is_below-positive, is_below-mono, pair_below, triple_below, quadruple_below, list_all-append-parts}
+use Rattle.cnf.proofs.LitLemmas.{value-negation, value-positive, value-append, is_below-negation, is_below-positive, is_below-mono, list_all-append-parts}
 use Rattle.cnf.proofs.ExtensionLemmas.{Extends-refl, extends-by, value-first, value-second}
 
 -- a test of every truth value
@@ -137,22 +137,21 @@ half-facts f x y r hx hy =
     let hc = is_below-positive n (f.vars + 1) (omega arith) in
     record {
       extends = extends-by f 2 (half_adder_clauses x y s c) r (half-below n x y s c (up x hx) (up y hy) hs hc) (λ vs e.
-        let a = value vs x in
-        let b = value vs y in
-        let more = xor a b ∷ (a && b) ∷ [] in
-        (
-          more,
-          refl,
-          half-value (vs ++ more) x y s c
-          ∙ (ap (λ v. half_table v (value (vs ++ more) y) (value (vs ++ more) s) (value (vs ++ more) c)) (value-append vs more x (rw e hx))
-          ∙ (ap (λ v. half_table a v (value (vs ++ more) s) (value (vs ++ more) c)) (value-append vs more y (rw e hy))
-          ∙ (ap (λ v. half_table a b v (value (vs ++ more) c)) (value-first vs ((a && b) ∷ []) (xor a b) f.vars e)
-          ∙ (ap (λ v. half_table a b (xor a b) v) (value-second vs [] (xor a b) (a && b) f.vars e) ∙ half-hold a b))))
-        ));
+          let a = value vs x in
+          let b = value vs y in
+          let more = xor a b ∷ (a && b) ∷ [] in (
+            more,
+            refl,
+            half-value (vs ++ more) x y s c
+                ∙ (ap (λ v. half_table v (value (vs ++ more) y) (value (vs ++ more) s) (value (vs ++ more) c)) (value-append vs more x (rw e hx))
+                ∙ (ap (λ v. half_table a v (value (vs ++ more) s) (value (vs ++ more) c)) (value-append vs more y (rw e hy))
+                ∙ (ap (λ v. half_table a b v (value (vs ++ more) c)) (value-first vs ((a && b) ∷ []) (xor a b) f.vars e)
+                ∙ (ap (λ v. half_table a b (xor a b) v) (value-second vs [] (xor a b) (a && b) f.vars e) ∙ half-hold a b)))),
+          ));
       sum_below = hs;
       carry_below = hc;
       means =
-        λ vs h.
+          λ vs h.
           let new = (list_all-append-parts (holds vs) f.clauses (half_adder_clauses x y s c) h).1 in
           half-mean (value vs x) (value vs y) (value vs s) (value vs c) (sym (half-value vs x y s c) ∙ new);
     }
@@ -168,26 +167,25 @@ full-facts f x y z r hx hy hz =
     let hc = is_below-positive n (f.vars + 1) (omega arith) in
     record {
       extends = extends-by f 2 (full_adder_clauses x y z s c) r (full-below n x y z s c (up x hx) (up y hy) (up z hz) hs hc) (λ vs e.
-        let a = value vs x in
-        let b = value vs y in
-        let d = value vs z in
-        let sum = xor a (xor b d) in
-        let most = majority a b d in
-        let more = sum ∷ most ∷ [] in
-        (
-          more,
-          refl,
-          full-value (vs ++ more) x y z s c
-          ∙ (ap (λ v. full_table v (value (vs ++ more) y) (value (vs ++ more) z) (value (vs ++ more) s) (value (vs ++ more) c)) (value-append vs more x (rw e hx))
-          ∙ (ap (λ v. full_table a v (value (vs ++ more) z) (value (vs ++ more) s) (value (vs ++ more) c)) (value-append vs more y (rw e hy))
-          ∙ (ap (λ v. full_table a b v (value (vs ++ more) s) (value (vs ++ more) c)) (value-append vs more z (rw e hz))
-          ∙ (ap (λ v. full_table a b d v (value (vs ++ more) c)) (value-first vs (most ∷ []) sum f.vars e)
-          ∙ (ap (λ v. full_table a b d sum v) (value-second vs [] sum most f.vars e) ∙ full-hold a b d)))))
-        ));
+          let a = value vs x in
+          let b = value vs y in
+          let d = value vs z in
+          let sum = xor a (xor b d) in
+          let most = majority a b d in
+          let more = sum ∷ most ∷ [] in (
+            more,
+            refl,
+            full-value (vs ++ more) x y z s c
+                ∙ (ap (λ v. full_table v (value (vs ++ more) y) (value (vs ++ more) z) (value (vs ++ more) s) (value (vs ++ more) c)) (value-append vs more x (rw e hx))
+                ∙ (ap (λ v. full_table a v (value (vs ++ more) z) (value (vs ++ more) s) (value (vs ++ more) c)) (value-append vs more y (rw e hy))
+                ∙ (ap (λ v. full_table a b v (value (vs ++ more) s) (value (vs ++ more) c)) (value-append vs more z (rw e hz))
+                ∙ (ap (λ v. full_table a b d v (value (vs ++ more) c)) (value-first vs (most ∷ []) sum f.vars e)
+                ∙ (ap (λ v. full_table a b d sum v) (value-second vs [] sum most f.vars e) ∙ full-hold a b d))))),
+          ));
       sum_below = hs;
       carry_below = hc;
       means =
-        λ vs h.
+          λ vs h.
           let new = (list_all-append-parts (holds vs) f.clauses (full_adder_clauses x y z s c) h).1 in
           full-mean (value vs x) (value vs y) (value vs z) (value vs s) (value vs c) (sym (full-value vs x y z s c) ∙ new);
     }

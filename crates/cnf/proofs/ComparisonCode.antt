@@ -1,5 +1,5 @@
 -- What the code of the comparison keeps from one digit to the next.
-use Rattle.std.proofs.Common.{◌≡◌, ◌+◌, ◌%◌, ◌/◌, ◌<◌, ◌≤◌, ℕ, Bool, true, false, cond, eqb, leb, not, ◌*◌, ◌^◌, inl, inr, IsTrue, List, [], ◌∷◌, length, get_or, drop, Option, None, Some, refl, sym, ap, ◌∙◌, arith}
+use Rattle.std.proofs.Common.{◌≡◌, ◌+◌, ◌%◌, ◌/◌, ◌<◌, ◌≤◌, ℕ, Bool, true, false, eqb, leb, not, ◌*◌, ◌^◌, inl, inr, IsTrue, List, [], ◌∷◌, length, get_or, drop, Option, None, Some, refl, sym, ap, ◌∙◌, arith}
 use Rattle.std.proofs.Math.Nat.{div-add-mod, mod-lt, div-eq_of_lt}
 use Rattle.std.proofs.Math.Pow.{pow_mono}
 use Rattle.std.proofs.lemmas.Bool.{cond-true, cond-false, cases_lt, cases_eq, lt-leb, le-leb, ne_eqb}
@@ -7,13 +7,12 @@ use Rattle.std.proofs.lemmas.List.{at_drop_more}
 use Rattle.std.proofs.lemmas.Nat.{pow_pos}
 use Rattle.cnf.specs.declared.lit.Lit.{Lit}
 use Rattle.cnf.specs.Cnf.{Cnf}
-use Rattle.cnf.specs.Gates.{with_and_gate, with_or_gate, with_false}
-use Rattle.cnf.specs.Lits.{is_below, are_below}
+use Rattle.cnf.specs.Gates.{with_false}
+use Rattle.cnf.specs.Lits.{is_below}
 use Rattle.cnf.specs.Numbers.{with_digit, with_compared_digit, with_comparison, with_found, with_at_least}
 use Rattle.cnf.specs.Sums.{option_below}
 use Rattle.cnf.proofs.GateLemmas.{and_gate-below, or_gate-below}
 use Rattle.cnf.proofs.GrowLemmas.{compared_digit-grows, comparison-grows}
-use Rattle.cnf.proofs.LitLemmas.{is_below-mono}
 
 digit-below : (f : Cnf) (one : Bool) (digit below : Lit) → IsTrue (is_below (with_digit f one digit below).0.vars (with_digit f one digit below).1)
 digit-below f true digit below = and_gate-below f (digit ∷ below ∷ [])
@@ -45,9 +44,9 @@ next_digit start f g all bound below below' rest k d s b h eg eb =
       outcome = rw (eg, eb) (sym (at_drop_more (λ ls. with_comparison f below ls rest) all k d b) ∙ s.outcome);
       in_range = rw (eg, eb) (compared_digit-below f below (get_or all k d) one h);
       grows =
-        let up = compared_digit-grows f below (get_or all k d) one in
-        let same = ap (λ h. h.vars) eg in
-        omega (arith, s.grows, up, same);
+          let up = compared_digit-grows f below (get_or all k d) one in
+          let same = ap (λ h. h.vars) eg in
+          omega (arith, s.grows, up, same);
     }
 
 pub out_of_reach : (f : Cnf) (x : List Lit) (bound : ℕ) → true ≡ leb (2 ^ length x) bound → with_at_least f x bound ≡ with_false f
@@ -62,7 +61,7 @@ within_reach f x bound h = cond-false (leb (2 ^ length x) bound) _ _ (sym h)
 pub nothing_left : (bound digits : ℕ) → not (eqb (bound / 2 ^ digits) 0) ≡ leb (2 ^ digits) bound
 nothing_left bound digits =
     elim (cases_lt bound (2 ^ digits)) [
-        inl h ↦
+      | inl h ↦
           let none : bound / 2 ^ digits ≡ 0 = div-eq_of_lt h in
           rw none (sym (lt-leb (2 ^ digits) bound h))
       | inr h ↦
@@ -73,7 +72,7 @@ nothing_left bound digits =
     one_fits : (n p : ℕ) → 0 < p → p ≤ n → 1 ≤ n / p
     one_fits n p pos h =
         elim (cases_eq (n / p) 0) [
-            inl z ↦
+          | inl z ↦
               let whole = div-add-mod n p in
               let small = mod-lt n pos in
               let none : p * (n / p) ≡ 0 = rw z (omega arith) in

@@ -1,11 +1,10 @@
 -- What the comparison with a constant keeps, allows and means.
-use Rattle.std.proofs.Common.{◌≡◌, ◌+◌, ◌*◌, ◌/◌, ◌%◌, ◌^◌, ◌<◌, ◌≤◌, ◌⊎◌, ℕ, suc, Bool, true, false, cond, eqb, leb, ◌&&◌, ◌||◌, IsTrue, MatchBool, List, [], ◌∷◌, ◌++◌, Option, None, Some, length, refl, sym, ap, ◌∙◌, subst, inl, inr, zero-add, arith}
+use Rattle.std.proofs.Common.{◌≡◌, ◌+◌, ◌*◌, ◌/◌, ◌%◌, ◌^◌, ◌<◌, ◌≤◌, ℕ, suc, Bool, true, false, cond, eqb, leb, ◌&&◌, ◌||◌, IsTrue, MatchBool, List, [], ◌∷◌, Option, None, Some, length, refl, sym, ◌∙◌, subst, inl, inr, arith}
 use Rattle.std.proofs.Math.Nat.{pow-suc}
-use Rattle.std.specs.List.{list_all}
-use Rattle.std.proofs.lemmas.Bool.{and_parts, and_from, cases_Bool, cases_lt, cond-true, cond-false, eqb-true, eqb-false, le-leb, lt-leb}
+use Rattle.std.proofs.lemmas.Bool.{and_parts, cases_lt, cond-true, cond-false, eqb-true, eqb-false, le-leb, lt-leb}
 use Rattle.cnf.specs.declared.lit.Lit.{Lit}
 use Rattle.cnf.specs.Cnf.{Cnf, is_in_range}
-use Rattle.cnf.specs.Gates.{Extends, with_and_gate, with_or_gate, with_true, with_false}
+use Rattle.cnf.specs.Gates.{Extends, with_true, with_false}
 use Rattle.cnf.specs.Lits.{is_below, are_below}
 use Rattle.cnf.specs.Numbers.{with_digit, with_compared_digit, with_comparison, with_found, with_at_least}
 use Rattle.cnf.specs.Sums.{bit, number, option_below}
@@ -13,7 +12,6 @@ use Rattle.cnf.specs.Values.{value, all_hold}
 use Rattle.cnf.proofs.LitLemmas.{are_below-mono, pair_below}
 use Rattle.cnf.proofs.ExtensionLemmas.{Extends-refl, Extends-trans, kept-hold}
 use Rattle.cnf.proofs.GateLemmas.{and_gate-extends, and_gate-below, and_gate-means, or_gate-extends, or_gate-below, or_gate-means, true-extends, true-below, true-means, false-extends, false-below, false-means}
-
 
 -- None stands for "true"
 abbrev pub found_value : List Bool → Option Lit → Bool
@@ -55,7 +53,7 @@ digit-facts f true digit below r h k = record {
   extends = and_gate-extends f (digit ∷ below ∷ []) r (pair_below f.vars digit below h k);
   in_range = and_gate-below f (digit ∷ below ∷ []);
   means =
-    λ vs m. and_gate-means f (digit ∷ below ∷ []) vs m ∙ both_true (value vs digit) (value vs below);
+      λ vs m. and_gate-means f (digit ∷ below ∷ []) vs m ∙ both_true (value vs digit) (value vs below);
 }
 digit-facts f false digit below r h k = record {
   extends = or_gate-extends f digit below r h k;
@@ -105,7 +103,7 @@ then_others f below digit digits bound s r one rest = record {
   extends = Extends-trans f s.0 r.0 one.extends rest.extends;
   in_range = rest.in_range;
   means =
-    λ vs h.
+      λ vs h.
       let first = one.means vs (kept-hold s.0 r.0 vs rest.extends h) in
       digit_up (value vs digit) (found_value vs below) (number vs digits) bound (eqb (bound % 2) 1) refl (found_value vs r.1) (subst (λ b. Compared (found_value vs r.1) (bound / 2) (number vs digits + bit b)) first (rest.means vs h));
 }
@@ -150,7 +148,7 @@ found-facts f g None x bound c = record {
   extends = Extends-trans f g (with_true g).0 c.extends (true-extends g c.extends.in_range);
   below = true-below g;
   means =
-    λ vs h.
+      λ vs h.
       let old = c.means vs (kept-hold g (with_true g).0 vs (true-extends g c.extends.in_range) h) in
       let yes : bound ≤ number vs x = omega arith in
       subst (λ b. MatchBool b (bound ≤ number vs x) (number vs x < bound)) (sym (true-means g vs h)) yes;
@@ -172,7 +170,7 @@ within f x bound h = cond-false (leb (2 ^ length x) bound) _ _ (lt-leb _ _ h)
 pub at_least-facts : (f : Cnf) (x : List Lit) (bound : ℕ) → IsTrue (is_in_range f) → IsTrue (are_below f.vars x) → AtLeastFacts f x bound (with_at_least f x bound)
 at_least-facts f x bound r hx =
     elim (cases_lt bound (2 ^ length x)) [
-        inl h ↦
+      | inl h ↦
           let c = with_comparison f None x bound in
           subst (λ a. AtLeastFacts f x bound a) (sym (within f x bound h)) (found-facts f c.0 c.1 x bound (comparison-facts f None x bound r refl hx h))
       | inr h ↦
@@ -180,7 +178,7 @@ at_least-facts f x bound r hx =
             extends = false-extends f r;
             below = false-below f;
             means =
-              λ vs k.
+                λ vs k.
                 let small = number-lt vs x in
                 let no : number vs x < bound = omega arith in
                 subst (λ b. MatchBool b (bound ≤ number vs x) (number vs x < bound)) (sym (false-means f vs k)) no;

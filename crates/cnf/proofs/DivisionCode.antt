@@ -1,18 +1,13 @@
 -- What the code of the division keeps from one digit to the next.
-use Rattle.std.proofs.Common.{◌≡◌, ◌+◌, ◌-◌, ◌%◌, ◌/◌, ◌^◌, ◌<◌, ◌≤◌, ℕ, zero, suc, Bool, true, false, cond, eqb, leb, ltb, ◌&&◌, IsTrue, Option, None, Some, List, [], ◌∷◌, ◌++◌, length, get_or, take, drop, reverse, refl, sym, ap, ◌∙◌, arith}
-use Rattle.std.proofs.lemmas.Bool.{and_parts, and_from}
+use Rattle.std.proofs.Common.{◌≡◌, ◌+◌, ◌<◌, ◌≤◌, ℕ, zero, suc, IsTrue, List, [], ◌∷◌, ◌++◌, length, get_or, drop, reverse, sym, ap, ◌∙◌, arith}
+use Rattle.std.proofs.lemmas.Bool.{and_from}
 use Rattle.std.proofs.lemmas.List.{at_drop_more, reverse-append}
 use Rattle.cnf.specs.declared.lit.Lit.{Lit}
 use Rattle.cnf.specs.Cnf.{Cnf}
-use Rattle.cnf.specs.Gates.{with_false}
-use Rattle.cnf.specs.Lits.{is_below, are_below}
-use Rattle.cnf.specs.Numbers.{with_compared_digit, with_comparison, with_found, with_at_least, remainder_digits, scaled_columns, with_reduced, Divided, with_next_digit, with_division}
-use Rattle.cnf.specs.Sums.{option_below, columns_below, with_half_adder, with_full_adder, with_cell, with_columns}
-use Rattle.cnf.proofs.ComparisonCode.{compared_digit-below}
-use Rattle.cnf.proofs.DivisionLemmas.{scaled-below}
-use Rattle.cnf.proofs.GateLemmas.{true-below, false-below}
-use Rattle.cnf.proofs.GrowLemmas.{cell-grows, columns-grows, compared_digit-grows, at_least-grows, reduced-grows, next_digit-grows}
-use Rattle.cnf.proofs.LitLemmas.{is_below-positive, is_below-mono, are_below-mono, are_below-take, are_below-get}
+use Rattle.cnf.specs.Lits.{are_below}
+use Rattle.cnf.specs.Numbers.{with_at_least, with_reduced, Divided, with_next_digit, with_division}
+use Rattle.cnf.proofs.GrowLemmas.{at_least-grows, reduced-grows, next_digit-grows}
+use Rattle.cnf.proofs.LitLemmas.{is_below-mono, are_below-mono, are_below-get}
 use Rattle.cnf.proofs.RangeLemmas.{at_least-below, reduced-below}
 
 -- the digits from k on are divided
@@ -58,16 +53,16 @@ digit_done start f g x by j d quotient quotient' remainder remainder' number fit
     record {
       formula = code.0 ∙ (rw (e, s.formula, s.remainder_is) (sym (ap (λ r. r.formula) more)));
       quotient_is =
-        ap reverse eq
-        ∙ (reverse-append quotient (fits ∷ [])
-        ∙ (ap (λ l. l ∷ reverse quotient) code.1
-        ∙ (ap (λ ls. a.1 ∷ ls) s.quotient_is
-        ∙ rw (e, s.formula, s.remainder_is) (sym (ap (λ r. r.quotient) more)))));
+          ap reverse eq
+          ∙ (reverse-append quotient (fits ∷ [])
+          ∙ (ap (λ l. l ∷ reverse quotient) code.1
+          ∙ (ap (λ ls. a.1 ∷ ls) s.quotient_is
+          ∙ rw (e, s.formula, s.remainder_is) (sym (ap (λ r. r.quotient) more)))));
       remainder_is = code.2 ∙ (rw (e, s.formula, s.remainder_is) (sym (ap (λ r. r.remainder) more)));
       in_range =
-        rw (code.0, code.2) (reduced-below a.0 a.1 number by (at_least-below f number by number_below) later);
+          rw (code.0, code.2) (reduced-below a.0 a.1 number by (at_least-below f number by number_below) later);
       grows =
-        let more_up = reduced-grows a.0 a.1 number by in
-        let same = ap (λ k. k.vars) code.0 in
-        omega (arith, s.grows, up, more_up, same);
+          let more_up = reduced-grows a.0 a.1 number by in
+          let same = ap (λ k. k.vars) code.0 in
+          omega (arith, s.grows, up, more_up, same);
     }

@@ -1,12 +1,11 @@
 -- What school division keeps, allows and means.
-use Rattle.std.proofs.Common.{◌≡◌, ◌+◌, ◌-◌, ◌*◌, ◌/◌, ◌%◌, ◌^◌, ◌<◌, ◌≤◌, ◌⊎◌, ℕ, zero, suc, min, Bool, true, false, cond, eqb, ltb, ◌&&◌, IsTrue, MatchBool, List, [], ◌∷◌, ◌++◌, Option, None, Some, length, take, drop, refl, sym, ap, ◌∙◌, subst, inl, inr, zero-add, arith}
-use Rattle.std.proofs.Math.Nat.{pow-suc, mul-suc, add_comm}
+use Rattle.std.proofs.Common.{◌≡◌, ◌+◌, ◌-◌, ◌*◌, ◌/◌, ◌%◌, ◌^◌, ◌<◌, ◌≤◌, ℕ, zero, suc, Bool, true, false, cond, eqb, ltb, IsTrue, MatchBool, List, [], ◌∷◌, None, Some, length, take, drop, refl, sym, ap, ◌∙◌, subst, inl, inr, zero-add, arith}
+use Rattle.std.proofs.Math.Nat.{pow-suc, mul-suc}
 use Rattle.std.proofs.Math.Pow.{pow_mono}
-use Rattle.std.specs.List.{list_all}
 use Rattle.std.specs.Int.Count.{count_leading_zeros}
-use Rattle.std.proofs.lemmas.Bool.{and_parts, and_from, cases_Bool, cases_eq, cases_lt, cond-true, cond-false, eqb-true, eqb-false, lt-ltb, le-ltb}
-use Rattle.std.proofs.lemmas.List.{length-take, take-append-drop}
-use Rattle.std.proofs.lemmas.Nat.{pow_pos, div-mul-add, mod-mul-add}
+use Rattle.std.proofs.lemmas.Bool.{and_parts, and_from, cases_eq, cases_lt, cond-true, cond-false, eqb-true, eqb-false, lt-ltb, le-ltb}
+use Rattle.std.proofs.lemmas.List.{length-take}
+use Rattle.std.proofs.lemmas.Nat.{div-mul-add, mod-mul-add}
 use lib.Count.{leading_top, leading_of_zero}
 use Rattle.cnf.specs.declared.lit.Lit.{Lit}
 use Rattle.cnf.specs.Cnf.{Cnf, is_in_range}
@@ -26,7 +25,7 @@ pub digits-over : (by : ℕ) → 0 < by → by < 2 ^ 32 → by ≤ 2 ^ remainder
 unfolding remainder_digits
 digits-over by pos small =
     elim (cases_eq by 1) [
-        inl one ↦
+      | inl one ↦
           let none : by - 1 ≡ 0 = omega arith in
           let all : 32 - count_leading_zeros 32 (by - 1) ≡ 0 = rw (none, leading_of_zero) refl in
           rw (all, one) (omega arith)
@@ -40,7 +39,7 @@ digits-under : (by n : ℕ) → 0 < by → by < 2 ^ 32 → n < remainder_digits 
 unfolding remainder_digits
 digits-under by n pos small h =
     elim (cases_eq by 1) [
-        inl one ↦
+      | inl one ↦
           let none : by - 1 ≡ 0 = omega arith in
           let all : count_leading_zeros 32 (by - 1) ≡ 32 = rw none (leading_of_zero 32) in
           absurd (omega arith)
@@ -139,7 +138,7 @@ few-facts f fits x by r hx pos small h = record {
   below = hx;
   digits = omega arith;
   means =
-    λ vs k twice m.
+      λ vs k twice m.
       let under = digits-under by (length x) pos small h in
       let lt = number-lt vs x in
       nothing_taken (value vs fits) (number vs x) (omega arith) m;
@@ -162,7 +161,7 @@ many-facts f fits x by n r hf hx pos over same h =
       below = s.sums_below;
       digits = omega arith;
       means =
-        λ vs k twice m.
+          λ vs k twice m.
           let factor : 2 ^ n - by < 2 ^ length (take n x) = rw short (omega arith) in
           let total = s.means vs k ∙ (zero-add _ ∙ scaled-number vs fits (2 ^ n - by) (take n x) factor) in
           let sums : number vs sum.sums + 2 ^ n * option_bit vs sum.carry ≡ number vs (take n x) + bit (value vs fits) * (2 ^ n - by) = rw columns at total in
@@ -173,7 +172,7 @@ many-facts f fits x by n r hf hx pos over same h =
 pub reduced-facts : (f : Cnf) (fits : Lit) (x : List Lit) (by : ℕ) → IsTrue (is_in_range f) → IsTrue (is_below f.vars fits) → IsTrue (are_below f.vars x) → 0 < by → by < 2 ^ 32 → ReducedFacts f fits x by (with_reduced f fits x by)
 reduced-facts f fits x by r hf hx pos small =
     elim (cases_lt (length x) (remainder_digits by)) [
-        inl h ↦
+      | inl h ↦
           subst (λ a. ReducedFacts f fits x by a) (sym (few f fits x by h)) (few-facts f fits x by r hx pos small h)
       | inr h ↦
           subst (λ a. ReducedFacts f fits x by a) (sym (many f fits x by h)) (many-facts f fits x by (remainder_digits by) r hf hx pos (digits-over by pos small) refl h)
@@ -214,23 +213,22 @@ next-facts f digit digits by d hd pos small old =
     let up = are_below-mono fits.0.vars rest.0.vars r.extends.more_vars in
     record {
       extends =
-        Extends-trans f d.formula rest.0 old.extends (Extends-trans d.formula fits.0 rest.0 a.extends r.extends);
+          Extends-trans f d.formula rest.0 old.extends (Extends-trans d.formula fits.0 rest.0 a.extends r.extends);
       quotient_below =
-        and_from _ _ (is_below-mono fits.0.vars rest.0.vars r.extends.more_vars fits.1 a.below) (up d.quotient (later d.quotient old.quotient_below));
+          and_from _ _ (is_below-mono fits.0.vars rest.0.vars r.extends.more_vars fits.1 a.below) (up d.quotient (later d.quotient old.quotient_below));
       remainder_below = r.below;
       quotient_digits = ap suc old.quotient_digits;
       remainder_digits_at_most = r.digits;
       means =
-        λ vs h.
+          λ vs h.
           let h_fits = kept-hold fits.0 rest.0 vs r.extends h in
           let before = old.means vs (kept-hold d.formula fits.0 vs a.extends h_fits) in
           let compared = a.means vs h_fits in
           let one = bit_le (value vs digit) in
           let twice : number vs x < 2 * by = omega (arith, before.1) in
-          let taken = r.means vs h twice compared in
-          (
+          let taken = r.means vs h twice compared in (
             one_digit (value vs digit) (value vs fits.1) (number vs digits) (number vs d.quotient) (number vs d.remainder) by (number vs rest.1) before.0 taken,
-            rem_below (value vs fits.1) (number vs x) by (number vs rest.1) taken twice compared
+            rem_below (value vs fits.1) (number vs x) by (number vs rest.1) taken twice compared,
           );
     }
 

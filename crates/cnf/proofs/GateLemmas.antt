@@ -1,5 +1,5 @@
 -- What the gates on literals keep, allow and mean.
-use Rattle.std.proofs.Common.{◌≡◌, ◌+◌, ◌<◌, ◌≤◌, ◌⊎◌, ◌↔◌, ℕ, suc, Bool, true, false, not, cond, ◌&&◌, ◌||◌, IsTrue, List, [], ◌∷◌, ◌++◌, map, length, refl, sym, ap, ◌∙◌, inl, inr, arith}
+use Rattle.std.proofs.Common.{◌≡◌, ◌+◌, ◌≤◌, ◌⊎◌, ◌↔◌, ℕ, Bool, true, false, not, cond, ◌&&◌, ◌||◌, IsTrue, List, [], ◌∷◌, ◌++◌, map, length, refl, sym, ap, ◌∙◌, inl, inr, arith}
 use Rattle.std.specs.Prelude.{count_by}
 use Rattle.std.specs.List.{list_all, list_any}
 use Rattle.std.proofs.lemmas.Bool.{and_parts, and_from, cases_Bool, cases_eq, false≢true, or_from, or_left, or_right, or_parts}
@@ -237,7 +237,7 @@ none-count : (vs : List Bool) (ls : List Lit) → count_by (value vs) ls ≡ 0 �
 none-count vs [] h = refl
 none-count vs (l ∷ ls) h =
     elim (cases_Bool (value vs l)) [
-        inl t ↦ absurd (omega (arith, count-cons vs l ls, h, ap digit t))
+      | inl t ↦ absurd (omega (arith, count-cons vs l ls, h, ap digit t))
       | inr e ↦ or_from (value vs l) (list_any (value vs) ls) e (none-count vs ls (omega (arith, count-cons vs l ls, h, ap digit e)))
     ]
 
@@ -247,7 +247,7 @@ not_both-count vs (l ∷ ls) h =
     let parts = list_all-append-parts (holds vs) (map (λ m. negation l ∷ negation m ∷ []) ls) (not_both ls) h in
     let first = sym (not_with-value vs l ls) ∙ parts.0 in
     elim (cases_Bool (value vs l)) [
-        inl t ↦
+      | inl t ↦
           let none : list_any (value vs) ls ≡ false = alone (value vs l) (list_any (value vs) ls) t first in
           omega (arith, count-cons vs l ls, ap digit t, count-none vs ls none)
       | inr e ↦ omega (arith, count-cons vs l ls, ap digit e, not_both-count vs ls parts.1)
@@ -273,7 +273,7 @@ exactly_one-count : (vs : List Bool) (ls : List Lit) → IsTrue (all_hold vs (ls
 exactly_one-count vs ls h =
     let parts = and_parts (holds vs ls) (all_hold vs (not_both ls)) h in
     elim (cases_eq (count_by (value vs) ls) 0) [
-        inl z ↦ absurd (false≢true (sym (none-count vs ls z) ∙ parts.0))
+      | inl z ↦ absurd (false≢true (sym (none-count vs ls z) ∙ parts.0))
       | inr n ↦ omega (arith, n, not_both-count vs ls parts.1)
     ]
 
@@ -289,9 +289,9 @@ pub exactly_one-means : (f : Cnf) (ls : List Lit) (vs : List Bool) → IsTrue (a
 unfolding with_exactly_one
 exactly_one-means f ls vs = (
   λ h.
-    let parts = list_all-append-parts (holds vs) f.clauses (ls ∷ not_both ls) h in
-    (parts.0, exactly_one-count vs ls parts.1),
-  λ h. list_all-append-from (holds vs) f.clauses (ls ∷ not_both ls) h.0 (count-exactly_one vs ls h.1)
+      let parts = list_all-append-parts (holds vs) f.clauses (ls ∷ not_both ls) h in
+      (parts.0, exactly_one-count vs ls parts.1),
+  λ h. list_all-append-from (holds vs) f.clauses (ls ∷ not_both ls) h.0 (count-exactly_one vs ls h.1),
 )
 
 exactly_one-vars : (f : Cnf) (ls : List Lit) → (with_exactly_one f ls).vars ≡ f.vars
@@ -301,11 +301,10 @@ exactly_one-vars f ls = refl
 pub exactly_one-satisfied : (f : Cnf) (ls : List Lit) (vs : List Bool) → Satisfies vs (with_exactly_one f ls) ↔ (Satisfies vs f × (count_by (value vs) ls ≡ 1))
 exactly_one-satisfied f ls vs =
     let m = exactly_one-means f ls vs in
-    let v = exactly_one-vars f ls in
-    (
+    let v = exactly_one-vars f ls in (
       λ s.
-        let parts = m.0 s.each_holds in (record { one_each = s.one_each ∙ v; each_holds = parts.0 }, parts.1),
-      λ s. record { one_each = s.0.one_each ∙ sym v; each_holds = m.1 (s.0.each_holds, s.1) }
+          let parts = m.0 s.each_holds in (record { one_each = s.one_each ∙ v; each_holds = parts.0 }, parts.1),
+      λ s. record { one_each = s.0.one_each ∙ sym v; each_holds = m.1 (s.0.each_holds, s.1) },
     )
 
 not_with-below : (n : ℕ) (l : Lit) (ls : List Lit) → IsTrue (is_below n l) → IsTrue (are_below n ls) → IsTrue (list_all (are_below n) (map (λ m. negation l ∷ negation m ∷ []) ls))

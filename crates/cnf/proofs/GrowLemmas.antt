@@ -1,9 +1,8 @@
 -- No step of a gate has more variables than the gate's formula.
-use Rattle.std.proofs.Common.{◌≡◌, ◌+◌, ◌-◌, ◌^◌, ◌<◌, ◌≤◌, ◌⊎◌, ℕ, ◌%◌, ◌/◌, Bool, true, false, cond, eqb, leb, ltb, IsTrue, List, [], ◌∷◌, ◌++◌, Option, None, Some, length, take, drop, refl, sym, ap, ◌∙◌, subst, inl, inr, arith}
-use Rattle.std.proofs.lemmas.Bool.{cases_lt}
+use Rattle.std.proofs.Common.{◌≡◌, ◌+◌, ◌-◌, ◌^◌, ◌≤◌, ℕ, ◌%◌, ◌/◌, Bool, true, false, cond, eqb, leb, ltb, IsTrue, List, [], ◌∷◌, Option, None, Some, length, take, refl, arith}
 use Rattle.cnf.specs.declared.lit.Lit.{Lit}
 use Rattle.cnf.specs.Cnf.{Cnf}
-use Rattle.cnf.specs.Gates.{with_fresh, with_clauses, with_and_gate, with_or_gate, with_true, with_false}
+use Rattle.cnf.specs.Gates.{with_and_gate, with_or_gate, with_true, with_false}
 use Rattle.cnf.specs.Numbers.{with_digit, with_compared_digit, with_comparison, with_found, with_at_least, remainder_digits, scaled_columns, with_reduced, Divided, with_next_digit, with_division}
 use Rattle.cnf.specs.Sums.{with_half_adder, with_full_adder, with_cell, with_columns, columns, with_carry, with_adder, option_below}
 use Rattle.cnf.proofs.LitLemmas.{is_below-positive}

@@ -12,5 +12,6 @@ pub mod LayoutLemmas
 pub mod LitLemmas
 pub mod PropagationLemmas
 pub mod RangeLemmas
+pub mod Rooms
 pub mod SizeLemmas
 pub mod SumLemmas

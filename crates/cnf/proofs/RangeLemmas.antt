@@ -1,7 +1,6 @@
 -- The literals that the gates give have variables of their formulas.
-use Rattle.std.proofs.Common.{◌≡◌, ◌+◌, ◌-◌, ◌%◌, ◌/◌, ◌^◌, ◌<◌, ◌≤◌, ℕ, zero, suc, Bool, true, false, cond, eqb, leb, ltb, ◌&&◌, IsTrue, Option, None, Some, List, [], ◌∷◌, ◌++◌, length, get_or, take, drop, reverse, refl, sym, ap, ◌∙◌, arith}
+use Rattle.std.proofs.Common.{◌+◌, ◌-◌, ◌%◌, ◌/◌, ◌^◌, ℕ, Bool, true, false, cond, eqb, leb, ltb, ◌&&◌, IsTrue, Option, None, Some, List, [], ◌∷◌, length, take, refl, arith}
 use Rattle.std.proofs.lemmas.Bool.{and_parts, and_from}
-use Rattle.std.proofs.lemmas.List.{at_drop_more, reverse-append}
 use Rattle.cnf.specs.declared.lit.Lit.{Lit}
 use Rattle.cnf.specs.Cnf.{Cnf}
 use Rattle.cnf.specs.Gates.{with_false}
@@ -11,8 +10,8 @@ use Rattle.cnf.specs.Sums.{option_below, columns_below, with_half_adder, with_fu
 use Rattle.cnf.proofs.ComparisonCode.{compared_digit-below}
 use Rattle.cnf.proofs.DivisionLemmas.{scaled-below}
 use Rattle.cnf.proofs.GateLemmas.{true-below, false-below}
-use Rattle.cnf.proofs.GrowLemmas.{cell_carry-below, carry-grows, cell-grows, columns-grows, compared_digit-grows, at_least-grows, reduced-grows, next_digit-grows, division-grows}
-use Rattle.cnf.proofs.LitLemmas.{is_below-positive, is_below-mono, are_below-mono, are_below-take, are_below-get, list_all-append-from}
+use Rattle.cnf.proofs.GrowLemmas.{cell_carry-below, carry-grows, cell-grows, columns-grows, compared_digit-grows, at_least-grows, reduced-grows, division-grows}
+use Rattle.cnf.proofs.LitLemmas.{is_below-positive, is_below-mono, are_below-mono, are_below-take, list_all-append-from}
 use Rattle.cnf.proofs.SumLemmas.{columns_below-mono, columns_below-both}
 
 -- the literals that the parts give have variables of the formula
@@ -74,7 +73,6 @@ reduced-below f fits x by hf hx =
     let sum = with_columns f None cs in
     by_length (ltb (length x) n) (f, x) (sum.formula, sum.sums) hx (sums-below f None cs (scaled-below f.vars fits (2 ^ n - by) (take n x) hf (are_below-take f.vars n x hx)))
 
-
 columns_carry-below : (f : Cnf) (carry : Option Lit) (cs : List (Lit × Option Lit)) → IsTrue (option_below f.vars carry) → IsTrue (option_below (with_columns f carry cs).formula.vars (with_columns f carry cs).carry)
 columns_carry-below f carry [] h = h
 columns_carry-below f carry (c ∷ cs) h =
@@ -111,7 +109,7 @@ next-below d digit by h old =
     let more_up = reduced-grows fits.0 fits.1 x by in
     record {
       quotient_below =
-        and_from _ _ (is_below-mono fits.0.vars rest.0.vars more_up fits.1 fits_below) (are_below-mono d.formula.vars rest.0.vars (omega arith) d.quotient old.quotient_below);
+          and_from _ _ (is_below-mono fits.0.vars rest.0.vars more_up fits.1 fits_below) (are_below-mono d.formula.vars rest.0.vars (omega arith) d.quotient old.quotient_below);
       remainder_below = reduced-below fits.0 fits.1 x by fits_below (are_below-mono d.formula.vars fits.0.vars up x hx);
     }
 

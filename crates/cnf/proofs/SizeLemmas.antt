@@ -1,11 +1,10 @@
 -- How many variables and clauses the gates add at most.
-use Rattle.std.proofs.Common.{◌≡◌, ◌+◌, ◌-◌, ◌*◌, ◌%◌, ◌/◌, ◌^◌, ◌<◌, ◌≤◌, ℕ, suc, max, min, Bool, true, false, cond, eqb, leb, ltb, List, [], ◌∷◌, ◌++◌, map, Option, None, Some, length, take, refl, sym, ap, ◌∙◌, subst, inl, inr, arith}
-use Rattle.std.proofs.Math.Nat.{mul-le-mul_left}
+use Rattle.std.proofs.Common.{◌≡◌, ◌+◌, ◌-◌, ◌*◌, ◌%◌, ◌/◌, ◌^◌, ◌≤◌, ℕ, suc, max, Bool, true, false, cond, eqb, leb, List, [], ◌∷◌, ◌++◌, map, Option, None, Some, length, take, refl, sym, ap, ◌∙◌, subst, inl, inr, arith}
 use Rattle.std.proofs.lemmas.Bool.{cases_lt}
 use Rattle.std.proofs.lemmas.List.{length-append, length-map, length-take}
 use Rattle.cnf.specs.declared.lit.Lit.{Lit}
 use Rattle.cnf.specs.Cnf.{Cnf}
-use Rattle.cnf.specs.Gates.{GrowsBy, with_clauses, not_both, all_clauses, with_exactly_one, with_and_gate, with_or_gate, with_true, with_false}
+use Rattle.cnf.specs.Gates.{GrowsBy, not_both, all_clauses, with_exactly_one, with_and_gate, with_or_gate, with_true, with_false}
 use Rattle.cnf.specs.Lits.{negation, positive}
 use Rattle.cnf.specs.Numbers.{with_digit, with_compared_digit, with_comparison, with_found, with_at_least, remainder_digits, scaled_columns, with_reduced, Divided, with_next_digit, with_division}
 use Rattle.cnf.specs.Sums.{half_adder_clauses, full_adder_clauses, with_half_adder, with_full_adder, with_cell, with_columns, columns, with_carry, with_adder}
@@ -163,7 +162,7 @@ reduced-size : (f : Cnf) (fits : Lit) (x : List Lit) (by : ℕ) → GrowsBy f (w
 reduced-size f fits x by =
     let n = remainder_digits by in
     elim (cases_lt (length x) n) [
-        inl h ↦
+      | inl h ↦
           subst (λ r. GrowsBy f r.0 (2 * n) (20 * n)) (sym (few f fits x by h)) (GrowsBy-more f f 0 0 (2 * n) (20 * n) (omega arith) (omega arith) (GrowsBy-none f))
       | inr h ↦
           let cs = scaled_columns fits (2 ^ n - by) (take n x) in
@@ -177,7 +176,7 @@ reduced-length : (f : Cnf) (fits : Lit) (x : List Lit) (by : ℕ) → length (wi
 reduced-length f fits x by =
     let n = remainder_digits by in
     elim (cases_lt (length x) n) [
-        inl h ↦ subst (λ r. length r.1 ≤ n) (sym (few f fits x by h)) (omega arith)
+      | inl h ↦ subst (λ r. length r.1 ≤ n) (sym (few f fits x by h)) (omega arith)
       | inr h ↦
           let cs = scaled_columns fits (2 ^ n - by) (take n x) in
           let places : length cs ≡ n = omega (arith, length-scaled fits (2 ^ n - by) (take n x), length-take n x) in

@@ -1,19 +1,18 @@
 -- What the sum of columns and the adder keep, allow and mean.
-use Rattle.std.proofs.Common.{◌≡◌, ◌+◌, ◌*◌, ◌^◌, ◌<◌, ◌≤◌, ℕ, suc, max, Bool, true, false, ◌&&◌, IsTrue, List, [], ◌∷◌, ◌++◌, Option, None, Some, length, refl, sym, ap, ◌∙◌, zero-add, arith}
+use Rattle.std.proofs.Common.{◌≡◌, ◌+◌, ◌*◌, ◌^◌, ◌≤◌, ℕ, suc, max, Bool, true, ◌&&◌, IsTrue, List, [], ◌∷◌, ◌++◌, Option, None, Some, length, refl, ap, ◌∙◌, zero-add, arith}
 use Rattle.std.proofs.Math.Nat.{pow-suc}
-use Rattle.std.specs.List.{list_all}
 use Rattle.std.proofs.lemmas.Bool.{and_parts, and_from}
 use Rattle.std.proofs.lemmas.List.{length-append}
 use Rattle.cnf.specs.declared.lit.Lit.{Lit}
 use Rattle.cnf.specs.Cnf.{Cnf, is_in_range}
-use Rattle.cnf.specs.Gates.{Extends, with_false}
+use Rattle.cnf.specs.Gates.{Extends}
 use Rattle.cnf.specs.Lits.{is_below, are_below}
-use Rattle.cnf.specs.Sums.{bit, number, option_below, columns_below, Cell, Sums, with_cell, with_columns, columns, with_carry, with_adder}
+use Rattle.cnf.specs.Sums.{bit, number, option_below, columns_below, Sums, with_cell, with_columns, columns, with_carry, with_adder}
 use Rattle.cnf.specs.Values.{value, all_hold}
 use Rattle.cnf.proofs.LitLemmas.{is_below-mono, are_below-mono, list_all-append-from}
 use Rattle.cnf.proofs.ExtensionLemmas.{Extends-refl, Extends-trans, kept-hold}
 use Rattle.cnf.proofs.GateLemmas.{false-extends, false-below, false-means}
-use Rattle.cnf.proofs.CellLemmas.{option_bit, option_below-mono, CellFacts, cell-facts}
+use Rattle.cnf.proofs.CellLemmas.{option_bit, option_below-mono, cell-facts}
 
 -- what columns add up to, and their range
 abbrev pub columns_number : List Bool → List (Lit × Option Lit) → ℕ
@@ -59,11 +58,11 @@ columns-facts f carry (c ∷ cs) r hc hs =
     record {
       extends = Extends-trans f cell.formula rest.formula one.extends others.extends;
       sums_below =
-        and_from _ _ (is_below-mono cell.formula.vars rest.formula.vars others.extends.more_vars cell.sum one.sum_below) others.sums_below;
+          and_from _ _ (is_below-mono cell.formula.vars rest.formula.vars others.extends.more_vars cell.sum one.sum_below) others.sums_below;
       carry_below = others.carry_below;
       sums_length = ap suc others.sums_length;
       means =
-        λ vs h.
+          λ vs h.
           let first = one.means vs (kept-hold cell.formula rest.formula vs others.extends h) in
           let after = others.means vs h in
           rw pow-suc (digits (bit (value vs cell.sum)) (option_bit vs cell.carry) (bit (value vs c.0)) (option_bit vs c.1) (option_bit vs carry) (number vs rest.sums) (2 ^ length cs) (option_bit vs rest.carry) (columns_number vs cs) first after);
@@ -138,10 +137,10 @@ adder-facts f x y r hx hy =
     record {
       extends = Extends-trans f below.formula top.0 s.extends t.extends;
       below =
-        list_all-append-from (is_below top.0.vars) below.sums (top.1 ∷ []) (are_below-mono below.formula.vars top.0.vars t.extends.more_vars below.sums s.sums_below) (and_from _ true t.below refl);
+          list_all-append-from (is_below top.0.vars) below.sums (top.1 ∷ []) (are_below-mono below.formula.vars top.0.vars t.extends.more_vars below.sums s.sums_below) (and_from _ true t.below refl);
       digits = omega (arith, length-append below.sums (top.1 ∷ []), s.sums_length, length-columns x y);
       means =
-        λ vs h.
+          λ vs h.
           let sum = s.means vs (kept-hold below.formula top.0 vs t.extends h) in
           let last = t.means vs h in
           number-append vs below.sums top.1

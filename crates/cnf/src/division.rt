@@ -138,12 +138,7 @@ fn complement(by: u32, digits: usize) -> u64
 }
 
 // A number above the gate times a constant.
-fn scaled(
-    alloc: Global,
-    gate: Lit,
-    factor: u64,
-    digits: &[Lit],
-) -> Result<Vec<Column>, AllocError>
+fn scaled(alloc: Global, gate: Lit, factor: u64, digits: &[Lit]) -> Result<Vec<Column>, AllocError>
     ensures { IfOk result (λ v. v.items ≡ scaled_columns gate factor digits.now) }
 {
     let mut columns = Vec::new(alloc);

@@ -12,7 +12,8 @@ use std::alloc::{AllocError, Global};
 /// The pairwise encoding: the clause of all, and a clause for each two places.
 pub fn exactly_one(_alloc: Global, f: &mut Formula, lits: &[Lit]) -> Result<(), AllocError>
     requires { IsTrue (are_below f.old.vars lits.now) }
-    ensures { OnOk result (f.new ≡ with_exactly_one f.old lits.now) }
+    ensures formula { OnOk result (f.new ≡ with_exactly_one f.old lits.now) }
+    ensures same_vars { OnOk result (f.new.vars ≡ f.old.vars) }
 {
     f.add_clause(lits)?;
     for (k, lit) in lits.iter().enumerate() {

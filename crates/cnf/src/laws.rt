@@ -13,8 +13,7 @@ ghost use Rattle.cnf.specs.declared.lit.Lit.{Lit};
 /// "Verification of proofs of unsatisfiability for CNF formulas", 2003).
 pub fn forced_clause_follows()
     ensures { (f : Cnf) (clause : List Lit) → IsForced f.clauses clause → Follows f clause }
-{
-}
+{}
 
 /// What values make of literals: a negation is true where its literal is false; a variable's literal
 /// has the variable's value; and more values behind change no literal that has one.
@@ -24,15 +23,13 @@ pub fn values_law()
         → value vs (positive v) ≡ slice_index_or vs v false }
     ensures more { (vs more : List Bool) (l : Lit) → IsTrue (is_below (length vs) l)
         → value (vs ++ more) l ≡ value vs l }
-{
-}
+{}
 
 /// A formula that a second one extends, which a third one extends, is extended by the third.
 pub fn extends_law()
     ensures none { (f : Cnf) → IsTrue (is_in_range f) → Extends f f }
     ensures both { (f g h : Cnf) → Extends f g → Extends g h → Extends f h }
-{
-}
+{}
 
 /// What [`exactly_one`](crate::exactly_one) makes of a formula: its clauses stay in front, and a list
 /// of values satisfies the new one exactly where it satisfies the old one and the number of places
@@ -50,8 +47,7 @@ pub fn exactly_one_law()
         ↔ (IsTrue (all_hold vs f.clauses) × (count_by (value vs) lits ≡ 1)) }
     ensures size { (f : Cnf) (lits : List Lit)
         → GrowsBy f (with_exactly_one f lits) 0 (length lits * length lits + 1) }
-{
-}
+{}
 
 /// What [`and_gate`](crate::and_gate) makes of a formula: it extends it, and the answer is true
 /// exactly where all the literals are, in every list of values under which the new clauses hold.
@@ -65,8 +61,7 @@ pub fn and_gate_law()
         → value vs (with_and_gate f lits).1 ≡ list_all (value vs) lits }
     ensures size { (f : Cnf) (lits : List Lit)
         → GrowsBy f (with_and_gate f lits).0 1 (length lits + 1) }
-{
-}
+{}
 
 /// What [`adder`](crate::adder) makes of a formula: it extends it, and the answer is the sum, with one
 /// digit more than the longer number.
@@ -85,8 +80,7 @@ pub fn adder_law()
         → number vs (with_adder f x y).1 ≡ number vs x + number vs y }
     ensures size { (f : Cnf) (x y : List Lit) → GrowsBy f (with_adder f x y).0
         (2 * max (length x) (length y) + 1) (20 * max (length x) (length y) + 1) }
-{
-}
+{}
 
 /// What [`at_least`](crate::at_least) makes of a formula: it extends it, and the answer is true
 /// exactly where the number is at least the bound.
@@ -101,8 +95,7 @@ pub fn at_least_law()
         → IsTrue (value vs (with_at_least f x bound).1) ↔ (bound ≤ number vs x) }
     ensures size { (f : Cnf) (x : List Lit) (bound : ℕ)
         → GrowsBy f (with_at_least f x bound).0 (length x + 1) (3 * length x + 1) }
-{
-}
+{}
 
 /// What [`divide_by`](crate::divide_by) makes of a formula: it extends it, and the answers are the
 /// quotient, with as many digits as the number, and the remainder.
@@ -127,5 +120,4 @@ pub fn divide_by_law()
         → number vs (with_division f x by).remainder ≡ number vs x % by }
     ensures size { (f : Cnf) (x : List Lit) (by : ℕ) → GrowsBy f (with_division f x by).formula
         ((3 * remainder_digits by + 2) * length x) ((23 * remainder_digits by + 4) * length x) }
-{
-}
+{}

@@ -198,12 +198,7 @@ pub fn adder(alloc: Global, f: &mut Formula, x: &Bits, y: &Bits) -> Result<Bits,
 }
 
 // The digits of the sum of two numbers.
-fn add_numbers(
-    alloc: Global,
-    f: &mut Formula,
-    x: &[Lit],
-    y: &[Lit],
-) -> Result<Vec<Lit>, AllocError>
+fn add_numbers(alloc: Global, f: &mut Formula, x: &[Lit], y: &[Lit]) -> Result<Vec<Lit>, AllocError>
     requires x { IsTrue (are_below f.old.vars x.now) }
     requires y { IsTrue (are_below f.old.vars y.now) }
     requires room { (with_adder f.old x.now y.now).0.vars ≤ 2 ^ 30 }

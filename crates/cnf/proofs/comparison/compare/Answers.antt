@@ -1,4 +1,3 @@
-use Rattle.std.proofs.Common.{◌≤◌, arith}
 use Rattle.cnf.proofs.ComparisonCode.{compared_room, next_digit}
 use Rattle.cnf.proofs.LitLemmas.{are_below-get, are_below-mono}
 use Rattle.cnf.proofs.comparison.compare.Goals as goal

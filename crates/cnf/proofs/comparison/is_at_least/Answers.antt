@@ -1,4 +1,4 @@
-use Rattle.std.proofs.Common.{◌≡◌, ◌≤◌, None, ◌∙◌, sym, arith}
+use Rattle.std.proofs.Common.{None, arith}
 use Rattle.cnf.specs.Numbers.{with_comparison}
 use Rattle.cnf.proofs.ComparisonCode.{out_of_reach, within_reach}
 use Rattle.cnf.proofs.GrowLemmas.{found-grows}

@@ -1,4 +1,4 @@
-use Rattle.std.proofs.Common.{◌≡◌, ◌∙◌, arith}
+use Rattle.std.proofs.Common.{◌∙◌}
 use Rattle.std.proofs.lemmas.Bool.{le-ltb}
 use Rattle.cnf.proofs.ComparisonCode.{nothing_left, wide_enough}
 use Rattle.cnf.proofs.comparison.is_out_of_reach.Goals as goal

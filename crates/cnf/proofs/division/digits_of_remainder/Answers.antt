@@ -1,4 +1,4 @@
-use Rattle.std.proofs.Common.{◌≡◌, ◌<◌, refl, arith}
+use Rattle.std.proofs.Common.{◌<◌, refl, arith}
 use Rattle.cnf.specs.Numbers.{remainder_digits}
 use Rattle.cnf.proofs.DivisionLemmas.{digits-over}
 use Rattle.cnf.proofs.division.digits_of_remainder.Goals as goal

@@ -1,5 +1,4 @@
-use Rattle.std.proofs.Common.{◌≡◌, ◌+◌, ◌-◌, ◌≤◌, ◌<◌, ◌∷◌, length, get_or, ap, sym, ◌∙◌, subst, arith}
-use Rattle.cnf.specs.declared.lit.Lit.{Lit}
+use Rattle.std.proofs.Common.{◌≡◌, ◌+◌, ◌-◌, ◌<◌, ◌∷◌, length, get_or, ap, ◌∙◌, subst, arith}
 use Rattle.cnf.proofs.DivisionCode.{DividedSoFar, take_off_room, digit_done}
 use Rattle.cnf.proofs.division.divide.Goals as goal
 

@@ -1,4 +1,3 @@
-use Rattle.std.proofs.Common.{drop}
 use Rattle.cnf.proofs.DivisionCode.{DividedSoFar}
 use Rattle.cnf.proofs.division.divide.Given as goal
 

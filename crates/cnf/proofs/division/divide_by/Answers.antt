@@ -1,4 +1,4 @@
-use Rattle.std.proofs.Common.{◌≡◌, ◌≤◌, ap, sym, ◌∙◌}
+use Rattle.std.proofs.Common.{◌∙◌}
 use Rattle.cnf.proofs.GrowLemmas.{division-grows}
 use Rattle.cnf.proofs.RangeLemmas.{division-below}
 use Rattle.cnf.proofs.division.divide_by.Goals as goal

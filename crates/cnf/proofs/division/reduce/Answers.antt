@@ -1,4 +1,4 @@
-use Rattle.std.proofs.Common.{◌≡◌, ◌-◌, ◌^◌, ◌≤◌, ◌<◌, length, take, rules, ◌∙◌, sym, ap, arith}
+use Rattle.std.proofs.Common.{take, rules, ◌∙◌}
 use Rattle.cnf.proofs.DivisionLemmas.{few, many, scaled-below}
 use Rattle.cnf.proofs.LitLemmas.{are_below-take}
 use Rattle.cnf.proofs.division.reduce.Goals as goal

@@ -1,4 +1,4 @@
-use Rattle.std.proofs.Common.{◌≤◌, arith}
+use Rattle.std.proofs.Common.{arith}
 use Rattle.cnf.specs.Numbers.{with_at_least}
 use Rattle.cnf.proofs.RangeLemmas.{at_least-below}
 use Rattle.cnf.proofs.GrowLemmas.{at_least-grows, reduced-grows}

@@ -1,9 +1,9 @@
-use Rattle.std.proofs.Common.{◌≡◌, ◌+◌, ◌-◌, ◌<◌, ◌≤◌, ℕ, List, [], ◌∷◌, ◌++◌, map, IsTrue, length, get_or, take, drop, refl, sym, ap, ◌∙◌, arith}
+use Rattle.std.proofs.Common.{◌≡◌, ◌+◌, ◌<◌, ℕ, List, [], ◌∷◌, ◌++◌, map, length, get_or, drop, sym, ap, ◌∙◌}
 use Rattle.std.proofs.lemmas.List.{append_assoc, at_drop_more, take_rest}
 use Rattle.cnf.specs.declared.lit.Lit.{Lit}
 use Rattle.cnf.specs.Cnf.{Cnf}
 use Rattle.cnf.specs.Gates.{with_clauses, with_exactly_one, not_both}
-use Rattle.cnf.specs.Lits.{negation, are_below}
+use Rattle.cnf.specs.Lits.{negation}
 use Rattle.cnf.proofs.LitLemmas.{are_below-get, are_below-take, are_below-drop}
 use Rattle.cnf.proofs.gates.exactly_one.Goals as goal
 
@@ -42,3 +42,7 @@ loop-k-preserved c =
     let lits = c.args.lits.now in
     next_place c.loop-k.f c.exclude.new.f lits _ c.loop-k.k _ c.loop-k-test.true (take_rest lits (c.loop-k.k + 1)) c.in_ok-exclude.ensures
     ∙ c.loop-k.invariant
+
+pub returns-clause-same_vars : goal.returns-clause-same_vars
+returns-clause-same_vars c =
+    same_vars c.args.f.now c.loop-k.f c.args.lits.now (drop c.loop-k.k c.args.lits.now) c.loop-k.invariant

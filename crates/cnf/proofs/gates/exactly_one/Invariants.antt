@@ -1,4 +1,4 @@
-use Rattle.std.proofs.Common.{◌≡◌, ◌∷◌, drop}
+use Rattle.std.proofs.Common.{◌≡◌, drop}
 use Rattle.cnf.specs.Gates.{with_clauses, with_exactly_one, not_both}
 use Rattle.cnf.proofs.gates.exactly_one.Given as goal
 

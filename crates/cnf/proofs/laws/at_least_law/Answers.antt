@@ -1,4 +1,4 @@
-use Rattle.std.proofs.Common.{◌≡◌, ◌<◌, ◌≤◌, ◌↔◌, ℕ, Bool, true, false, IsTrue, MatchBool, refl, arith}
+use Rattle.std.proofs.Common.{◌<◌, ◌≤◌, ◌↔◌, ℕ, Bool, true, false, IsTrue, MatchBool, refl, arith}
 use Rattle.std.proofs.lemmas.Bool.{false≢true}
 use Rattle.cnf.proofs.ComparisonLemmas.{at_least-facts}
 use Rattle.cnf.proofs.RangeLemmas.{at_least-below}

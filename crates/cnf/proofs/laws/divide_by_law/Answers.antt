@@ -1,4 +1,4 @@
-use Rattle.std.proofs.Common.{◌≡◌, ◌≢◌, ◌<◌, ℕ, arith}
+use Rattle.std.proofs.Common.{◌≢◌, ◌<◌, ℕ, arith}
 use Rattle.cnf.proofs.DivisionLemmas.{division-facts, quotient_of, remainder_of}
 use Rattle.cnf.proofs.RangeLemmas.{division-below}
 use Rattle.cnf.proofs.SizeLemmas.{division-size, length-quotient, length-remainder}
@@ -14,11 +14,11 @@ returns c = record {
   quotient_digits = length-quotient;
   remainder_digits = length-remainder;
   quotient =
-    λ f x by r h no small vs s.
+      λ f x by r h no small vs s.
       let means = (division-facts f x by r h (positive by no) small).means vs s in
       quotient_of _ _ _ by means.0 means.1;
   remainder =
-    λ f x by r h no small vs s.
+      λ f x by r h no small vs s.
       let means = (division-facts f x by r h (positive by no) small).means vs s in
       remainder_of _ _ _ by means.0 means.1;
   size = division-size;

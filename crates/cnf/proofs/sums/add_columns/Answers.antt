@@ -1,4 +1,3 @@
-use Rattle.std.proofs.Common.{◌≤◌, arith}
 use Rattle.cnf.proofs.AdderCode.{cell_room, next_column}
 use Rattle.cnf.proofs.sums.add_columns.Goals as goal
 

@@ -1,5 +1,5 @@
-use Rattle.std.proofs.Common.{◌≡◌, ◌≤◌, ◌^◌, [], ◌∷◌, ◌++◌, IsTrue, None, List, ap, sym, ◌∙◌, arith}
-use Rattle.cnf.specs.Sums.{columns, columns_below, with_columns, with_carry, with_adder}
+use Rattle.std.proofs.Common.{None, ◌∙◌, arith}
+use Rattle.cnf.specs.Sums.{columns, with_columns, with_adder}
 use Rattle.cnf.proofs.GrowLemmas.{carry-grows}
 use Rattle.cnf.proofs.SumLemmas.{columns_below-both}
 use Rattle.cnf.proofs.sums.add_numbers.Goals as goal

@@ -1,4 +1,4 @@
-use Rattle.std.proofs.Common.{◌≡◌, ◌≤◌, ap, sym, ◌∙◌}
+use Rattle.std.proofs.Common.{◌∙◌}
 use Rattle.cnf.proofs.GrowLemmas.{adder-grows}
 use Rattle.cnf.proofs.RangeLemmas.{adder-below}
 use Rattle.cnf.proofs.sums.adder.Goals as goal

@@ -1,4 +1,4 @@
-use Rattle.std.proofs.Common.{◌≤◌, ◌+◌, arith}
+use Rattle.std.proofs.Common.{arith}
 use Rattle.cnf.proofs.GrowLemmas.{half_adder-grows, full_adder-grows}
 use Rattle.cnf.proofs.sums.cell.Goals as goal
 

@@ -1,5 +1,4 @@
-use Rattle.std.proofs.Common.{◌≡◌, Some, ap, sym, ◌∙◌}
-use Rattle.cnf.specs.Lits.{positive}
+use Rattle.std.proofs.Common.{Some, ap, ◌∙◌}
 use Rattle.cnf.specs.Sums.{with_full_adder}
 use Rattle.cnf.proofs.AdderCode.{two_calls, second_fresh, full_adder_rows}
 use Rattle.cnf.proofs.sums.full_adder.Goals as goal

@@ -1,5 +1,4 @@
-use Rattle.std.proofs.Common.{◌≡◌, Some, ap, sym, ◌∙◌}
-use Rattle.cnf.specs.Lits.{positive}
+use Rattle.std.proofs.Common.{Some, ap, ◌∙◌}
 use Rattle.cnf.specs.Sums.{with_half_adder}
 use Rattle.cnf.proofs.AdderCode.{two_calls, second_fresh, half_adder_rows}
 use Rattle.cnf.proofs.sums.half_adder.Goals as goal
