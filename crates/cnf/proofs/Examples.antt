@@ -2,7 +2,11 @@
 use Rattle.std.proofs.Common.{◌≡◌, ℕ, true, false, [], ◌∷◌, refl}
 use Rattle.cnf.specs.declared.lit.Lit.{Lit}
 use Rattle.cnf.specs.Cnf.{Cnf, Satisfies}
-use Rattle.cnf.specs.Lits.{negation}
+use Rattle.cnf.specs.Lits.{negation, positive}
+use Rattle.cnf.specs.Gates.{with_exactly_one, with_and_gate, with_false}
+use Rattle.cnf.specs.Numbers.{with_at_least, with_reduced, remainder_digits, with_next_digit, with_division}
+use Rattle.cnf.specs.Sums.{number}
+use lib.Count.{count_leading_zeros}
 use Rattle.cnf.specs.Propagation.{IsForced, Adds, IsLedger}
 use Rattle.cnf.specs.Values.{value, holds}
 
@@ -101,3 +105,32 @@ refuted = (
     tt,
   ),
 )
+
+-- the gates' clauses over x and y
+one_of_two_made : with_exactly_one (record { vars = 2; clauses = [] }) (x ∷ y ∷ []) ≡ one_of_two
+unfolding with_exactly_one negation
+one_of_two_made = refl
+
+and_gate_made : with_and_gate (record { vars = 2; clauses = [] }) (x ∷ not_y ∷ []) ≡ (record { vars = 3; clauses = (lit 5 ∷ x ∷ []) ∷ (lit 5 ∷ not_y ∷ []) ∷ (lit 4 ∷ not_x ∷ y ∷ []) ∷ [] }, lit 4)
+unfolding with_and_gate negation positive
+and_gate_made = refl
+
+-- the number of "true, true, false", the least digit first
+three : number (true ∷ true ∷ false ∷ []) (x ∷ y ∷ lit 4 ∷ []) ≡ 3
+unfolding value
+three = refl
+
+-- at least 2, in two digits: the higher one
+at_least_two : with_at_least (record { vars = 2; clauses = [] }) (x ∷ y ∷ []) 2 ≡ (record { vars = 2; clauses = [] }, y)
+unfolding with_at_least
+at_least_two = refl
+
+-- by 2: the higher digit, and the lower one
+halved : with_division (record { vars = 2; clauses = [] }) (x ∷ y ∷ []) 2 ≡ record { formula = record { vars = 3; clauses = (lit 5 ∷ []) ∷ [] }; quotient = y ∷ lit 4 ∷ []; remainder = x ∷ [] }
+unfolding with_next_digit with_at_least with_reduced with_false remainder_digits count_leading_zeros negation positive
+halved = refl
+
+-- how many digits the remainders by 1, 3, 4 and 5 have
+digit_counts : (remainder_digits 1 ∷ remainder_digits 3 ∷ remainder_digits 4 ∷ remainder_digits 5 ∷ []) ≡ (0 ∷ 2 ∷ 2 ∷ 3 ∷ [])
+unfolding remainder_digits count_leading_zeros
+digit_counts = refl

@@ -1,4 +1,4 @@
--- Literals, as in the DIMACS form of formulas: a variable or its negation.
+-- Literals: twice the number of a variable, plus 1 for its negation, as in MiniSat.
 use Rattle.std.specs.Prelude.{◌+◌, ◌-◌, ◌*◌, ◌/◌, ◌%◌, ◌==◌, nat_lt, ℕ, Bool, if◌then◌else◌, List}
 use Rattle.std.specs.List.{list_all, list_any}
 use Rattle.cnf.specs.declared.lit.Lit.{Lit}
