@@ -1,6 +1,10 @@
 -- Winners on small sheets, with the answers of CSS Cascading 3, section 6: each theorem is by
 -- computation.
-use Rattle.std.proofs.Common.{◌≡◌, ℕ, Bool, true, false, List, [], ◌∷◌, Option, Some, None, refl, map}
+use Rattle.std.proofs.Common.{◌≡◌, ℕ, Bool, true, false, List, [], ◌∷◌, Option, Some, None, refl, map, zero, suc, ap, arith}
+use Rattle.std.proofs.lemmas.Bool.{false≢true}
+use Rattle.std.proofs.lemmas.List.Elements.{All-cons, All-nil, All-head}
+use Rattle.std.specs.Cmp.Lexicographic.{bytes_decides}
+use Rattle.std.specs.List.{Contains}
 use Rattle.std.specs.Prelude.{codes}
 use Rattle.css_model.proofs.MatchingExamples.{element, attribute, document, at, plain, but, simple, class}
 use Rattle.css_model.specs.declared.selector.Pseudo.TheVariants.{Before}
@@ -8,9 +12,9 @@ use Rattle.css_model.specs.declared.selector.Specificity.{Specificity}
 use Rattle.css_model.specs.declared.selector.Test.TheVariants.{Any, Kind, Id, Root}
 use Rattle.css_model.specs.declared.sheet.Decl.{Decl}
 use Rattle.css_model.specs.declared.sheet.Item.{Item}
-use Rattle.css_model.specs.declared.sheet.Item.TheVariants.{Rule, KeptBlock}
+use Rattle.css_model.specs.declared.sheet.Item.TheVariants.{Rule, KeptRule, KeptBlock}
 use Rattle.css_model.specs.declared.sheet.Piece.{Piece}
-use Rattle.css_model.specs.Cascade.{Understood, Winner, winner}
+use Rattle.css_model.specs.Cascade.{AreMeanings, Declared, Understood, Winner, winner}
 use Rattle.css_model.specs.Document.{none, first, Document, Target}
 use Rattle.css_model.specs.SelectorParts.{SelectorParts}
 use Rattle.css_model.specs.Specificity.{specificity_of}
@@ -164,3 +168,26 @@ universal = refl
 
 root_before : specificity_of (record { chain = (plain Root ∷ []) ∷ []; links = []; pseudo = Some Before }) ≡ count 0 1 1
 root_before = refl
+
+-- ---- What kept items may mean
+
+-- a kept rule applies its own declarations, in any number, and no other ones
+abbrev kept_rule : Item
+kept_rule = KeptRule (record { piece = nowhere; decls = color (codes "red") ∷ []; reason = 1 })
+
+abbrev means : List ℕ → List (List Declared)
+means value = (record { decl = color value; specificity = count 0 1 0 } ∷ []) ∷ []
+
+own_declaration : AreMeanings (kept_rule ∷ []) (means (codes "red"))
+own_declaration = (All-cons (λ (e : Declared). Contains (color (codes "red") ∷ []) e.decl) (record { decl = color (codes "red"); specificity = count 0 1 0 }) [] (0, omega arith, refl) (All-nil (λ (e : Declared). Contains (color (codes "red") ∷ []) e.decl)), tt)
+
+foreign_declaration : AreMeanings (kept_rule ∷ []) (means (codes "blue")) → ⊥
+foreign_declaration h = foreign (All-head (λ (e : Declared). Contains (color (codes "red") ∷ []) e.decl) (record { decl = color (codes "blue"); specificity = count 0 1 0 }) [] h.0)
+  where
+    foreign : Contains (color (codes "red") ∷ []) (color (codes "blue")) → ⊥
+    foreign (zero, l, e) = false≢true ((bytes_decides (codes "red") (codes "blue")).1 (ap (λ (d : Decl). d.value) e))
+    foreign (suc k, l, e) = absurd (omega arith)
+
+-- rules have no meaning of that kind
+rules_have_none : AreMeanings (rule (p ∷ []) (color (codes "red") ∷ []) ∷ []) []
+rules_have_none = tt

@@ -1,17 +1,17 @@
 -- Documents that are legal, and some that are not.
 use lib.Utf8.{scalar}
-use Rattle.std.proofs.Common.{◌≡◌, ◌≢◌, ℕ, zero, suc, ◌<◌, Bool, true, false, List, [], ◌∷◌, refl, arith}
+use Rattle.std.proofs.Common.{◌≡◌, ◌≢◌, ℕ, zero, suc, Bool, true, false, List, [], ◌∷◌, refl, arith}
 use Rattle.std.specs.Prelude.{codes}
 use Rattle.std.specs.Char.{IsScalar}
 use Rattle.std.specs.Cmp.Lexicographic.{bytes_decides}
-use Rattle.std.specs.List.{All, AllPairs, list_all}
+use Rattle.std.specs.List.{AllPairs, list_all}
 use Rattle.std.proofs.lemmas.Bool.{false≢true}
 use Rattle.std.proofs.lemmas.Bool.Decides.{Decides-by_and}
 use Rattle.std.proofs.lemmas.List.Elements.{All-cons, All-nil}
 use Rattle.css_model.proofs.MatchingExamples.{element, attribute, document}
 use Rattle.css_model.specs.declared.selector.Flag.{Flag}
 use Rattle.css_model.specs.declared.selector.Flag.TheVariants.{Link, Visited}
-use Rattle.css_model.specs.Document.{Attribute, Element, none, first, Document, IsText, IsLegalElement, IsLegal}
+use Rattle.css_model.specs.Document.{Attribute, none, first, Document, IsText, IsLegalElement, IsLegal}
 
 -- a test of texts
 text : (numbers : List ℕ) → list_all scalar numbers ≡ true → IsText numbers

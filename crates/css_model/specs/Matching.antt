@@ -79,8 +79,9 @@ Allows Next path other = (parent : List ℕ) × (i : ℕ) × (path ≡ parent ++
 Allows Later path other = (parent : List ℕ) × (i : ℕ) × (j : ℕ) × (path ≡ parent ++ i ∷ []) × (other ≡ parent ++ j ∷ []) × (j < i)
 
 -- The sequences, from right to left, match at the path: the first one holds there, and the others
--- match at some element that the combinator allows (Selectors 3, sections 4 and 8). More combinators
--- than needed are ignored, and an empty sequence holds of each element; no text reads as either.
+-- match at some element that the combinator allows (Selectors 3, sections 4 and 8). Between each two
+-- sequences stands one combinator; where one is missing, nothing matches, and one too many is not
+-- read (own: no text is read as such a selector, nor as one with an empty sequence).
 abbrev pub MatchesFrom : Document → List (List Simple) → List Combinator → List ℕ → Type 0
 MatchesFrom doc [] links path = ⊥
 MatchesFrom doc (c ∷ []) links path = CompoundHolds doc path c
