@@ -1,10 +1,16 @@
+pub mod Characters
 pub mod KeptRuleParts
 pub mod OptionHash
 pub mod Plain
 pub mod Printed
 pub mod RuleParts
+pub mod Runs
 pub mod SelectorParts
 pub mod Sheet
 pub mod SheetParts
 pub mod Source
 pub mod StyleRule
+pub mod TokenAt
+pub mod Tokens
+pub mod Unescaped
+pub mod Units
