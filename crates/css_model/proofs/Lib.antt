@@ -15,3 +15,4 @@ pub mod PlainLemmas
 pub mod Ranking
 pub mod Same
 pub mod SliceRange
+mod TokenExamples

@@ -1,8 +1,9 @@
 pub mod Attribute
 pub mod Cascade
+pub mod Characters
 pub mod Document
-pub mod Fault
 pub mod Family
+pub mod Fault
 pub mod KeptRuleParts
 pub mod Laws
 pub mod Matching
@@ -10,9 +11,14 @@ pub mod OptionHash
 pub mod Plain
 pub mod Printed
 pub mod RuleParts
+pub mod Runs
 pub mod SelectorParts
 pub mod Sheet
 pub mod SheetParts
 pub mod Source
 pub mod Specificity
 pub mod StyleRule
+pub mod TokenAt
+pub mod Tokens
+pub mod Unescaped
+pub mod Units

@@ -11,6 +11,7 @@ mod selector;
 mod sheet;
 mod source;
 mod text;
+mod token;
 
 pub use bytes::Bytes;
 pub use counting::specificity;
@@ -28,6 +29,7 @@ pub use selector::{
 };
 pub use sheet::{Decl, DeclItem, Item, KeptRule, Piece, Rule, SelItem, Sheet};
 pub use text::Text;
+pub use token::{Token, TokenFault, TokenFlaw, TokenKind};
 
 #[cfg(test)]
 mod tests;

@@ -1,0 +1,78 @@
+use crate::sheet::Piece;
+
+/// What a token is (CSS Syntax 3, section 4).
+#[derive(Clone, Copy, Debug, PartialEq, Eq, Hash)]
+pub enum TokenKind {
+    /// White space: the longest row of it.
+    White,
+    /// A string with its quotes.
+    Str,
+    /// A hash whose name is an ident sequence, as `#a`.
+    IdHash,
+    /// Any other hash, as `#1`.
+    Hash,
+    /// A number.
+    Number,
+    /// A number and `%`.
+    Percentage,
+    /// A number and the ident sequence that is its unit.
+    Dimension,
+    /// `<!--`.
+    CommentOpen,
+    /// `-->`.
+    CommentClose,
+    /// `@` and an ident sequence.
+    AtKeyword,
+    /// An ident sequence.
+    Ident,
+    /// An ident sequence and the `(` behind it.
+    Function,
+    /// `url(` up to and with its `)`, where no string stands inside.
+    Url,
+    /// One of `:` `;` `,` `[` `]` `(` `)` `{` `}`, by its byte.
+    Sign(u8),
+    /// Any other code point, by itself.
+    Delim(u32),
+}
+
+/// A token of a source.
+#[derive(Clone, Copy, Debug, PartialEq, Eq, Hash)]
+pub struct Token {
+    /// What it is.
+    pub kind: TokenKind,
+    /// Where it stands.
+    pub span: Piece,
+    /// Whether a comment ends where it begins.
+    pub comment_before: bool,
+}
+
+/// What is wrong where no token can be read.
+#[derive(Clone, Copy, Debug, PartialEq, Eq, Hash)]
+pub enum TokenFlaw {
+    /// A newline inside a string, without a backslash before it.
+    BadString,
+    /// A code point that no url may hold.
+    BadUrl,
+    /// The source ends inside the token.
+    EndInside,
+}
+
+/// A place where no token can be read, and why: the start of what stands there, in bytes from 0.
+#[derive(Clone, Copy, Debug, PartialEq, Eq, Hash)]
+pub enum TokenFault {
+    /// A newline inside a string, without a backslash before it.
+    BadString {
+        /// The place of the quote.
+        at: u32,
+    },
+    /// A code point that no url may hold.
+    BadUrl {
+        /// The place of the name before `(`.
+        at: u32,
+    },
+    /// The source ends inside a comment, a string, a url or an escape.
+    EndInside {
+        /// The place of the token or the comment.
+        at: u32,
+    },
+}

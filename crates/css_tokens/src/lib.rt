@@ -1,0 +1,17 @@
+//! The tokens of a text (CSS Syntax 3, section 4), read one at a time.
+#![tactic(auto)]
+
+mod characters;
+mod comments;
+mod names;
+mod numbers;
+mod reader;
+mod rules;
+mod runs;
+mod units;
+
+pub use names::decode;
+pub use reader::{NotUtf8, Tokens};
+
+#[cfg(test)]
+mod tests;
