@@ -1,4 +1,6 @@
 pub mod CommentLemmas
+pub mod CommentParts
+pub mod LawLemmas
 pub mod PartLemmas
 pub mod RuleLemmas
 pub mod RunLemmas

@@ -1,3 +1,4 @@
+pub mod Laws
 pub mod Left
 pub mod Said
 pub mod UnitOf

@@ -3,6 +3,7 @@
 
 mod characters;
 mod comments;
+mod laws;
 mod names;
 mod numbers;
 mod reader;
@@ -10,6 +11,7 @@ mod rules;
 mod runs;
 mod units;
 
+pub use laws::{parts_join, runs_are_longest, tokens_cover};
 pub use names::decode;
 pub use reader::{NotUtf8, Tokens};
 

@@ -1,0 +1,20 @@
+//! Laws above the definition of the tokens. They do nothing when they run.
+
+ghost use Rattle.css_model.specs.Runs.{RunsAreLongest};
+ghost use Rattle.css_tokens.specs.Laws.{PartsJoin, TokensCover};
+
+/// A run is the longest row of its units.
+pub fn runs_are_longest()
+    ensures { RunsAreLongest }
+{}
+
+/// The parts of a text, joined, are the text, or its front up to what is wrong with it.
+pub fn parts_join()
+    ensures { PartsJoin }
+{}
+
+/// The tokens of a source lie in it in order, from a place on up to its fault or its end. Each has a byte;
+/// comments alone stand before it, and it tells whether there are any.
+pub fn tokens_cover()
+    ensures { TokensCover }
+{}
