@@ -2,6 +2,7 @@
 #![tactic(auto)]
 
 mod join;
+mod laws;
 mod minify;
 mod status;
 mod top;
