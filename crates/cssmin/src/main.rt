@@ -2,6 +2,7 @@
 #![tactic(auto)]
 
 mod join;
+mod laws;
 mod minify;
 mod status;
 mod top;
@@ -38,3 +39,6 @@ fn main(rt: HostRuntime) -> ExitCode {
     };
     ExitCode::from(status.number())
 }
+
+#[cfg(test)]
+mod tests;
