@@ -1,13 +1,11 @@
 -- What the table says of a part.
-use Rattle.std.proofs.Common.{◌≡◌, ℕ, true, false, List, [], ◌∷◌, Option, Some, map, refl, arith, sym, cond}
-use Rattle.std.specs.Prelude.{codes, find}
+use Rattle.std.proofs.Common.{◌≡◌, ℕ, List, [], ◌∷◌, map, refl, arith}
+use Rattle.std.specs.Prelude.{find}
 use Rattle.std.specs.List.{list_any}
 use Rattle.std.specs.Option.{option_map}
 use Rattle.std.specs.Borrow.{Bor}
-use Rattle.css_model.specs.declared.family.Family.TheVariants.{Named}
-use Rattle.css_model.specs.Attribute.{begins_with}
 use Rattle.css_model.specs.Document.{same_text}
-use Rattle.css_model.specs.Family.{family_in, family_of, part_of, rows}
+use Rattle.css_model.specs.Family.{family_in}
 use Rattle.related_props.specs.declared.table.Row.{Row}
 use Rattle.related_props.specs.Table.{row_of, words_of}
 

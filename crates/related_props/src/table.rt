@@ -15,7 +15,9 @@ struct Row {
 const TABLE: [Row; 10] = [
     Row {
         family: b"grid",
-        parts: &[b"columns", b"column", b"gap", b"row", b"grid", b"page", b"break"],
+        parts: &[
+            b"columns", b"column", b"gap", b"row", b"grid", b"page", b"break",
+        ],
     },
     Row {
         family: b"font",

@@ -1,13 +1,10 @@
-// A library with one function.
+//! Makes sheets to try the program on: the same sheet for the same number, at each run.
 #![tactic(auto)]
 
-ghost use Rattle.std.specs.Prelude.{◌≡◌};
-ghost use Rattle.trial_gen.specs.Echo.{echo_of};
+mod draws;
+mod sheet;
 
-// The `ensures` clause is the contract: what `echo` returns is `echo_of` of its argument, a definition
-// in `specs/Echo.antt`, which a caller's clause can cite too.
-pub fn echo(x: usize) -> usize
-    ensures { result ≡ echo_of x }
-{
-    x
-}
+pub use sheet::make_sheet;
+
+#[cfg(test)]
+mod tests;

@@ -10,5 +10,6 @@ returns-then-is_vendor c =
 pub returns-else-end-rest : goal.returns-else-end-rest
 returns-else-end-rest c =
     elim c.else-end-rest.branch [
-        else-end-rest-via-then-end-rest+else-is_vendor w ↦ behind_no_vendor c.args.rest.now c.hyphen_or_end-end.result c.hyphen_or_end-end.ensures (cc)
-      | else-end-rest-via-else-end-rest w ↦ behind_no_hyphen c.args.rest.now (omega arith) ]
+      | else-end-rest-via-then-end-rest+else-is_vendor w ↦ behind_no_vendor c.args.rest.now c.hyphen_or_end-end.result c.hyphen_or_end-end.ensures (cc)
+      | else-end-rest-via-else-end-rest w ↦ behind_no_hyphen c.args.rest.now (omega arith)
+    ]
