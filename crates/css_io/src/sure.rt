@@ -1,4 +1,4 @@
-ghost use Rattle.std.specs.Prelude.{◌≡◌, ◌+◌, ◌≤◌, ◌++◌, ℕ, List, [], Some, Ok, min, length, IfOk};
+ghost use Rattle.std.specs.Prelude.{◌≡◌, ◌+◌, ◌≤◌, ◌++◌, ℕ, List, [], Some, Ok, min, length, take, drop, IfOk};
 ghost use Rattle.css_io.specs.Io.{GivesFirst};
 ghost use Rattle.css_io.specs.Sure.{sure_room};
 
@@ -56,6 +56,7 @@ impl Source for SureSource {
 
         // What this one adds.
         ensures sure { result ≡ Ok (min (length self.old) (length into.old)) }
+        ensures buffer { IfOk result (λ n. into.new ≡ take n self.old ++ drop n into.old) }
     {
         let n = copy_front(&self.bytes[self.given..], into, usize::MAX);
         self.given += n;

@@ -1,4 +1,4 @@
-ghost use Rattle.std.specs.Prelude.{◌≡◌, ◌⊎◌, ◌+◌, ◌<◌, ◌≤◌, ◌++◌, ℕ, List, [], Some, length, IfSome, IsSomeAnd, IsOk, IsErrOf, OnOk, OnErr};
+ghost use Rattle.std.specs.Prelude.{◌≡◌, ◌⊎◌, ◌+◌, ◌<◌, ◌≤◌, ◌++◌, ℕ, List, [], Some, length, take, IfSome, IsSomeAnd, IsOk, IsErr, IsErrOf, OnOk, OnErr};
 ghost use Rattle.css_io.specs.Io.{Rose, HasAdded};
 ghost use Rattle.css_io.specs.Sure.{sure_room};
 
@@ -18,6 +18,15 @@ fn copy_all<S: Source, O: Sink>(alloc: Global, src: &mut S, out: &mut O) -> Resu
     ensures complete { IsSomeAnd (S.left src.old) (λ bytes. length bytes ≤ 100)
         → ¬ Rose (S.faults src.old) (S.faults src.new) → ¬ Rose (O.faults out.old) (O.faults out.new)
         → IsOk result ⊎ IsErrOf result (CopyFault.Reading ReadError.NoMemory) }
+    ensures read_fault { IsErrOf result (CopyFault.Reading ReadError.ReadFault)
+        → Rose (S.faults src.old) (S.faults src.new) }
+    ensures too_long { IsErrOf result (CopyFault.Reading ReadError.TooLong)
+        → IfSome (S.left src.old) (λ bytes. 100 < length bytes) }
+    ensures longer { IsSomeAnd (S.left src.old) (λ bytes. 100 < length bytes) → IsErr result }
+    ensures write_fault { IsErrOf result CopyFault.Writing
+        → Rose (O.faults out.old) (O.faults out.new)
+        × IfSome (S.left src.old) (λ bytes. (n : ℕ) × (n < length bytes)
+        × HasAdded (take n bytes) (O.written out.old) (O.written out.new)) }
     ensures unread { IsErrOf result (CopyFault.Reading ReadError.TooLong) → out.new ≡ out.old }
 {
     let bytes = match read_all(alloc, src, 100) {
@@ -175,6 +184,29 @@ fn copies_by_std(rt: HostRuntime) -> Result<(), Fail> {
     assert_eq!(rt; out.faults(), 0);
     drop(out);
     assert_eq!(rt; copy.as_slice(), SHEET);
+    Ok(())
+}
+
+#[test]
+fn faults_have_messages(rt: HostRuntime) -> Result<(), Fail> {
+    for (fault, message) in [
+        (
+            ReadError::ReadFault,
+            "the input could not be read to its end",
+        ),
+        (
+            ReadError::TooLong,
+            "the input has more bytes than are allowed",
+        ),
+        (ReadError::NoMemory, "not enough memory to hold the input"),
+    ] {
+        assert_eq!(rt; format!(in rt.alloc(); "{fault}")?.as_str(), message);
+    }
+    let written = format!(in rt.alloc(); "{}", WriteFault)?;
+    assert_eq!(rt;
+        written.as_str(),
+        "the output could not be written to its end"
+    );
     Ok(())
 }
 

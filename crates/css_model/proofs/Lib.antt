@@ -1,5 +1,18 @@
+pub mod Applying
+pub mod ApplyingAlike
+pub mod AttributeWords
+pub mod CascadeExamples
+pub mod CascadeWords
+mod FamilyExamples
+pub mod Greatest
+pub mod InOrder
+pub mod LegalExamples
+pub mod MatchingExamples
+pub mod MatchingWords
+pub mod Members
 mod PlainExamples
 pub mod PlainLemmas
+pub mod Ranking
 pub mod Same
 pub mod SliceRange
 mod TokenExamples

@@ -1,7 +1,6 @@
 -- What trimming and cutting do to a text whose ends are known.
-use Rattle.std.proofs.Common.{◌≡◌, ℕ, List, [], ◌∷◌, ◌++◌, Bool, true, false, refl, sym, ◌∙◌, ap, arith}
-use Rattle.std.specs.List.{list_all}
-use Rattle.css_model.specs.Plain.{is_space, is_blank, trim_start, trim_end}
+use Rattle.std.proofs.Common.{◌≡◌, ℕ, List, [], ◌∷◌, ◌++◌, true, false, arith}
+use Rattle.css_model.specs.Plain.{is_space, is_blank, trim_end}
 
 -- white space at the end makes a text blank exactly where it was
 is_blank-space : (cs : List ℕ) (c : ℕ) → is_space c ≡ true → is_blank (cs ++ c ∷ []) ≡ is_blank cs

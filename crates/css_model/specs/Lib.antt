@@ -1,5 +1,12 @@
+pub mod Attribute
+pub mod Cascade
 pub mod Characters
+pub mod Document
+pub mod Family
+pub mod Fault
 pub mod KeptRuleParts
+pub mod Laws
+pub mod Matching
 pub mod OptionHash
 pub mod Plain
 pub mod Printed
@@ -9,6 +16,7 @@ pub mod SelectorParts
 pub mod Sheet
 pub mod SheetParts
 pub mod Source
+pub mod Specificity
 pub mod StyleRule
 pub mod TokenAt
 pub mod Tokens

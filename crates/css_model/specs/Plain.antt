@@ -1,6 +1,8 @@
--- The plain form of a style sheet, read by cutting its text at its signs: rules of one simple
--- selector and of declarations without importance. Each part is what CSS Syntax 3, section 5.4, and
--- Selectors 3, section 6, make of it; that no other sheet is read yet is this project's own choice.
+-- The plain form of a style sheet, read by cutting its text at its signs: rules of one type, class or
+-- ID selector, with a name of lower-case letters and digits, and of at least one declaration, whose
+-- value is one word without importance. Each part is what CSS Syntax 3, sections 4.3 and 5.4, and
+-- Selectors 3, section 6, make of it; that no other sheet is read yet, and no empty declaration, is
+-- this project's own choice.
 use Rattle.std.specs.Prelude.{ℕ, ◌==◌, nat_le, Bool, false, ◌&&◌, ◌||◌, if◌then◌else◌, List, [], ◌∷◌, Option, Some, None, codes}
 use Rattle.std.specs.List.{list_all, slice_split}
 use Rattle.css_model.specs.declared.selector.Op.TheVariants.{Word}
@@ -88,7 +90,8 @@ listed one end (part ∷ next ∷ parts) = onto (one part) (listed one end (next
 abbrev pub where_true : {A : Type 0} → Bool → A → Option A
 where_true b x = if b then Some x else None
 
--- `.name` tests the attribute `class` for the word `name` (Selectors 3, section 6.4)
+-- `.name` tests the attribute `class` for the word `name` (own: as in HTML without quirks; Selectors 3,
+-- section 6.4, leaves it to the document language)
 abbrev pub class_test : List ℕ → Test
 class_test name = Attr (record { name = codes "class"; op = Word; value = name })
 
@@ -128,6 +131,7 @@ declaration_of text = declaration_from (two_parts (slice_split (λ c. c == 58) t
 abbrev pub last_declaration : List ℕ → Option (List Decl)
 last_declaration text = if is_blank text then Some [] else onto (declaration_of text) (Some [])
 
+-- a list that is not empty
 abbrev pub at_least_one : {A : Type 0} → Option (List A) → Option (List A)
 at_least_one None = None
 at_least_one (Some []) = None

@@ -1,6 +1,6 @@
--- The printed text of a sheet: the bytes of its pieces, with the signs that the syntax needs and no
--- white space (CSS Syntax 3, section 9, serialises rules so that they read back; the shortest such
--- text is this project's own choice).
+-- The printed text of a sheet: the bytes of its pieces, with the signs that the syntax needs between
+-- them (CSS Syntax 3, section 10, asks of a serialisation that it reads back; to put nothing else
+-- between the pieces is this project's own choice).
 use Rattle.std.specs.Prelude.{ℕ, if◌then◌else◌, List, [], ◌∷◌, ◌++◌, map, codes}
 use Rattle.std.specs.List.{join_with_byte, flat_map}
 use Rattle.css_model.specs.declared.sheet.DeclItem.{DeclItem}

@@ -6,6 +6,8 @@ use Rattle.css_model.specs.declared.fault.TheConstants.{LIMIT}
 use Rattle.css_model.specs.Plain.{plain_of}
 use Rattle.css_model.specs.StyleRule.{StyleRule}
 
+-- That a sheet can have a fault is own (CSS Syntax 3, section 2.2, knows none). Where a sheet leaves the
+-- plain form is not told: 0 stands for that.
 abbrev pub plain_or_fault : Option (List StyleRule) → Result (List StyleRule) SheetFault
 plain_or_fault (Some rules) = Ok rules
 plain_or_fault None = Err (record { kind = NotBuilt; at = 0 })

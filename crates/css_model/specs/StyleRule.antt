@@ -19,7 +19,8 @@ selectors_of r = map (λ s. s.selector) r.selectors
 abbrev pub style_rule : RuleParts → StyleRule
 style_rule r = record { selectors = selectors_of r; decls = map (λ d. d.decl) r.decls }
 
--- the style rules among the items of a sheet, in order
+-- The style rules among the items of a sheet, in order. Kept items are left out: with them, equal style
+-- rules do not make equal sheets.
 abbrev pub style_rules : List Item → List StyleRule
 style_rules [] = []
 style_rules ((Rule r) ∷ items) = style_rule r ∷ style_rules items

@@ -2,7 +2,10 @@
 #![tactic(auto)]
 
 mod bytes;
+mod counting;
+mod family;
 mod fault;
+mod laws;
 mod position;
 mod selector;
 mod sheet;
@@ -11,7 +14,15 @@ mod text;
 mod token;
 
 pub use bytes::Bytes;
+pub use counting::specificity;
+pub use family::{Family, relating_is_decided};
 pub use fault::{FaultKind, LIMIT, SheetFault};
+pub use laws::{
+    alike_behind_an_item, alike_wins_alike, applied_is_what_applies, greatest_is_winner,
+    joining_applies_alike, joining_keeps_winners, matching_is_decided,
+    no_winner_is_none_understood, order_decides_winner, outranking_is_decided, passing_is_decided,
+    pieces_do_not_count, understanding_is_decided, winner_is_greatest,
+};
 pub use position::AnB;
 pub use selector::{
     AttrTest, Combinator, Compound, Flag, Op, Pseudo, Selector, Simple, Specificity, Test,

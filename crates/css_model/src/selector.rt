@@ -51,8 +51,8 @@ impl AttrTest {
     }
 }
 
-/// What a dynamic or user-interface pseudo-class asks of an element (Selectors 3, sections 6.6.1 to
-/// 6.6.4). Each is a flag that an element has or has not.
+/// What a dynamic, target or user-interface pseudo-class asks of an element (Selectors 3, sections
+/// 6.6.1, 6.6.2 and 6.6.4). Each is a flag that an element has or has not.
 #[derive(Clone, Copy, Debug, Default, PartialEq, Eq, Hash)]
 pub enum Flag {
     /// `:link`
@@ -210,17 +210,16 @@ impl Compound {
     }
 }
 
-/// How the element of a compound stands to that of the compound at its right (Selectors 3,
-/// section 8).
+/// How the element at the right of a combinator stands to the one at its left (Selectors 3, section 8).
 #[derive(Clone, Copy, Debug, PartialEq, Eq, Hash)]
 pub enum Combinator {
-    /// White space: it is an ancestor.
+    /// White space: it is inside, at any depth.
     Inside,
-    /// `>`: it is the parent.
+    /// `>`: it is a child.
     Child,
-    /// `+`: it is the sibling directly before.
+    /// `+`: it is the next sibling.
     Next,
-    /// `~`: it is an earlier sibling.
+    /// `~`: it is a later sibling.
     Later,
 }
 

@@ -1,7 +1,7 @@
 ghost use Rattle.std.specs.Prelude.{◌≡◌, ◌==◌, ◌++◌, [], ◌∷◌, if◌then◌else◌, map, IfOk, OnOk};
 ghost use Rattle.std.specs.List.{AllByRecursion, join_with_byte};
 ghost use Rattle.css_model.specs.Printed.{printed_selector, printed_declaration, printed_rule, printed_item, printed};
-ghost use Rattle.css_model.specs.Source.{IsSoundSelector, IsSoundDeclaration, IsSoundRule, IsSoundItem, IsSound};
+ghost use Rattle.css_model.specs.Source.{IsWithin, IsSoundSelector, IsSoundDeclaration, IsSoundRule, IsSoundItem, IsSound};
 
 use css_model::{DeclItem, Item, Rule, SelItem, Sheet};
 use std::alloc::{AllocError, Global};
@@ -24,7 +24,8 @@ fn push_selector(out: &mut Vec<u8>, item: &SelItem, source: &[u8]) -> Result<(),
 }
 
 fn push_declaration(out: &mut Vec<u8>, item: &DeclItem, source: &[u8]) -> Result<(), AllocError>
-    requires { IsSoundDeclaration source.now item.now }
+    requires name { IsWithin source.now item.now.name }
+    requires value { IsWithin source.now item.now.value }
     ensures { OnOk result (out.new.items ≡ out.old.items ++ printed_declaration source.now item.now) }
 {
     out.extend_from_slice(item.name.text(source))?;
@@ -111,3 +112,6 @@ pub fn print_sheet(alloc: Global, sheet: &Sheet, source: &[u8]) -> Result<Vec<u8
     }
     Ok(out)
 }
+
+#[cfg(test)]
+mod tests;

@@ -16,8 +16,12 @@ abbrev pub Gives : {X Y : Type 0} → (X → Y) → Result X PartError → Optio
 Gives view (Ok x) read = read ≡ Some (view x)
 Gives view (Err e) read = Fails e read
 
--- the same of a whole sheet, which is refused for its fault
+-- a whole sheet is refused for its fault; memory may run out at any sheet
+abbrev pub Refuses : {Y : Type 0} → SheetError → Result Y SheetFault → Type 0
+Refuses (errors.Fault fault) read = read ≡ Err fault
+Refuses errors.NoMemory read = Unit {0}
+
+-- what a reader of a sheet gave, seen by view, is what the sheet is read as, unless memory ran out
 abbrev pub Answers : {X Y : Type 0} → (X → Y) → Result X SheetError → Result Y SheetFault → Type 0
 Answers view (Ok x) read = read ≡ Ok (view x)
-Answers view (Err (errors.Fault fault)) read = read ≡ Err fault
-Answers view (Err errors.NoMemory) read = Unit {0}
+Answers view (Err e) read = Refuses e read

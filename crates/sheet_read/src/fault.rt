@@ -8,7 +8,7 @@ use thiserror::Error;
 #[derive(Debug, Drop, Error)]
 pub enum SheetError {
     /// The sheet has a fault, at a place of its text.
-    #[error("the style sheet is refused")]
+    #[error("the style sheet is refused: {0}")]
     Fault(SheetFault),
     /// There is not enough memory.
     #[error("out of memory")]

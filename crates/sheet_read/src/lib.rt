@@ -9,3 +9,6 @@ mod read;
 
 pub use fault::SheetError;
 pub use read::read_sheet;
+
+#[cfg(test)]
+mod tests;

@@ -1,4 +1,4 @@
-ghost use Rattle.std.specs.Prelude.{◌≡◌, ◌↔◌, ◌≤◌, Some, min, max, length, drop, IfOk, IsErr, OnErr, Contains};
+ghost use Rattle.std.specs.Prelude.{◌≡◌, ◌↔◌, ◌≤◌, ◌++◌, Some, min, max, length, take, drop, IfOk, IsErr, OnErr, Contains};
 ghost use Rattle.css_io.specs.Io.{next_count, Rose, GivesFirst};
 
 use crate::copying::copy_front;
@@ -84,10 +84,13 @@ impl Source for MemSource {
         ensures fails { IsErr result ↔ Contains self.old.fails self.old.call }
         ensures size { IfOk result (λ n.
             n ≡ min self.old.piece (min (length self.old.left) (length into.old))) }
+        ensures buffer { IfOk result (λ n.
+            into.new ≡ take n self.old.left ++ drop n into.old) }
         ensures read { IfOk result (λ n. self.new ≡ record self.old {
           left = drop n self.old.left;
           call = next_count self.old.call;
         }) }
+        ensures untouched { OnErr result (into.new ≡ into.old) }
         ensures failed { OnErr result (self.new ≡ record self.old {
           call = next_count self.old.call;
           faults = next_count self.old.faults;

@@ -1,0 +1,82 @@
+#!/usr/bin/env python3
+"""Measures `cssmin min` against `cat` on the same files, both in one run.
+
+usage: python3 bench/min.py PROGRAM SHEET..
+
+For each sheet, and for made sheets of 1 MiB, it runs both programs in turn and prints the median of
+their times, the ratio of the medians, and the peak memory of `cssmin` (which the system never gives
+as less than this script's own, some 15 MiB).
+"""
+
+import os
+import statistics
+import sys
+import tempfile
+import time
+
+ROUNDS = 15
+MIB = 1 << 20
+
+
+def one_run(words, path):
+    """The seconds that a run took, and its peak memory in KiB."""
+    begun = time.perf_counter()
+    child = os.fork()
+    if child == 0:
+        os.dup2(os.open(path, os.O_RDONLY), 0)
+        os.dup2(os.open(os.devnull, os.O_WRONLY), 1)
+        os.execvp(words[0], words)
+    _, status, usage = os.wait4(child, 0)
+    took = time.perf_counter() - begun
+    if status != 0:
+        sys.exit(f"{' '.join(words)} ended with {os.waitstatus_to_exitcode(status)} on {path}")
+    return took, usage.ru_maxrss
+
+
+def measure(program, name, path):
+    """Prints the line of one sheet."""
+    ours, cats, memory = [], [], 0
+    for _ in range(ROUNDS):
+        took, peak = one_run([program, "min"], path)
+        ours.append(took)
+        memory = max(memory, peak)
+        cats.append(one_run(["cat"], path)[0])
+    ours, cats = statistics.median(ours), statistics.median(cats)
+    print(
+        f"{name:22} {os.path.getsize(path):8} bytes  cssmin {ours * 1000:7.2f} ms  "
+        f"cat {cats * 1000:6.2f} ms  ratio {ours / cats:6.1f}  peak {memory / 1024:6.1f} MiB"
+    )
+
+
+def filled(rule):
+    """As many rules as fit into 1 MiB, of the text that `rule` gives for each number."""
+    parts, size, number = [], 0, 0
+    while size + len(part := rule(number)) <= MIB:
+        parts.append(part)
+        size += len(part)
+        number += 1
+    return "".join(parts)
+
+
+MADE = {
+    "rules that differ": filled(lambda n: f".c{n} {{\n  color: red;\n  top: {n}px;\n}}\n"),
+    "rules that all join": filled(lambda n: "a{b:c}"),
+    "one rule": "a{" + filled(lambda n: "b:c;")[: MIB - 4] + "}",
+    "white space": " " * MIB,
+}
+
+
+def main():
+    if len(sys.argv) < 2:
+        sys.exit(__doc__)
+    program = os.path.abspath(sys.argv[1])
+    for path in sys.argv[2:]:
+        measure(program, os.path.basename(path), path)
+    for name, text in MADE.items():
+        with tempfile.NamedTemporaryFile("w", suffix=".css") as sheet:
+            sheet.write(text)
+            sheet.flush()
+            measure(program, name, sheet.name)
+
+
+main()

@@ -1,0 +1,17 @@
+pub mod AdderCode
+pub mod CellLemmas
+pub mod ComparisonCode
+pub mod ComparisonLemmas
+pub mod DivisionCode
+pub mod DivisionLemmas
+pub mod Examples
+pub mod ExtensionLemmas
+pub mod GateLemmas
+pub mod GrowLemmas
+pub mod LayoutLemmas
+pub mod LitLemmas
+pub mod PropagationLemmas
+pub mod RangeLemmas
+pub mod Rooms
+pub mod SizeLemmas
+pub mod SumLemmas

@@ -1,0 +1,123 @@
+ghost use Rattle.std.specs.Prelude.{◌≡◌, ◌≢◌, ◌+◌, ◌*◌, ◌/◌, ◌%◌, ◌^◌, ◌<◌, ◌≤◌, ◌↔◌, ℕ, max, List, ◌++◌, length, slice_index_or, Bool, not, false, IsTrue, count_by};
+ghost use Rattle.std.specs.List.{list_all};
+ghost use Rattle.cnf.specs.Cnf.{Cnf, Satisfies, Follows, is_in_range};
+ghost use Rattle.cnf.specs.Gates.{Extends, GrowsBy, with_exactly_one, with_and_gate};
+ghost use Rattle.cnf.specs.Lits.{is_below, are_below, negation, positive};
+ghost use Rattle.cnf.specs.Numbers.{with_at_least, with_division, remainder_digits};
+ghost use Rattle.cnf.specs.Propagation.{IsForced};
+ghost use Rattle.cnf.specs.Sums.{number, with_adder};
+ghost use Rattle.cnf.specs.Values.{value, all_hold};
+ghost use Rattle.cnf.specs.declared.lit.Lit.{Lit};
+
+/// A clause that unit propagation forces follows from the formula (Goldberg and Novikov,
+/// "Verification of proofs of unsatisfiability for CNF formulas", 2003).
+pub fn forced_clause_follows()
+    ensures { (f : Cnf) (clause : List Lit) → IsForced f.clauses clause → Follows f clause }
+{}
+
+/// What values make of literals: a negation is true where its literal is false; a variable's literal
+/// has the variable's value; and more values behind change no literal that has one.
+pub fn values_law()
+    ensures negation { (vs : List Bool) (l : Lit) → value vs (negation l) ≡ not (value vs l) }
+    ensures positive { (vs : List Bool) (v : ℕ)
+        → value vs (positive v) ≡ slice_index_or vs v false }
+    ensures more { (vs more : List Bool) (l : Lit) → IsTrue (is_below (length vs) l)
+        → value (vs ++ more) l ≡ value vs l }
+{}
+
+/// A formula that a second one extends, which a third one extends, is extended by the third.
+pub fn extends_law()
+    ensures none { (f : Cnf) → IsTrue (is_in_range f) → Extends f f }
+    ensures both { (f g h : Cnf) → Extends f g → Extends g h → Extends f h }
+{}
+
+/// What [`exactly_one`](crate::exactly_one) makes of a formula: its clauses stay in front, and a list
+/// of values satisfies the new one exactly where it satisfies the old one and the number of places
+/// whose literal is true is one. (`means` says so of lists of any length.)
+pub fn exactly_one_law()
+    ensures kept { (f : Cnf) (lits : List Lit)
+        → (more : List (List Lit)) × ((with_exactly_one f lits).clauses ≡ f.clauses ++ more) }
+    ensures in_range { (f : Cnf) (lits : List Lit) → IsTrue (is_in_range f)
+        → IsTrue (are_below f.vars lits) → IsTrue (is_in_range (with_exactly_one f lits)) }
+    ensures satisfied { (f : Cnf) (lits : List Lit) (vs : List Bool)
+        → Satisfies vs (with_exactly_one f lits)
+        ↔ (Satisfies vs f × (count_by (value vs) lits ≡ 1)) }
+    ensures means { (f : Cnf) (lits : List Lit) (vs : List Bool)
+        → IsTrue (all_hold vs (with_exactly_one f lits).clauses)
+        ↔ (IsTrue (all_hold vs f.clauses) × (count_by (value vs) lits ≡ 1)) }
+    ensures size { (f : Cnf) (lits : List Lit)
+        → GrowsBy f (with_exactly_one f lits) 0 (length lits * length lits + 1) }
+{}
+
+/// What [`and_gate`](crate::and_gate) makes of a formula: it extends it, and the answer is true
+/// exactly where all the literals are, in every list of values under which the new clauses hold.
+pub fn and_gate_law()
+    ensures extends { (f : Cnf) (lits : List Lit) → IsTrue (is_in_range f)
+        → IsTrue (are_below f.vars lits) → Extends f (with_and_gate f lits).0 }
+    ensures in_range { (f : Cnf) (lits : List Lit)
+        → IsTrue (is_below (with_and_gate f lits).0.vars (with_and_gate f lits).1) }
+    ensures means { (f : Cnf) (lits : List Lit) (vs : List Bool)
+        → IsTrue (all_hold vs (with_and_gate f lits).0.clauses)
+        → value vs (with_and_gate f lits).1 ≡ list_all (value vs) lits }
+    ensures size { (f : Cnf) (lits : List Lit)
+        → GrowsBy f (with_and_gate f lits).0 1 (length lits + 1) }
+{}
+
+/// What [`adder`](crate::adder) makes of a formula: it extends it, and the answer is the sum, with one
+/// digit more than the longer number.
+pub fn adder_law()
+    ensures extends { (f : Cnf) (x y : List Lit) → IsTrue (is_in_range f)
+        → IsTrue (are_below f.vars x) → IsTrue (are_below f.vars y)
+        → Extends f (with_adder f x y).0 }
+    ensures in_range { (f : Cnf) (x y : List Lit)
+        → IsTrue (are_below f.vars x) → IsTrue (are_below f.vars y)
+        → IsTrue (are_below (with_adder f x y).0.vars (with_adder f x y).1) }
+    ensures digits { (f : Cnf) (x y : List Lit)
+        → length (with_adder f x y).1 ≡ max (length x) (length y) + 1 }
+    ensures means { (f : Cnf) (x y : List Lit) → IsTrue (is_in_range f)
+        → IsTrue (are_below f.vars x) → IsTrue (are_below f.vars y) → (vs : List Bool)
+        → IsTrue (all_hold vs (with_adder f x y).0.clauses)
+        → number vs (with_adder f x y).1 ≡ number vs x + number vs y }
+    ensures size { (f : Cnf) (x y : List Lit) → GrowsBy f (with_adder f x y).0
+        (2 * max (length x) (length y) + 1) (20 * max (length x) (length y) + 1) }
+{}
+
+/// What [`at_least`](crate::at_least) makes of a formula: it extends it, and the answer is true
+/// exactly where the number is at least the bound.
+pub fn at_least_law()
+    ensures extends { (f : Cnf) (x : List Lit) (bound : ℕ) → IsTrue (is_in_range f)
+        → IsTrue (are_below f.vars x) → Extends f (with_at_least f x bound).0 }
+    ensures in_range { (f : Cnf) (x : List Lit) (bound : ℕ) → IsTrue (are_below f.vars x)
+        → IsTrue (is_below (with_at_least f x bound).0.vars (with_at_least f x bound).1) }
+    ensures means { (f : Cnf) (x : List Lit) (bound : ℕ) → IsTrue (is_in_range f)
+        → IsTrue (are_below f.vars x) → (vs : List Bool)
+        → IsTrue (all_hold vs (with_at_least f x bound).0.clauses)
+        → IsTrue (value vs (with_at_least f x bound).1) ↔ (bound ≤ number vs x) }
+    ensures size { (f : Cnf) (x : List Lit) (bound : ℕ)
+        → GrowsBy f (with_at_least f x bound).0 (length x + 1) (3 * length x + 1) }
+{}
+
+/// What [`divide_by`](crate::divide_by) makes of a formula: it extends it, and the answers are the
+/// quotient, with as many digits as the number, and the remainder.
+pub fn divide_by_law()
+    ensures extends { (f : Cnf) (x : List Lit) (by : ℕ) → IsTrue (is_in_range f)
+        → IsTrue (are_below f.vars x) → by ≢ 0 → by < 2 ^ 32
+        → Extends f (with_division f x by).formula }
+    ensures in_range { (f : Cnf) (x : List Lit) (by : ℕ) → IsTrue (are_below f.vars x)
+        → IsTrue (are_below (with_division f x by).formula.vars (with_division f x by).quotient)
+        × IsTrue (are_below (with_division f x by).formula.vars (with_division f x by).remainder) }
+    ensures quotient_digits { (f : Cnf) (x : List Lit) (by : ℕ)
+        → length (with_division f x by).quotient ≡ length x }
+    ensures remainder_digits { (f : Cnf) (x : List Lit) (by : ℕ)
+        → length (with_division f x by).remainder ≤ remainder_digits by }
+    ensures quotient { (f : Cnf) (x : List Lit) (by : ℕ) → IsTrue (is_in_range f)
+        → IsTrue (are_below f.vars x) → by ≢ 0 → by < 2 ^ 32 → (vs : List Bool)
+        → IsTrue (all_hold vs (with_division f x by).formula.clauses)
+        → number vs (with_division f x by).quotient ≡ number vs x / by }
+    ensures remainder { (f : Cnf) (x : List Lit) (by : ℕ) → IsTrue (is_in_range f)
+        → IsTrue (are_below f.vars x) → by ≢ 0 → by < 2 ^ 32 → (vs : List Bool)
+        → IsTrue (all_hold vs (with_division f x by).formula.clauses)
+        → number vs (with_division f x by).remainder ≡ number vs x % by }
+    ensures size { (f : Cnf) (x : List Lit) (by : ℕ) → GrowsBy f (with_division f x by).formula
+        ((3 * remainder_digits by + 2) * length x) ((23 * remainder_digits by + 4) * length x) }
+{}

@@ -1,0 +1,35 @@
+ghost use Rattle.std.specs.Prelude.{◌≡◌, IfOk};
+ghost use Rattle.css_model.specs.Family.{RelatingIsDecided};
+
+use crate::text::Text;
+use std::alloc::AllocError;
+
+/// A family of properties: a property sets only properties of its own family.
+#[derive(Debug, PartialEq, Eq, Hash, Drop)]
+pub enum Family {
+    /// The family of `all`, which sets properties of every family.
+    All,
+    /// A custom property, by its name: a family of its own.
+    Custom(Text),
+    /// The family of this name, which is one of the table or the first part of its properties'
+    /// names.
+    Named(Text),
+}
+
+impl Family {
+    /// An equal family, in the memory of the allocator of this one's text.
+    pub fn copy(&self) -> Result<Family, AllocError>
+        ensures { IfOk result (λ f. f ≡ self.now) }
+    {
+        match self {
+            Family::All => Ok(Family::All),
+            Family::Custom(name) => Ok(Family::Custom(name.copy()?)),
+            Family::Named(name) => Ok(Family::Named(name.copy()?)),
+        }
+    }
+}
+
+/// Names are related, in the words of their families, exactly where the test `related` says so.
+pub fn relating_is_decided()
+    ensures { RelatingIsDecided }
+{}

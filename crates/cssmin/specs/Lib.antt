@@ -1,0 +1,4 @@
+pub mod Joining
+pub mod Minified
+pub mod Run
+pub mod Status

@@ -1,0 +1,4 @@
+pub mod Gaps
+pub mod Notation
+pub mod Positions
+pub mod Reading

@@ -1,0 +1,3 @@
+pub mod Hyphens
+pub mod Listed
+pub mod Words
