@@ -6,3 +6,4 @@ pub mod RuleLemmas
 pub mod RunLemmas
 pub mod SaidLemmas
 pub mod StreamLemmas
+pub mod StringLemmas

@@ -1,4 +1,5 @@
 pub mod Laws
 pub mod Left
+pub mod Plain
 pub mod Said
 pub mod UnitOf

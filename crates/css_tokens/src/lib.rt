@@ -9,6 +9,7 @@ mod numbers;
 mod reader;
 mod rules;
 mod runs;
+mod strings;
 mod units;
 
 pub use laws::{parts_join, runs_are_longest, tokens_cover};

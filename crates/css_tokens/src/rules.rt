@@ -11,6 +11,7 @@ use crate::comments::comment_len;
 use crate::names::is_url;
 use crate::numbers::{number_len, signed_decimal};
 use crate::runs::{Unit, run};
+use crate::strings::string_len;
 use crate::units::{name_start, name_unit};
 use css_model::{TokenFlaw, TokenKind};
 
@@ -47,7 +48,7 @@ fn slash_shape(text: &[u8]) -> Result<Shape, TokenFlaw>
 fn string_shape(quote: u8, text: &[u8]) -> Result<Shape, TokenFlaw>
     ensures { result ≡ rules.string_shape quote text.now }
 {
-    let len = run(Unit::Text(quote), text);
+    let len = string_len(quote, text);
     let rest = after(text, len);
     if begins(quote, rest) {
         done(TokenKind::Str, 2 + len)

@@ -4,7 +4,7 @@ ghost use Rattle.std.specs.Prelude.{◌≡◌, ◌≤◌, ◌+◌, length};
 ghost use Rattle.css_model.specs.Runs as runs;
 ghost use Rattle.css_tokens.specs.UnitOf.{unit_of};
 
-use crate::units::{digit_unit, name_unit, string_unit, url_unit, white_unit};
+use crate::units::{digit_unit, name_unit, url_unit, white_unit};
 
 /// A unit that tokens are made of.
 #[derive(Clone, Copy)]
@@ -13,8 +13,6 @@ pub(crate) enum Unit {
     White,
     /// An ident code point or an escape.
     Name,
-    /// What stands inside a string of this quote.
-    Text(u8),
     /// A digit.
     Digit,
     /// What stands inside a url.
@@ -29,7 +27,6 @@ fn unit_len(unit: Unit, text: &[u8]) -> usize
     match unit {
         Unit::White => white_unit(text),
         Unit::Name => name_unit(text),
-        Unit::Text(quote) => string_unit(quote, text),
         Unit::Digit => digit_unit(text),
         Unit::Url => url_unit(text),
     }
