@@ -6,6 +6,7 @@ use std::process::Abort;
 use std::test::Fail;
 
 const SHEET: &[u8] = b"a { color : red ; }";
+
 const PRINTED: &[u8] = b"a{color:red}";
 
 // How a source gives its bytes and two sinks take theirs, and which call fails.
