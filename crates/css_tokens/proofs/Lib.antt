@@ -1,6 +1,7 @@
 pub mod CommentLemmas
 pub mod CommentParts
 pub mod LawLemmas
+pub mod LexedLemmas
 pub mod PartLemmas
 pub mod RuleLemmas
 pub mod RunLemmas

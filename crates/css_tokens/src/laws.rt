@@ -2,6 +2,7 @@
 
 ghost use Rattle.css_model.specs.Runs.{RunsAreLongest};
 ghost use Rattle.css_tokens.specs.Laws.{PartsJoin, TokensCover};
+ghost use Rattle.css_tokens.specs.Lexed.{LexedAreParts, PartsAreLexed};
 
 /// A run is the longest row of its units.
 pub fn runs_are_longest()
@@ -17,4 +18,11 @@ pub fn parts_join()
 /// comments alone stand before it, and it tells whether there are any.
 pub fn tokens_cover()
     ensures { TokensCover }
+{}
+
+/// A text with nothing wrong is read back from its parts: each is the one at the front of its bytes and those
+/// behind it, and any parts of which that holds are the parts of the text that they spell.
+pub fn parts_read_back()
+    ensures lexed { PartsAreLexed }
+    ensures back { LexedAreParts }
 {}
