@@ -131,6 +131,12 @@ pub fn run<S: Source, O: Sink, E: Sink>(
     requires out_fits { (bytes : List ℕ) → O.fits out.old bytes }
     requires err_fits { (bytes : List ℕ) → E.fits err.old bytes }
 
+    // What the status says of the words, the input and the output, in one word. The clauses below are
+    // its cases.
+    ensures outcome { Outcome result (map string_bytes words.now.items)
+        (S.left input.old) (S.left input.new) (record { before = S.faults input.old; after = S.faults input.new })
+        (O.written out.old) (O.written out.new) (record { before = O.faults out.old; after = O.faults out.new }) }
+
     // The text that was written minifies the bytes that were read, all that were left.
     ensures done { result ≡ Status.Done → Did (S.left input.old) (S.left input.new) (O.written out.old) (O.written out.new) }
 
