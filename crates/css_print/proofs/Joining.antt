@@ -1,9 +1,8 @@
 -- Texts that are joined one after the other, as a loop writes them.
-use Rattle.std.proofs.Common.{◌≡◌, ℕ, zero, suc, ◌+◌, ◌<◌, List, [], ◌∷◌, ◌++◌, length, map, take, get_or, if◌then◌else◌, false, refl, sym, ◌∙◌, ap, subst, arith}
+use Rattle.std.proofs.Common.{◌≡◌, ℕ, zero, suc, ◌+◌, ◌<◌, List, [], ◌∷◌, ◌++◌, length, map, take, get_or, if◌then◌else◌, false, refl, sym, ◌∙◌, ap, arith}
 use Rattle.std.specs.Prelude.{◌==◌}
-use Rattle.std.specs.List.{join_with_byte, AllByRecursion}
+use Rattle.std.specs.List.{join_with_byte}
 use Rattle.std.proofs.lemmas.List.{append_assoc, map-append, take_more, length-map, length-take-le}
-use Rattle.std.proofs.lemmas.List.Elements.{All-from_recursion}
 
 pub join_push : (c : ℕ) (parts : List (List ℕ)) (x : List ℕ) → 0 < length parts → join_with_byte c (parts ++ x ∷ []) ≡ join_with_byte c parts ++ (c ∷ []) ++ x
 join_push c [] x some = absurd (omega arith)
@@ -37,7 +36,3 @@ join_step f c out xs i x below is =
     append_assoc (out ++ join_with_byte c parts) (if i == 0 then [] else c ∷ []) (f x)
     ∙ append_assoc out (join_with_byte c parts) ((if i == 0 then [] else c ∷ []) ++ f x)
     ∙ ap (λ text. out ++ text) (sym (append_assoc (join_with_byte c parts) (if i == 0 then [] else c ∷ []) (f x)) ∙ sym (join_more c parts (f x) i size) ∙ ap (join_with_byte c) (sym more))
-
--- what holds of each element holds of the one that is read
-pub all_read : {X : Type 0} → (P : X → Type 0) (xs : List X) (i : ℕ) (x : X) → AllByRecursion P xs → i < length xs → x ≡ get_or xs i x → P x
-all_read P xs i x each below is = subst P (sym is) (All-from_recursion P xs each i x below)
