@@ -14,7 +14,7 @@ unlike_behind (a ∷ []) last item unlike none = (none.0, (unlike, tt))
 unlike_behind (a ∷ b ∷ rest) last item unlike none = (none.0, unlike_behind (b ∷ rest) last item unlike none.1)
 
 unlike_joined : (item : Item) (upper lower : RuleParts) → AreUnlike item (Rule upper) → AreUnlike item (Rule (joined upper lower))
-unlike_joined (Rule r) upper lower unlike = unlike
+unlike_joined (Rule r) upper lower unlike = λ joinable. unlike (record { same_selectors = joinable.same_selectors; upper_once = joinable.upper_once; lower_once = joinable.lower_once })
 unlike_joined (KeptRule k) upper lower unlike = tt
 unlike_joined (KeptBlock piece) upper lower unlike = tt
 
@@ -43,7 +43,7 @@ pushes_one rest old new last item first old_is met new_is =
         upper = upper;
         lower = lower;
         after = [];
-        same_selectors = met.4;
+        joinable = met.4;
         old_is = ap (λ items. items ++ item ∷ []) old_last ∙ ap (λ (a : Item). (rest ++ (Rule upper) ∷ []) ++ a ∷ []) met.3 ∙ append_assoc rest ((Rule upper) ∷ []) ((Rule lower) ∷ []);
         new_is = whole;
       }),
@@ -57,7 +57,7 @@ join_in_front old new behind join = record {
   upper = join.upper;
   lower = join.lower;
   after = join.after ++ behind;
-  same_selectors = join.same_selectors;
+  joinable = join.joinable;
   old_is = ap (λ items. items ++ behind) join.old_is ∙ append_assoc join.before ((Rule join.upper) ∷ (Rule join.lower) ∷ join.after) behind;
   new_is = ap (λ items. items ++ behind) join.new_is ∙ append_assoc join.before ((Rule (joined join.upper join.lower)) ∷ join.after) behind;
 }

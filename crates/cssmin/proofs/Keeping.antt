@@ -9,7 +9,7 @@ use Rattle.css_model.specs.Cascade.{winner}
 use Rattle.css_model.specs.PlainPrinted.{printed_selector, printed_declaration, printed_rule, printed_item, printed}
 use Rattle.css_model.specs.RuleParts.{RuleParts}
 use Rattle.css_model.specs.Source.{IsSoundDeclaration, IsSoundRule, IsSoundItem, IsSound}
-use Rattle.css_model.specs.Laws.{joined, WinAlike, JoiningKeepsWinners}
+use Rattle.css_model.specs.Laws.{joined, WinAlike, JoiningASetKeepsWinners}
 use Rattle.cssmin.specs.Joining.{IsJoin, JoinsIn}
 
 all_append : {X : Type 0} → (P : X → Type 0) (xs ys : List X) → AllByRecursion P xs → AllByRecursion P ys → AllByRecursion P (xs ++ ys)
@@ -88,11 +88,11 @@ pub joins_shorter : (source : List ℕ) (steps : ℕ) (old new : List Item) → 
 joins_shorter source zero old new joins = subst (λ (items : List Item). length (printed source items) ≤ length (printed source old)) joins (omega arith)
 joins_shorter source (suc steps) old new joins = omega (arith, join_shorter source joins.0 new joins.2, joins_shorter source steps old joins.0 joins.1)
 
-pub joins_win_alike : JoiningKeepsWinners → (steps : ℕ) (old new : List Item) → JoinsIn steps old new → WinAlike old new
+pub joins_win_alike : JoiningASetKeepsWinners → (steps : ℕ) (old new : List Item) → JoinsIn steps old new → WinAlike old new
 joins_win_alike law zero old new joins = λ doc target meanings us. ap (λ (items : List Item). winner doc target meanings items us) joins
 joins_win_alike law (suc steps) old new joins = λ doc target meanings us.
     let join = joins.2 in
     joins_win_alike law steps old joins.0 joins.1 doc target meanings us
     ∙ ap (λ (items : List Item). winner doc target meanings items us) join.old_is
-    ∙ law join.before join.after join.upper join.lower join.same_selectors doc target meanings us
+    ∙ law join.before join.after join.upper join.lower join.joinable.same_selectors doc target meanings us
     ∙ ap (λ (items : List Item). winner doc target meanings items us) (sym join.new_is)

@@ -1,7 +1,7 @@
 mod Joins
 mod Keeping
 mod Minifying
-mod Selectors
+mod SelectorSets
 mod Taken
 mod Told
 mod Words

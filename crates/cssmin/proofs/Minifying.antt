@@ -3,7 +3,7 @@ use Rattle.std.proofs.Common.{◌≡◌, ℕ, ◌≤◌, Bool, true, false, List
 use Rattle.css_model.specs.declared.fault.FaultKind.TheVariants.{TooLong}
 use Rattle.css_model.specs.declared.fault.TheConstants.{LIMIT}
 use Rattle.css_model.specs.declared.sheet.Item.{Item}
-use Rattle.css_model.specs.Laws.{JoiningKeepsWinners}
+use Rattle.css_model.specs.Laws.{JoiningASetKeepsWinners}
 use Rattle.css_model.specs.Plain.{plain_of}
 use Rattle.css_model.specs.PlainPrinted.{printed}
 use Rattle.css_model.specs.PlainSheet.{plain_or_fault, sheet_of}
@@ -30,7 +30,7 @@ read_again bytes rules is short =
     let fits : nat_lt LIMIT (length bytes) ≡ false = grind (arith, short) in
     ap (λ long. cond long (Err (record { kind = TooLong; at = LIMIT })) (plain_or_fault (plain_of bytes))) fits ∙ ap plain_or_fault is
 
-pub sheet_minified : (read written : List ℕ) (old new : List Item) → JoiningKeepsWinners
+pub sheet_minified : (read written : List ℕ) (old new : List Item) → JoiningASetKeepsWinners
     → ((source : List ℕ) (items : List Item) → IsSound source items → plain_of source ≡ Some (style_rules items) → length (printed source items) ≤ length source)
     → ((source : List ℕ) (items : List Item) → IsSound source items → plain_of (printed source items) ≡ Some (style_rules items))
     → sheet_of read ≡ Ok (style_rules old) → IsSound read old → (steps : ℕ) × JoinsIn steps old new → HasNoEqualNeighbours new → written ≡ printed read new → IsMinified read written

@@ -1,18 +1,29 @@
--- Joining rules with equal selectors that stand one after the other.
+-- Joining rules with the same set of selectors that stand one after the other.
 use Rattle.std.specs.Prelude.{◌≡◌, ◌≢◌, ◌⊎◌, Option, Some, None, ℕ, zero, suc, List, [], ◌∷◌, ◌++◌}
+use Rattle.std.specs.List.{AllPairs}
 use Rattle.css_model.specs.declared.sheet.Item.{Item}
 use Rattle.css_model.specs.declared.sheet.Item.TheVariants.{Rule}
-use Rattle.css_model.specs.Laws.{joined}
+use Rattle.css_model.specs.Laws.{HaveSameSelectors, joined}
 use Rattle.css_model.specs.RuleParts.{RuleParts}
 use Rattle.css_model.specs.StyleRule.{selectors_of}
 
--- in some place of a sheet, two neighbouring rules with equal selectors become one
+-- a rule has no selector twice
+abbrev pub HasEachOnce : RuleParts → Type 0
+HasEachOnce r = AllPairs ◌≢◌ (selectors_of r)
+
+-- two rules have the same set of selectors, and neither has one twice
+pub record AreJoinable (upper lower : RuleParts) : Type 0 where
+  pub same_selectors : HaveSameSelectors upper lower
+  pub upper_once : HasEachOnce upper
+  pub lower_once : HasEachOnce lower
+
+-- in some place of a sheet, two neighbouring rules with the same set of selectors become one
 pub record IsJoin (old new : List Item) : Type 0 where
   pub before : List Item
   pub upper : RuleParts
   pub lower : RuleParts
   pub after : List Item
-  pub same_selectors : selectors_of upper ≡ selectors_of lower
+  pub joinable : AreJoinable upper lower
   pub old_is : old ≡ before ++ (Rule upper) ∷ (Rule lower) ∷ after
   pub new_is : new ≡ before ++ (Rule (joined upper lower)) ∷ after
 
@@ -23,18 +34,18 @@ JoinsIn (suc steps) old new = (between : List Item) × JoinsIn steps old between
 
 -- two neighbours that cannot be joined
 abbrev pub AreUnlike : Item → Item → Type 0
-AreUnlike (Rule upper) (Rule lower) = selectors_of upper ≢ selectors_of lower
+AreUnlike (Rule upper) (Rule lower) = ¬ AreJoinable upper lower
 AreUnlike upper lower = Unit {0}
 
--- no two neighbouring rules have equal selectors
+-- no two neighbouring rules, of which neither has a selector twice, have the same set of selectors
 abbrev pub HasNoEqualNeighbours : List Item → Type 0
 HasNoEqualNeighbours [] = Unit {0}
 HasNoEqualNeighbours (item ∷ []) = Unit {0}
 HasNoEqualNeighbours (item ∷ next ∷ items) = AreUnlike item next × HasNoEqualNeighbours (next ∷ items)
 
--- what two neighbours become: one rule where they are rules with equal selectors, else they stay
+-- what two neighbours become: one rule where they can be joined, else they stay
 abbrev pub IsJoined : Item → Item → Item → Option Item → Type 0
-IsJoined upper lower first None = (r q : RuleParts) × (upper ≡ Rule r) × (lower ≡ Rule q) × (selectors_of r ≡ selectors_of q) × (first ≡ Rule (joined r q))
+IsJoined upper lower first None = (r q : RuleParts) × (upper ≡ Rule r) × (lower ≡ Rule q) × AreJoinable r q × (first ≡ Rule (joined r q))
 IsJoined upper lower first (Some second) = (first ≡ upper) × (second ≡ lower) × AreUnlike upper lower
 
 -- an item behind others, and at most one join; where the others had no equal neighbours, the result

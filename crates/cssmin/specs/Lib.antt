@@ -1,4 +1,5 @@
 pub mod Joining
 pub mod Minified
 pub mod Run
+pub mod SelectorSet
 pub mod Status

@@ -1,27 +1,46 @@
-//! Joining neighbouring rules with equal selectors.
+//! Joining neighbouring rules with the same set of selectors.
 
 ghost use Rattle.std.specs.Prelude.{◌≡◌, ◌++◌, ◌∷◌, ◌↔◌, [], ℕ, map, IsTrue, IfOk, OnOk, OnErr};
-ghost use Rattle.css_model.specs.StyleRule.{selectors_of};
 ghost use Rattle.css_model.specs.Laws as laws;
-ghost use Rattle.cssmin.specs.Joining.{JoinsIn, HasNoEqualNeighbours, IsJoined, PushesJoined};
+ghost use Rattle.cssmin.specs.Joining.{AreJoinable, JoinsIn, HasNoEqualNeighbours, IsJoined, PushesJoined};
+ghost use Rattle.cssmin.specs.SelectorSet.{IsSetOf};
 
-use css_model::{Item, Rule, SelItem};
+use css_model::{Item, Rule, SelItem, Selector};
 use std::alloc::{AllocError, Global};
+use std::collections::HashSet;
 
-/// Whether two lists of selectors are equal, wherever they stand in the source.
-fn same_selectors(left: &[SelItem], right: &[SelItem]) -> bool
-    ensures { IsTrue result ↔ (map (λ s. s.selector) left.now ≡ map (λ s. s.selector) right.now) }
+/// The set of the selectors of a rule, or nothing where one of them stands twice.
+fn set_of<'a>(
+    alloc: Global,
+    items: &'a [SelItem],
+) -> Result<Option<HashSet<&'a Selector>>, AllocError>
+    ensures { IfOk result (IsSetOf (map (λ s. s.selector) items.now)) }
 {
-    if left.len() != right.len() {
-        return false;
-    }
-    for (i, item) in left.iter().enumerate() {
-        let same = item.selector == right[i].selector;
-        if !same {
-            return false;
+    let mut set = HashSet::with_capacity(alloc, items.len())?;
+    for item in items {
+        let added = set.insert(&item.selector)?;
+        if !added {
+            return Ok(None);
         }
     }
-    true
+    Ok(Some(set))
+}
+
+/// Whether two rules have the same set of selectors, and neither has one twice.
+fn are_joinable(alloc: Global, upper: &Rule, lower: &Rule) -> Result<bool, AllocError>
+    ensures { IfOk result (λ b. IsTrue b ↔ AreJoinable upper.now lower.now) }
+{
+    // Where neither has one twice, lists of the same set are of one length.
+    if upper.selectors.len() != lower.selectors.len() {
+        return Ok(false);
+    }
+    let Some(above) = set_of(alloc, upper.selectors.as_slice())? else {
+        return Ok(false);
+    };
+    let Some(below) = set_of(alloc, lower.selectors.as_slice())? else {
+        return Ok(false);
+    };
+    Ok(above == below)
 }
 
 /// Puts the declarations of the lower rule behind those of the upper one.
@@ -36,14 +55,14 @@ fn join(upper: &mut Rule, lower: Rule) -> Result<(), AllocError>
     upper.decls.append(&mut decls)
 }
 
-/// Two neighbours, of which the lower one is joined to the upper one where both are rules with equal
-/// selectors.
-fn joined(upper: Item, lower: Item) -> Result<(Item, Option<Item>), AllocError>
+/// Two neighbours, of which the lower one is joined to the upper one where both are rules with the same
+/// set of selectors, and neither has one twice.
+fn joined(alloc: Global, upper: Item, lower: Item) -> Result<(Item, Option<Item>), AllocError>
     ensures { IfOk result (λ items. IsJoined upper lower items.0 items.1) }
 {
     match (upper, lower) {
         (Item::Rule(mut upper), Item::Rule(lower)) => {
-            if same_selectors(upper.selectors.as_slice(), lower.selectors.as_slice()) {
+            if are_joinable(alloc, &upper, &lower)? {
                 join(&mut upper, lower)?;
                 Ok((Item::Rule(upper), None))
             } else {
@@ -55,14 +74,14 @@ fn joined(upper: Item, lower: Item) -> Result<(Item, Option<Item>), AllocError>
 }
 
 /// Puts an item at the end of a sheet, joined to the last one where that can be.
-fn push_joined(items: &mut Vec<Item>, item: Item) -> Result<(), AllocError>
+fn push_joined(alloc: Global, items: &mut Vec<Item>, item: Item) -> Result<(), AllocError>
     ensures { OnOk result (PushesJoined items.old.items item items.new.items) }
 {
     let Some(last) = items.pop() else {
         items.push(item)?;
         return Ok(());
     };
-    let (upper, lower) = joined(last, item)?;
+    let (upper, lower) = joined(alloc, last, item)?;
     items.push(upper)?;
     if let Some(lower) = lower {
         items.push(lower)?;
@@ -70,14 +89,14 @@ fn push_joined(items: &mut Vec<Item>, item: Item) -> Result<(), AllocError>
     Ok(())
 }
 
-/// Joins neighbouring rules with equal selectors, until none are left.
+/// Joins neighbouring rules with the same set of selectors, none of them twice, until none are left.
 pub(crate) fn join_neighbours(alloc: Global, items: Vec<Item>) -> Result<Vec<Item>, AllocError>
     ensures joins { IfOk result (λ joined. (steps : ℕ) × JoinsIn steps items.items joined.items) }
     ensures none_left { IfOk result (λ joined. HasNoEqualNeighbours joined.items) }
 {
     let mut joined = Vec::new(alloc);
     for item in items {
-        push_joined(&mut joined, item)?;
+        push_joined(alloc, &mut joined, item)?;
     }
     Ok(joined)
 }

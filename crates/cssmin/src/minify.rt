@@ -6,7 +6,7 @@ ghost use Rattle.sheet_read.specs.Reading.{Refuses};
 ghost use Rattle.cssmin.specs.Minified.{IsMinified};
 
 use crate::join::join_neighbours;
-use css_model::{Sheet, joining_keeps_winners};
+use css_model::{Sheet, joining_a_set_keeps_winners};
 use css_print::{is_no_longer, print_sheet, reads_back};
 use sheet_read::{SheetError, read_sheet};
 use std::alloc::Global;
@@ -18,7 +18,7 @@ pub(crate) fn minified(alloc: Global, source: &[u8]) -> Result<Vec<u8>, SheetErr
     ensures err { IfErr result (λ e. Refuses e (sheet_of source.now)) }
 {
     // Laws that the contract stands on; they do nothing.
-    joining_keeps_winners();
+    joining_a_set_keeps_winners();
     is_no_longer();
     reads_back();
     let sheet = read_sheet(alloc, source)?;

@@ -17,4 +17,4 @@ returns-clause-ok c =
     let same = ap (λ (s : SheetParts). s.items) c.sheet.view_is in
     let joins = subst (λ (items : List Item). (steps : ℕ) × JoinsIn steps items c.in_ok-items.items.items) same c.in_ok-items.ensures.joins in
     sheet_minified c.args.source.now c.in_ok-print_sheet.field-0.items c.in_ok-sheet.sheet.items c.in_ok-items.items.items
-    c.joining_keeps_winners.ensures c.is_no_longer.ensures c.reads_back.ensures c.in_ok-sheet.ensures.read c.in_ok-sheet.ensures.sound joins c.in_ok-items.ensures.none_left c.in_ok-print_sheet.ensures
+    c.joining_a_set_keeps_winners.ensures c.is_no_longer.ensures c.reads_back.ensures c.in_ok-sheet.ensures.read c.in_ok-sheet.ensures.sound joins c.in_ok-items.ensures.none_left c.in_ok-print_sheet.ensures
