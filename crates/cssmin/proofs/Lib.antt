@@ -1,7 +1,11 @@
 mod Joins
 mod Keeping
+mod Limits
 mod Minifying
+mod Origin
 mod SelectorSets
+mod Shorter
+mod Spelled
 mod Taken
 mod Told
 mod Words
