@@ -6,6 +6,7 @@ pub mod CascadeWords
 mod FamilyExamples
 pub mod Greatest
 pub mod InOrder
+pub mod JoiningSets
 pub mod LegalExamples
 pub mod MatchingExamples
 pub mod MatchingWords

@@ -12,6 +12,7 @@ ghost use Rattle.css_model.specs.Laws.{
   AlikeBehindAnItem,
   JoiningAppliesAlike,
   JoiningKeepsWinners,
+  JoiningASetKeepsWinners,
   PiecesDoNotCount,
   AppliedIsWhatApplies,
 };
@@ -84,6 +85,11 @@ pub fn joining_applies_alike()
 /// To join two neighbouring rules with equal selectors keeps every winner.
 pub fn joining_keeps_winners()
     ensures { JoiningKeepsWinners }
+{}
+
+/// To join two neighbouring rules with the same set of selectors keeps every winner.
+pub fn joining_a_set_keeps_winners()
+    ensures { JoiningASetKeepsWinners }
 {}
 
 /// The same rules and kept items, read from other places of other sources, apply the same.
