@@ -16,4 +16,5 @@ pub mod PlainLemmas
 pub mod Ranking
 pub mod Same
 pub mod SliceRange
+pub mod Soundness
 mod TokenExamples

@@ -1,6 +1,6 @@
 -- A style sheet whose pieces are those of a source: each of its selectors, declarations and kept items
 -- is one that the source has.
-use Rattle.std.specs.Prelude.{ℕ, ◌≡◌, ◌≢◌, List, [], Some}
+use Rattle.std.specs.Prelude.{ℕ, ◌≡◌, ◌≢◌, List, [], Some, Ok}
 use Rattle.std.specs.List.{AllByRecursion, Contains, filter}
 use Rattle.css_model.specs.declared.sheet.DeclItem.{DeclItem}
 use Rattle.css_model.specs.declared.sheet.Item.{Item}
@@ -14,7 +14,7 @@ use Rattle.css_model.specs.KeptRuleParts.{KeptRuleParts}
 use Rattle.css_model.specs.Lexemes.{piece_of}
 use Rattle.css_model.specs.RuleParts.{RuleParts}
 use Rattle.css_model.specs.Selectors.{selector_item}
-use Rattle.css_model.specs.Sheet.{item_of}
+use Rattle.css_model.specs.Sheet.{item_of, sheet_of}
 use Rattle.css_model.specs.Spelling.{lexemes_of}
 
 -- the items of a source, by their tokens
@@ -63,3 +63,7 @@ IsSoundItem source (KeptBlock piece) = IsSoundBlock source piece
 
 abbrev pub IsSound : List ℕ → List Item → Type 0
 IsSound source items = AllByRecursion (IsSoundItem source) items
+
+-- what a source is read as is sound for it
+abbrev pub ReadIsSound : Type 0
+ReadIsSound = (source : List ℕ) (items : List Item) → sheet_of source ≡ Ok items → IsSound source items

@@ -16,6 +16,7 @@ ghost use Rattle.css_model.specs.Laws.{
   PiecesDoNotCount,
   AppliedIsWhatApplies,
 };
+ghost use Rattle.css_model.specs.Sound.{ReadIsSound};
 
 /// The words of Selectors 3, section 6.3, and the test of an attribute's value agree.
 pub fn passing_is_decided()
@@ -94,4 +95,10 @@ pub fn joining_a_set_keeps_winners()
 /// The same rules and kept items, read from other places of other sources, apply the same.
 pub fn pieces_do_not_count()
     ensures { PiecesDoNotCount }
+{}
+
+/// What a source is read as is sound for it: each of its selectors, declarations and kept items is one
+/// that the source has.
+pub fn read_is_sound()
+    ensures { ReadIsSound }
 {}

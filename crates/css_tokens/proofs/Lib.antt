@@ -8,3 +8,4 @@ pub mod RunLemmas
 pub mod SaidLemmas
 pub mod StreamLemmas
 pub mod StringLemmas
+pub mod WholeCharacters

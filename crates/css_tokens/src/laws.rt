@@ -2,7 +2,7 @@
 
 ghost use Rattle.css_model.specs.Runs.{RunsAreLongest};
 ghost use Rattle.css_tokens.specs.Laws.{PartsJoin, TokensCover};
-ghost use Rattle.css_tokens.specs.Lexed.{LexedAreParts, PartsAreLexed};
+ghost use Rattle.css_tokens.specs.Lexed.{LexedAreParts, LexedAreUtf8, PartsAreLexed};
 
 /// A run is the longest row of its units.
 pub fn runs_are_longest()
@@ -25,4 +25,10 @@ pub fn tokens_cover()
 pub fn parts_read_back()
     ensures lexed { PartsAreLexed }
     ensures back { LexedAreParts }
+{}
+
+/// Each part of a text in UTF-8 that is read where it stands is UTF-8 itself: no token ends inside a code
+/// point.
+pub fn parts_are_utf8()
+    ensures { LexedAreUtf8 }
 {}
