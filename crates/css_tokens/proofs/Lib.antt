@@ -1,10 +1,14 @@
 pub mod CommentLemmas
 pub mod CommentParts
+pub mod Keeps
 pub mod LawLemmas
 pub mod LexedLemmas
+pub mod NamesAgain
+pub mod NumbersAgain
 pub mod PartLemmas
 pub mod RuleLemmas
 pub mod RunLemmas
 pub mod SaidLemmas
 pub mod StreamLemmas
 pub mod StringLemmas
+pub mod UnitsAgain
