@@ -6,6 +6,7 @@ pub mod LexedLemmas
 pub mod NamesAgain
 pub mod NumbersAgain
 pub mod PartLemmas
+pub mod RuleBounds
 pub mod RuleLemmas
 pub mod RunLemmas
 pub mod SaidLemmas
