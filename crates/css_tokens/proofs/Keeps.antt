@@ -1,5 +1,5 @@
 -- A run of units that ends before one rest of a text, or within what stands before it, is the same before another.
-use Rattle.std.proofs.Common.{ℕ, zero, suc, ◌<◌, ◌≤◌, ◌≡◌, List, [], ◌∷◌, ◌++◌, length, drop, refl, sym, ap, ◌∙◌, arith}
+use Rattle.std.proofs.Common.{ℕ, zero, suc, ◌+◌, ◌<◌, ◌≤◌, ◌≡◌, List, [], ◌∷◌, ◌++◌, length, drop, refl, sym, ap, ◌∙◌, arith}
 use Rattle.std.proofs.lemmas.List.{drop-append-le, length-drop}
 use Rattle.css_model.specs.Runs.{run}
 use Rattle.css_tokens.proofs.RunLemmas.{run_unit, run_none}
@@ -83,3 +83,19 @@ fits_from unit old new nil h (suc n) (c ∷ cs) short fits =
 pub run_fits : (unit : List ℕ → ℕ) (old new : List ℕ) → unit [] ≡ 0 → Fits unit old new
     → (v : List ℕ) → run unit (v ++ old) ≤ length v → run unit (v ++ new) ≡ run unit (v ++ old)
 run_fits unit old new nil h v fits = fits_from unit old new nil h (length v) v (omega arith) fits
+
+-- one length and then another
+pub seq_same : (f g : List ℕ → ℕ) (old new v : List ℕ) → (f (v ++ old) ≤ length v → f (v ++ new) ≡ f (v ++ old))
+    → (f (v ++ old) ≤ length v → g (drop (f (v ++ old)) v ++ old) ≤ length (drop (f (v ++ old)) v) → g (drop (f (v ++ old)) v ++ new) ≡ g (drop (f (v ++ old)) v ++ old))
+    → f (v ++ old) + g (drop (f (v ++ old)) (v ++ old)) ≤ length v
+    → f (v ++ new) + g (drop (f (v ++ new)) (v ++ new)) ≡ f (v ++ old) + g (drop (f (v ++ old)) (v ++ old))
+seq_same f g old new v p q both =
+    let n = f (v ++ old) in
+    let fits : n ≤ length v = omega (arith, both) in
+    let first : f (v ++ new) ≡ n = p fits in
+    let before = ap (λ (cs : List ℕ). g cs) (drop-append-le n v old fits) in
+    let behind = ap (λ (cs : List ℕ). g cs) (drop-append-le n v new fits) in
+    let rest : g (drop n v ++ old) ≤ length (drop n v) = omega (arith, both, length-drop n v, before) in
+    let second : g (drop n v ++ new) ≡ g (drop n v ++ old) = q fits rest in
+    let at : f (v ++ new) + g (drop (f (v ++ new)) (v ++ new)) ≡ n + g (drop n (v ++ new)) = ap (λ (m : ℕ). m + g (drop m (v ++ new))) first in
+    omega (arith, at, second, before, behind)

@@ -1,12 +1,12 @@
 -- Numbers before another rest.
-use Rattle.std.proofs.Common.{ℕ, zero, suc, ◌+◌, ◌≤◌, ◌≡◌, inl, inr, ◌⊎◌, Bool, true, false, cond, ◌==◌, List, [], ◌∷◌, ◌++◌, length, drop, refl, sym, ap, ◌∙◌, arith}
+use Rattle.std.proofs.Common.{ℕ, zero, suc, ◌≤◌, ◌≡◌, inl, inr, ◌⊎◌, Bool, true, false, cond, ◌==◌, List, [], ◌∷◌, ◌++◌, length, drop, refl, sym, ap, ◌∙◌, arith}
 use Rattle.std.proofs.lemmas.Bool.{eqb-true, or_cases}
 use Rattle.std.proofs.lemmas.List.{drop-append-le, length-drop}
 use Rattle.css_model.specs.Characters.{dot, is_plus_or_minus}
 use Rattle.css_model.specs.Runs.{run}
 use Rattle.css_model.specs.Units.{digit_unit, fraction, decimal, signed_decimal, signed_digits, exponent, number_len, name_start, one_and}
 use Rattle.css_tokens.specs.Alike.{Alike, is_exponent}
-use Rattle.css_tokens.proofs.Keeps.{run_fits}
+use Rattle.css_tokens.proofs.Keeps.{run_fits, seq_same}
 use Rattle.css_tokens.proofs.UnitsAgain.{digit_fits}
 
 one_and_fits : (m l : ℕ) → one_and m ≤ suc l → m ≤ l
@@ -17,22 +17,6 @@ one_and_fits (suc m) l fits = omega arith
 sign_cases : (b : Bool) (m m' k k' l : ℕ) → (m ≤ l → m' ≡ m) → (k ≤ suc l → k' ≡ k) → cond b (one_and m) k ≤ suc l → cond b (one_and m') k' ≡ cond b (one_and m) k
 sign_cases true m m' k k' l p q fits = ap one_and (p (one_and_fits m l fits))
 sign_cases false m m' k k' l p q fits = q fits
-
--- one length and then another
-seq_same : (f g : List ℕ → ℕ) (old new v : List ℕ) → (f (v ++ old) ≤ length v → f (v ++ new) ≡ f (v ++ old))
-    → (f (v ++ old) ≤ length v → g (drop (f (v ++ old)) v ++ old) ≤ length (drop (f (v ++ old)) v) → g (drop (f (v ++ old)) v ++ new) ≡ g (drop (f (v ++ old)) v ++ old))
-    → f (v ++ old) + g (drop (f (v ++ old)) (v ++ old)) ≤ length v
-    → f (v ++ new) + g (drop (f (v ++ new)) (v ++ new)) ≡ f (v ++ old) + g (drop (f (v ++ old)) (v ++ old))
-seq_same f g old new v p q both =
-    let n = f (v ++ old) in
-    let fits : n ≤ length v = omega (arith, both) in
-    let first : f (v ++ new) ≡ n = p fits in
-    let before = ap (λ (cs : List ℕ). g cs) (drop-append-le n v old fits) in
-    let behind = ap (λ (cs : List ℕ). g cs) (drop-append-le n v new fits) in
-    let rest : g (drop n v ++ old) ≤ length (drop n v) = omega (arith, both, length-drop n v, before) in
-    let second : g (drop n v ++ new) ≡ g (drop n v ++ old) = q fits rest in
-    let at : f (v ++ new) + g (drop (f (v ++ new)) (v ++ new)) ≡ n + g (drop n (v ++ new)) = ap (λ (m : ℕ). m + g (drop m (v ++ new))) first in
-    omega (arith, at, second, before, behind)
 
 digits_same : (old new : List ℕ) → Alike old new → (v : List ℕ) → run digit_unit (v ++ old) ≤ length v → run digit_unit (v ++ new) ≡ run digit_unit (v ++ old)
 digits_same old new h v fits = run_fits digit_unit old new refl (digit_fits old new h.digit) v fits
