@@ -2,14 +2,17 @@ pub mod AlikeLemmas
 pub mod ClosedAgain
 pub mod CommentLemmas
 pub mod CommentParts
+pub mod EndsLemmas
 pub mod Keeps
 pub mod LawLemmas
 pub mod LexedLemmas
+pub mod LooksLemmas
 pub mod NamedAgain
 pub mod NamesAgain
 pub mod NumberRule
 pub mod NumbersAgain
 pub mod PartLemmas
+pub mod RowsAgain
 pub mod RuleBounds
 pub mod RuleLemmas
 pub mod RulesAgain
