@@ -14,6 +14,7 @@ use Rattle.css_tokens.proofs.UnitsAgain.{escape_two}
 use Rattle.css_tokens.proofs.NamesAgain.{name_none}
 use Rattle.css_tokens.proofs.RuleBounds.{rule_name_start, rule_number}
 use Rattle.css_tokens.proofs.PartLemmas.{part_len, part_rule}
+use Rattle.css_tokens.proofs.OneAnd.{one_and_fits, none_one_and}
 
 white_cases : (w f f' : Bool) → ◌≡◌ {A = ℕ} (cond w (cond f 2 1) 0) 0 → ◌≡◌ {A = ℕ} (cond w (cond f' 2 1) 0) 0
 white_cases false f f' none = refl
@@ -153,17 +154,11 @@ unit_front old new c cs bounds = which (c == backslash) refl
     which true escape = subst (λ (c : ℕ). Bounds (c ∷ cs) new → name_unit (c ∷ cs ++ old) ≡ 0 → name_unit (c ∷ cs ++ new) ≡ 0) (sym (eqb-true c backslash escape)) at_escape bounds
     which false escape = λ none. rw escape (rw escape at none)
 
-pub one_and_none : (n : ℕ) → one_and n ≡ 0 → n ≡ 0
-one_and_none zero none = refl
-one_and_none (suc n) none = absurd (omega (arith, none))
-
 digits_front : (old new cs : List ℕ) → one_and (run digit_unit (cs ++ new)) ≤ suc (length cs) → one_and (run digit_unit (cs ++ old)) ≡ 0 → one_and (run digit_unit (cs ++ new)) ≡ 0
-digits_front old new [] short none = short_none (run digit_unit new) short
-  where
-    short_none : (n : ℕ) → one_and n ≤ 1 → one_and n ≡ 0
-    short_none zero short = refl
-    short_none (suc n) short = absurd (omega (arith, short))
-digits_front old new (d ∷ ds) short none = ap one_and (digit_first d (ds ++ old) (ds ++ new) (one_and_none (run digit_unit (d ∷ ds ++ old)) none))
+digits_front old new [] short none =
+    let digits : run digit_unit new ≡ 0 = omega (arith, one_and_fits (run digit_unit new) 0 short) in
+    ap one_and digits
+digits_front old new (d ∷ ds) short none = ap one_and (digit_first d (ds ++ old) (ds ++ new) (none_one_and (run digit_unit (d ∷ ds ++ old)) none))
 
 pub fraction_front : (old new : List ℕ) (c : ℕ) (cs : List ℕ) → Bounds (c ∷ cs) new → fraction (c ∷ cs ++ old) ≡ 0 → fraction (c ∷ cs ++ new) ≡ 0
 fraction_front old new c cs bounds = which (c == dot) refl

@@ -2,6 +2,7 @@ pub mod AlikeLemmas
 pub mod ClosedAgain
 pub mod CommentLemmas
 pub mod CommentParts
+pub mod EndsAnywhere
 pub mod EndsLemmas
 pub mod Keeps
 pub mod LawLemmas
@@ -11,6 +12,7 @@ pub mod NamedAgain
 pub mod NamesAgain
 pub mod NumberRule
 pub mod NumbersAgain
+pub mod OneAnd
 pub mod PartLemmas
 pub mod RowsAgain
 pub mod RuleBounds

@@ -16,7 +16,8 @@ use Rattle.css_tokens.proofs.RuleBounds.{white_is}
 use Rattle.css_tokens.proofs.WordsAgain.{decimal_none}
 use Rattle.css_tokens.proofs.PartLemmas.{part_len, part_rule}
 use Rattle.css_tokens.proofs.Shapes.{shape_parts}
-use Rattle.css_tokens.proofs.AlikeLemmas.{Bounds, part_bounds, escape_first, digit_first, unit_front, one_and_none}
+use Rattle.css_tokens.proofs.AlikeLemmas.{Bounds, part_bounds, escape_first, digit_first, unit_front}
+use Rattle.css_tokens.proofs.OneAnd.{one_and_fits, none_one_and}
 
 -- white space is read as such
 white_rule : (cs : List ℕ) (c : ℕ) → is_white c ≡ true → rule_at (c ∷ cs) ≡ done kind.White (run white_unit (c ∷ cs))
@@ -78,21 +79,17 @@ sign_bound c cs new bounds sign =
     let same : signed_decimal (c ∷ cs ++ new) ≡ one_and (decimal (cs ++ new)) = rw sign refl in
     omega (arith, bounds.number, same)
 
-one_and_short : (n : ℕ) → one_and n ≤ 1 → n ≡ 0
-one_and_short zero short = refl
-one_and_short (suc n) short = absurd (omega (arith, short))
-
 digits_front : (old new : List ℕ) (c : ℕ) (cs : List ℕ) → Bounds (c ∷ cs) new → signed_digits (c ∷ cs ++ old) ≡ 0 → signed_digits (c ∷ cs ++ new) ≡ 0
 digits_front old new c cs bounds = which (is_plus_or_minus c) refl
   where
     behind : (cs : List ℕ) → one_and (decimal (cs ++ new)) ≤ suc (length cs) → run digit_unit (cs ++ old) ≡ 0 → run digit_unit (cs ++ new) ≡ 0
-    behind [] short none = omega (arith, one_and_short (decimal new) short)
+    behind [] short none = omega (arith, one_and_fits (decimal new) 0 short)
     behind (d ∷ ds) short none = digit_first d (ds ++ old) (ds ++ new) none
 
     which : (b : Bool) → is_plus_or_minus c ≡ b → signed_digits (c ∷ cs ++ old) ≡ 0 → signed_digits (c ∷ cs ++ new) ≡ 0
     which true sign none =
         let digits : one_and (run digit_unit (cs ++ old)) ≡ 0 = rw sign at none in
-        rw sign (ap one_and (behind cs (sign_bound c cs new bounds sign) (one_and_none (run digit_unit (cs ++ old)) digits)))
+        rw sign (ap one_and (behind cs (sign_bound c cs new bounds sign) (none_one_and (run digit_unit (cs ++ old)) digits)))
     which false sign none =
         let digits : run digit_unit (c ∷ cs ++ old) ≡ 0 = rw sign at none in
         rw sign (digit_first c (cs ++ old) (cs ++ new) digits)
@@ -103,7 +100,7 @@ decimal_front old new c cs bounds = decimal_none c (cs ++ old) (cs ++ new) (λ a
     dotted : (cs : List ℕ) → Bounds (dot ∷ cs) new → digit_unit (cs ++ old) ≡ 0 → digit_unit (cs ++ new) ≡ 0
     dotted [] bounds none =
         let number : 0 + one_and (run digit_unit new) ≤ 1 = bounds.number in
-        let digits : run digit_unit new ≡ 0 = one_and_short (run digit_unit new) (omega (arith, number)) in
+        let digits : run digit_unit new ≡ 0 = omega (arith, one_and_fits (run digit_unit new) 0 (omega (arith, number))) in
         omega (arith, unit_le_run digit_unit new refl, digits)
     dotted (d ∷ ds) bounds none = none
 
@@ -142,7 +139,7 @@ looks_front k u (c ∷ cs) old new j through before now =
       dotted = λ _ none. none;
       hashed = λ _. unit_front old new c cs bounds;
       at_named = λ _ none. name_none old new (c ∷ cs) none bounds.name;
-      closed = λ _ none. none;
+      closed = λ _ _ none. none;
       quoted = λ _ _ _ _. quoted_front old new j c cs through before now;
       exponented = λ _ _ _ _ _. digits_front old new c cs bounds;
     }

@@ -8,10 +8,7 @@ use Rattle.css_model.specs.Units.{digit_unit, fraction, decimal, signed_decimal,
 use Rattle.css_tokens.specs.Alike.{Alike, is_exponent}
 use Rattle.css_tokens.proofs.Keeps.{run_fits, seq_same}
 use Rattle.css_tokens.proofs.UnitsAgain.{digit_fits}
-
-one_and_fits : (m l : ℕ) → one_and m ≤ suc l → m ≤ l
-one_and_fits zero l fits = omega arith
-one_and_fits (suc m) l fits = omega arith
+use Rattle.css_tokens.proofs.OneAnd.{one_and_fits}
 
 -- a byte and what follows it, or something else
 sign_cases : (b : Bool) (m m' k k' l : ℕ) → (m ≤ l → m' ≡ m) → (k ≤ suc l → k' ≡ k) → cond b (one_and m) k ≤ suc l → cond b (one_and m') k' ≡ cond b (one_and m) k

@@ -56,6 +56,11 @@ begins_quoted text = begins_with is_quote (after_white text)
 abbrev pub is_exponent : ℕ → Bool
 is_exponent c = c == 101 || c == 69
 
+-- a function whose name is `url` keeps the string behind it
+abbrev pub KeepsString : Option TokenKind → List ℕ → List ℕ → List ℕ → Type 0
+KeepsString kind_of bytes old new = (name : List ℕ) → kind_of ≡ Some kind.Function → bytes ≡ name ++ open_round ∷ [] → is_url name ≡ true
+    → begins_quoted old ≡ true → begins_quoted new ≡ true
+
 -- What single tokens look at behind themselves: what the one of this kind and these bytes did not find in one
 -- rest is not in another. Of the others each field asks nothing.
 pub record LooksAlike (kind_of : Option TokenKind) (bytes old new : List ℕ) : Type 0 where
@@ -67,10 +72,8 @@ pub record LooksAlike (kind_of : Option TokenKind) (bytes old new : List ℕ) : 
   pub dotted : kind_of ≡ Some (kind.Delim dot) → digit_unit old ≡ 0 → digit_unit new ≡ 0
   pub hashed : kind_of ≡ Some (kind.Delim hash) → name_unit old ≡ 0 → name_unit new ≡ 0
   pub at_named : kind_of ≡ Some (kind.Delim at_sign) → name_start old ≡ 0 → name_start new ≡ 0
-  pub closed : bytes ≡ dash ∷ dash ∷ [] → begins greater_than old ≡ false → begins greater_than new ≡ false
-  -- a function whose name is `url` keeps the string behind it
-  pub quoted : (name : List ℕ) → kind_of ≡ Some kind.Function → bytes ≡ name ++ open_round ∷ [] → is_url name ≡ true
-      → begins_quoted old ≡ true → begins_quoted new ≡ true
+  pub closed : kind_of ≡ Some kind.Ident → bytes ≡ dash ∷ dash ∷ [] → begins greater_than old ≡ false → begins greater_than new ≡ false
+  pub quoted : KeepsString kind_of bytes old new
   -- a unit that ends in `e`
   pub exponented : (front : List ℕ) (e : ℕ) → kind_of ≡ Some kind.Dimension → bytes ≡ front ++ e ∷ [] → is_exponent e ≡ true
       → signed_digits old ≡ 0 → signed_digits new ≡ 0
