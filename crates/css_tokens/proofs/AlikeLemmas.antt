@@ -39,19 +39,6 @@ alike_first c old new no_escape no_dash no_dot = record {
   fractioned = λ none. rw no_dot refl;
 }
 
-pub alike_refl : (rest : List ℕ) → Alike rest rest
-alike_refl rest = record {
-  hex = λ none. none;
-  white = λ none. none;
-  feed = λ none. none;
-  unit = λ none. none;
-  name = λ none. none;
-  opened = λ none. none;
-  percented = λ none. none;
-  digit = λ none. none;
-  fractioned = λ none. none;
-}
-
 pub alike_nil : (old : List ℕ) → Alike old []
 alike_nil old = record {
   hex = λ _. refl;

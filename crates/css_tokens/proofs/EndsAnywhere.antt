@@ -77,6 +77,22 @@ keeps_other name old new k other = λ front _ same url.
     sym (take_at name (open_round ∷ []) (length name) refl) ∙ ap (λ (cs : List ℕ). take (length name) cs) same ∙ take_at front (open_round ∷ []) (length name) (sym len) in
     absurd (true≢false (sym url ∙ sym (ap is_url names) ∙ other))
 
+-- and so it is the same before any rest
+pub looks_called : (name old new : List ℕ) → is_url name ≡ false → LooksAlike (Some kind.Function) (name ++ open_round ∷ []) old new
+looks_called name old new other = record {
+  escaped = λ e. absurd (cc);
+  starred = λ e. absurd (cc);
+  banged = λ e. absurd (cc);
+  signed = λ _ e. absurd (cc);
+  dash_named = λ e. absurd (cc);
+  dotted = λ e. absurd (cc);
+  hashed = λ e. absurd (cc);
+  at_named = λ e. absurd (cc);
+  closed = λ e. absurd (cc);
+  quoted = keeps_other name old new (Some kind.Function) other;
+  exponented = λ _ _ e. absurd (cc);
+}
+
 -- what holds of each sign holds of this one
 sign_each : (P : ℕ → Type 0) → P 58 → P 59 → P 44 → P 91 → P 93 → P open_round → P close_round → P 123 → P 125 → (c : ℕ) → is_sign c ≡ true → P c
 sign_each P colon semicolon comma open_square close_square opener closer open_curly close_curly c = ninth

@@ -2,6 +2,7 @@ pub mod AlikeLemmas
 pub mod ClosedAgain
 pub mod CommentLemmas
 pub mod CommentParts
+pub mod EndExamples
 pub mod EndsAnywhere
 pub mod EndsLemmas
 pub mod Keeps

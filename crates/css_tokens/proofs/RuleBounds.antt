@@ -71,9 +71,6 @@ named_len text s is = least_of (name_len text) (named_shape text) s (named_least
 number_least : (n : ℕ) (rest : List ℕ) → AtLeast n (number_shape n rest)
 number_least n rest = search (arith, either_least, some_least)
 
-pub number_shape_len : (n : ℕ) (rest : List ℕ) (s : Shape) → number_shape n rest ≡ Ok s → n ≤ s.1
-number_shape_len n rest s is = least_of n (number_shape n rest) s (number_least n rest) is
-
 -- what holds of each white space holds of this one
 pub white_is : (P : ℕ → Type 0) → P 32 → P 9 → P 10 → P 13 → P 12 → (c : ℕ) → is_white c ≡ true → P c
 white_is P space tab feed return form c is = which (or_cases (c == 32 || c == 9) (is_newline c) is)
