@@ -33,10 +33,10 @@ alike_first c old new no_escape no_dash no_dot = record {
   feed = λ none. none;
   unit = λ none. rw no_escape (rw no_escape at none);
   name = λ none. rw (no_dash, no_escape) (rw (no_dash, no_escape) at none);
-  opened = λ none. none;
-  percented = λ none. none;
+  bracket = λ none. none;
+  percentage = λ none. none;
   digit = λ none. none;
-  fractioned = λ none. rw no_dot refl;
+  decimals = λ none. rw no_dot refl;
 }
 
 pub alike_nil : (old : List ℕ) → Alike old []
@@ -46,10 +46,10 @@ alike_nil old = record {
   feed = λ _. refl;
   unit = λ _. refl;
   name = λ _. refl;
-  opened = λ _. refl;
-  percented = λ _. refl;
+  bracket = λ _. refl;
+  percentage = λ _. refl;
   digit = λ _. refl;
-  fractioned = λ _. refl;
+  decimals = λ _. refl;
 }
 
 -- where white space stood, a space may
@@ -60,10 +60,10 @@ alike_space old new white = record {
   feed = λ _. refl;
   unit = λ _. refl;
   name = λ _. refl;
-  opened = λ _. refl;
-  percented = λ _. refl;
+  bracket = λ _. refl;
+  percentage = λ _. refl;
   digit = λ _. refl;
-  fractioned = λ _. refl;
+  decimals = λ _. refl;
 }
 
 -- a byte that a token could go on with
@@ -89,10 +89,10 @@ alike_byte c old new nothing =
       feed = λ _. feed.0;
       unit = λ _. rw (six.1, two.1) refl;
       name = λ _. rw (name.1, start.0, two.1) refl;
-      opened = λ _. three.1;
-      percented = λ _. four.1;
+      bracket = λ _. three.1;
+      percentage = λ _. four.1;
       digit = λ _. rw start.1 refl;
-      fractioned = λ _. rw five.1 refl;
+      decimals = λ _. rw five.1 refl;
     }
 
 newline_cases : (b x x' : Bool) (m m' : ℕ) → ◌≡◌ {A = ℕ} (cond b 0 (cond x (2 + m) 2)) 0 → ◌≡◌ {A = ℕ} (cond b 0 (cond x (2 + m') 2)) 0
@@ -170,8 +170,8 @@ alike_front (c ∷ cs) old new k is =
       feed = λ none. none;
       unit = unit_front old new c cs bounds;
       name = λ none. name_none old new (c ∷ cs) none bounds.name;
-      opened = λ none. none;
-      percented = λ none. none;
+      bracket = λ none. none;
+      percentage = λ none. none;
       digit = λ none. none;
-      fractioned = fraction_front old new c cs bounds;
+      decimals = fraction_front old new c cs bounds;
     }

@@ -34,17 +34,17 @@ differ test k j none some same = true≢false (sym some ∙ sym (ap test same) �
 
 pub looks_none : (k : Option TokenKind) (v old new : List ℕ) → looks_behind k ≡ false → LooksAlike k v old new
 looks_none k v old new none = record {
-  escaped = λ e. absurd (not (Some (kind.Delim backslash)) refl e);
-  starred = λ e. absurd (not (Some (kind.Delim slash)) refl e);
-  banged = λ e. absurd (not (Some (kind.Delim less_than)) refl e);
-  signed = λ c e sign. absurd (no_sign c sign e);
-  dash_named = λ e. absurd (not (Some (kind.Delim dash)) refl e);
-  dotted = λ e. absurd (not (Some (kind.Delim dot)) refl e);
-  hashed = λ e. absurd (not (Some (kind.Delim hash)) refl e);
-  at_named = λ e. absurd (not (Some (kind.Delim at_sign)) refl e);
-  closed = λ e. absurd (not (Some kind.Ident) refl e);
-  quoted = λ _ e. absurd (not (Some kind.Function) refl e);
-  exponented = λ _ _ e. absurd (not (Some kind.Dimension) refl e);
+  at_backslash = λ e. absurd (not (Some (kind.Delim backslash)) refl e);
+  at_slash = λ e. absurd (not (Some (kind.Delim slash)) refl e);
+  at_less_than = λ e. absurd (not (Some (kind.Delim less_than)) refl e);
+  at_plus_or_minus = λ c e sign. absurd (no_sign c sign e);
+  at_dash = λ e. absurd (not (Some (kind.Delim dash)) refl e);
+  at_dot = λ e. absurd (not (Some (kind.Delim dot)) refl e);
+  at_hash = λ e. absurd (not (Some (kind.Delim hash)) refl e);
+  at_at_sign = λ e. absurd (not (Some (kind.Delim at_sign)) refl e);
+  at_dashes = λ e. absurd (not (Some kind.Ident) refl e);
+  at_url = λ _ e. absurd (not (Some kind.Function) refl e);
+  at_exponent = λ _ _ e. absurd (not (Some kind.Dimension) refl e);
 }
   where
     not : (j : Option TokenKind) → looks_behind j ≡ true → k ≡ j → ⊥
@@ -55,8 +55,8 @@ looks_none k v old new none = record {
 
 pub through_none : (k : Option TokenKind) (old new : List ℕ) → lets_through k ≡ false → LooksThrough k old new
 through_none k old new none = record {
-  dashed = λ e. absurd (differ lets_through k (Some (kind.Delim 33)) none refl e);
-  quoted = λ e. absurd (differ lets_through k (Some kind.White) none refl e);
+  at_bang = λ e. absurd (differ lets_through k (Some (kind.Delim 33)) none refl e);
+  at_white = λ e. absurd (differ lets_through k (Some kind.White) none refl e);
 }
 
 -- a part that is the same before any rest: a sign, a string, a percentage, a url, a comment, and most others of
@@ -80,17 +80,17 @@ keeps_other name old new k other = λ front _ same url.
 -- and so it is the same before any rest
 pub looks_called : (name old new : List ℕ) → is_url name ≡ false → LooksAlike (Some kind.Function) (name ++ open_round ∷ []) old new
 looks_called name old new other = record {
-  escaped = λ e. absurd (cc);
-  starred = λ e. absurd (cc);
-  banged = λ e. absurd (cc);
-  signed = λ _ e. absurd (cc);
-  dash_named = λ e. absurd (cc);
-  dotted = λ e. absurd (cc);
-  hashed = λ e. absurd (cc);
-  at_named = λ e. absurd (cc);
-  closed = λ e. absurd (cc);
-  quoted = keeps_other name old new (Some kind.Function) other;
-  exponented = λ _ _ e. absurd (cc);
+  at_backslash = λ e. absurd (cc);
+  at_slash = λ e. absurd (cc);
+  at_less_than = λ e. absurd (cc);
+  at_plus_or_minus = λ _ e. absurd (cc);
+  at_dash = λ e. absurd (cc);
+  at_dot = λ e. absurd (cc);
+  at_hash = λ e. absurd (cc);
+  at_at_sign = λ e. absurd (cc);
+  at_dashes = λ e. absurd (cc);
+  at_url = keeps_other name old new (Some kind.Function) other;
+  at_exponent = λ _ _ e. absurd (cc);
 }
 
 -- what holds of each sign holds of this one

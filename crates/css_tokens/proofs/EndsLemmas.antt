@@ -58,47 +58,47 @@ pub looks_byte : (k : Option TokenKind) (v old : List ℕ) (c : ℕ) (new : List
 looks_byte k v old c new none lone keeps =
     let is = not_looked_for c none in
     record {
-      escaped = λ e. absurd (lone e);
-      starred = λ _ _. is.no_star;
-      banged = λ _ _. rw is.no_bang refl;
-      signed = λ _ _ _ _. rw (is.no_digit, is.no_dot) refl;
-      dash_named = λ _ _. rw (is.no_dash, is.no_start, is.no_escape) refl;
-      dotted = λ _ _. rw is.no_digit refl;
-      hashed = λ _ _. rw (is.no_name, is.no_escape) refl;
-      at_named = λ _ _. rw (is.no_dash, is.no_start, is.no_escape) refl;
-      closed = λ _ _ _. is.no_greater;
-      quoted = keeps;
-      exponented = λ _ _ _ _ _ _. rw (is.no_plus, is.no_dash, is.no_digit) refl;
+      at_backslash = λ e. absurd (lone e);
+      at_slash = λ _ _. is.no_star;
+      at_less_than = λ _ _. rw is.no_bang refl;
+      at_plus_or_minus = λ _ _ _ _. rw (is.no_digit, is.no_dot) refl;
+      at_dash = λ _ _. rw (is.no_dash, is.no_start, is.no_escape) refl;
+      at_dot = λ _ _. rw is.no_digit refl;
+      at_hash = λ _ _. rw (is.no_name, is.no_escape) refl;
+      at_at_sign = λ _ _. rw (is.no_dash, is.no_start, is.no_escape) refl;
+      at_dashes = λ _ _ _. is.no_greater;
+      at_url = keeps;
+      at_exponent = λ _ _ _ _ _ _. rw (is.no_plus, is.no_dash, is.no_digit) refl;
     }
 
 pub looks_bang : (k : Option TokenKind) (v old new : List ℕ) → begins_dashes new ≡ false → (k ≡ Some (kind.Delim backslash) → ⊥) → KeepsString k v old (33 ∷ new) → LooksAlike k v old (33 ∷ new)
 looks_bang k v old new none lone keeps = record {
-  escaped = λ e. absurd (lone e);
-  starred = λ _ _. refl;
-  banged = λ _ _. none;
-  signed = λ _ _ _ _. refl;
-  dash_named = λ _ _. refl;
-  dotted = λ _ _. refl;
-  hashed = λ _ _. refl;
-  at_named = λ _ _. refl;
-  closed = λ _ _ _. refl;
-  quoted = keeps;
-  exponented = λ _ _ _ _ _ _. refl;
+  at_backslash = λ e. absurd (lone e);
+  at_slash = λ _ _. refl;
+  at_less_than = λ _ _. none;
+  at_plus_or_minus = λ _ _ _ _. refl;
+  at_dash = λ _ _. refl;
+  at_dot = λ _ _. refl;
+  at_hash = λ _ _. refl;
+  at_at_sign = λ _ _. refl;
+  at_dashes = λ _ _ _. refl;
+  at_url = keeps;
+  at_exponent = λ _ _ _ _ _ _. refl;
 }
 
 pub looks_nil : (k : Option TokenKind) (v old : List ℕ) → (k ≡ Some (kind.Delim backslash) → ⊥) → KeepsString k v old [] → LooksAlike k v old []
 looks_nil k v old lone keeps = record {
-  escaped = λ e. absurd (lone e);
-  starred = λ _ _. refl;
-  banged = λ _ _. refl;
-  signed = λ _ _ _ _. refl;
-  dash_named = λ _ _. refl;
-  dotted = λ _ _. refl;
-  hashed = λ _ _. refl;
-  at_named = λ _ _. refl;
-  closed = λ _ _ _. refl;
-  quoted = keeps;
-  exponented = λ _ _ _ _ _ _. refl;
+  at_backslash = λ e. absurd (lone e);
+  at_slash = λ _ _. refl;
+  at_less_than = λ _ _. refl;
+  at_plus_or_minus = λ _ _ _ _. refl;
+  at_dash = λ _ _. refl;
+  at_dot = λ _ _. refl;
+  at_hash = λ _ _. refl;
+  at_at_sign = λ _ _. refl;
+  at_dashes = λ _ _ _. refl;
+  at_url = keeps;
+  at_exponent = λ _ _ _ _ _ _. refl;
 }
 
 -- neither white space nor a function nor a backslash that begins no escape
@@ -116,8 +116,8 @@ plain_keeps k v old new plain = λ _ called _ _ _. absurd (plain_is k (Some kind
 
 pub through_plain : (k : Option TokenKind) (old new : List ℕ) → is_plain k ≡ true → begins_dashes new ≡ false → LooksThrough k old new
 through_plain k old new plain none = record {
-  dashed = λ _ _. none;
-  quoted = λ white _. absurd (plain_is k (Some kind.White) plain refl white);
+  at_bang = λ _ _. none;
+  at_white = λ white _. absurd (plain_is k (Some kind.White) plain refl white);
 }
 
 pub ends_nil : (p : Part) (old : List ℕ) → is_plain p.kind ≡ true → EndsAlike p old []
@@ -157,19 +157,19 @@ pub ends_feed : (p : Part) (old new : List ℕ) → p.kind ≡ Some (kind.Delim 
 ends_feed p old new lone = record {
   alike = λ open_ended. absurd (true≢false (sym (ap ends_itself lone) ∙ open_ended));
   looks = record {
-    escaped = λ _ _. refl;
-    starred = λ _ _. refl;
-    banged = λ _ _. refl;
-    signed = λ _ _ _ _. refl;
-    dash_named = λ _ _. refl;
-    dotted = λ _ _. refl;
-    hashed = λ _ _. refl;
-    at_named = λ _ _. refl;
-    closed = λ _ _ _. refl;
-    quoted = λ _ called _ _ _. absurd (cc);
-    exponented = λ _ _ _ _ _ _. refl;
+    at_backslash = λ _ _. refl;
+    at_slash = λ _ _. refl;
+    at_less_than = λ _ _. refl;
+    at_plus_or_minus = λ _ _ _ _. refl;
+    at_dash = λ _ _. refl;
+    at_dot = λ _ _. refl;
+    at_hash = λ _ _. refl;
+    at_at_sign = λ _ _. refl;
+    at_dashes = λ _ _ _. refl;
+    at_url = λ _ called _ _ _. absurd (cc);
+    at_exponent = λ _ _ _ _ _ _. refl;
   };
-  through = record { dashed = λ _ _. refl; quoted = λ white _. absurd (cc) };
+  through = record { at_bang = λ _ _. refl; at_white = λ white _. absurd (cc) };
 }
 
 -- one space, before what begins with none

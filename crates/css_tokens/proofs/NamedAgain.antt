@@ -145,5 +145,5 @@ named_again old new k alike v keeps is = which (begins open_round (drop (name_le
         let h = alike (ap ends_itself (sym parts.0)) in
         let behind : name_len (v ++ new) ≡ length v = name_len_again old new h v parts.1 in
         let ended : begins open_round old ≡ false = sym (ap (λ (cs : List ℕ). begins open_round cs) (drop_at v old m (sym parts.1))) ∙ closed in
-        let ended' : begins open_round (drop (name_len (v ++ new)) (v ++ new)) ≡ false = ap (λ (cs : List ℕ). begins open_round cs) (drop_at v new (name_len (v ++ new)) (sym behind)) ∙ h.opened ended in
+        let ended' : begins open_round (drop (name_len (v ++ new)) (v ++ new)) ≡ false = ap (λ (cs : List ℕ). begins open_round cs) (drop_at v new (name_len (v ++ new)) (sym behind)) ∙ h.bracket ended in
         rw ended' (same_shape (Some kind.Ident) k (name_len (v ++ new)) (length v) parts.0 behind)

@@ -21,7 +21,7 @@ digits_same old new h v fits = run_fits digit_unit old new refl (digit_fits old 
 fraction_same : (old new : List ℕ) → Alike old new → (v : List ℕ) → fraction (v ++ old) ≤ length v → fraction (v ++ new) ≡ fraction (v ++ old)
 fraction_same old new h [] fits =
     let none : fraction old ≡ 0 = omega arith in
-    h.fractioned none ∙ sym none
+    h.decimals none ∙ sym none
 fraction_same old new h (c ∷ cs) fits =
     sign_cases (c == dot) (run digit_unit (cs ++ old)) (run digit_unit (cs ++ new)) 0 0 (length cs) (digits_same old new h cs) (λ _. refl) fits
 

@@ -43,11 +43,11 @@ single_name c old new k looks kinds = which (c == dash) refl (c == backslash) re
     which true dashed e is =
         let at = eqb-true c dash dashed in
         let delim : k ≡ Some (kind.Delim dash) = sym kinds ∙ ap (λ (c : ℕ). Some (single_kind c)) at in
-        subst (λ (c : ℕ). name_start (c ∷ old) ≡ 0 → name_start (c ∷ new) ≡ 0) (sym at) (looks.dash_named delim)
+        subst (λ (c : ℕ). name_start (c ∷ old) ≡ 0 → name_start (c ∷ new) ≡ 0) (sym at) (looks.at_dash delim)
     which false dashed true is =
         let at = eqb-true c backslash is in
         let delim : k ≡ Some (kind.Delim backslash) = sym kinds ∙ ap (λ (c : ℕ). Some (single_kind c)) at in
-        subst (λ (c : ℕ). name_start (c ∷ old) ≡ 0 → name_start (c ∷ new) ≡ 0) (sym at) (looks.escaped delim)
+        subst (λ (c : ℕ). name_start (c ∷ old) ≡ 0 → name_start (c ∷ new) ≡ 0) (sym at) (looks.at_backslash delim)
     which false dashed false is = λ none. rw (dashed, is) (rw (dashed, is) at none)
 
 name_or_single_again : (old new : List ℕ) (k : Option TokenKind) → (ends_itself k ≡ false → Alike old new) → (c : ℕ) (cs : List ℕ) → LooksAlike k (c ∷ cs) old new
@@ -59,7 +59,7 @@ name_or_single_again old new k alike c cs looks =
     tested_again (ltb 0 start) (ltb 0 start') (named_shape (v ++ old)) (done (single_kind c) 1) (named_shape (v ++ new)) (done (single_kind c) 1) (Ok (k, suc (length cs)))
     (λ starts is.
     let fits : start ≤ length v = omega (arith, name_start_le (v ++ old), named_len (v ++ old) (k, length v) is) in
-    (lt-ltb 0 start' (name_begins old new v (ltb-true 0 start starts) fits), named_again old new k alike v looks.quoted is)
+    (lt-ltb 0 start' (name_begins old new v (ltb-true 0 start starts) fits), named_again old new k alike v looks.at_url is)
     )
     (λ none is. (le-ltb 0 start' (omega (arith, single cs looks (single_again k (Some (single_kind c)) cs is) (omega (arith, ltb-false 0 start none)))), is))
   where
@@ -100,7 +100,7 @@ close_none old new k c (d ∷ []) looks is short none = which (c == dash) refl (
         let before : begins greater_than old ≡ false = rw (dashed, second) at none in
         let first = ap (λ (c : ℕ). name_or_single c (d ∷ old)) (eqb-true c dash dashed) in
         let both = ap (λ (d : ℕ). name_or_single dash (d ∷ old)) (eqb-true d dash second) in
-        rw (dashed, second) (looks.closed (dashes_kind old k (sym both ∙ sym first ∙ is)) bytes before)
+        rw (dashed, second) (looks.at_dashes (dashes_kind old k (sym both ∙ sym first ∙ is)) bytes before)
     which true dashed false second none = rw (dashed, second) refl
     which false dashed e second none = rw dashed refl
 close_none old new k c (d ∷ e ∷ es) looks is short none = none
@@ -183,14 +183,14 @@ sign_kind old k =
 -- behind a sign
 signed_none : (old new : List ℕ) (k : Option TokenKind) (c : ℕ) (cs : List ℕ) → LooksAlike k (c ∷ cs) old new → is_plus_or_minus c ≡ true → other_at c (cs ++ old) ≡ Ok (k, suc (length cs))
     → decimal (cs ++ old) ≡ 0 → decimal (cs ++ new) ≡ 0
-signed_none old new k c [] looks sign is none = looks.signed c (sign_kind old k c sign is) sign none
+signed_none old new k c [] looks sign is none = looks.at_plus_or_minus c (sign_kind old k c sign is) sign none
 signed_none old new k c (d ∷ []) looks sign is none = decimal_none d old new (λ at. absurd (two_wrong old k c sign (ap (λ (d : ℕ). other_at c (d ∷ old)) (sym at) ∙ is))) none
 signed_none old new k c (d ∷ e ∷ es) looks sign is none = decimal_none d (e ∷ es ++ old) (e ∷ es ++ new) (λ _ digit. digit) none
 
 unsigned_none : (old new : List ℕ) (k : Option TokenKind) (c : ℕ) (cs : List ℕ) → LooksAlike k (c ∷ cs) old new → other_at c (cs ++ old) ≡ Ok (k, suc (length cs))
     → decimal (c ∷ cs ++ old) ≡ 0 → decimal (c ∷ cs ++ new) ≡ 0
 unsigned_none old new k c [] looks is =
-    decimal_none c old new (λ at. looks.dotted (delim_kind dot old k (λ same. (shape_parts (Some (kind.Delim dot)) k 1 1 same).0) c at is))
+    decimal_none c old new (λ at. looks.at_dot (delim_kind dot old k (λ same. (shape_parts (Some (kind.Delim dot)) k 1 1 same).0) c at is))
 unsigned_none old new k c (d ∷ ds) looks is = decimal_none c (d ∷ ds ++ old) (d ∷ ds ++ new) (λ _ digit. digit)
 
 pub number_none : (old new : List ℕ) (k : Option TokenKind) (c : ℕ) (cs : List ℕ) → LooksAlike k (c ∷ cs) old new → other_at c (cs ++ old) ≡ Ok (k, suc (length cs))
