@@ -10,7 +10,9 @@ pub mod JoiningSets
 pub mod LegalExamples
 pub mod MatchingExamples
 pub mod MatchingWords
+pub mod Keeping
 pub mod Members
+mod OrderExamples
 mod PlainExamples
 pub mod PlainLemmas
 pub mod Ranking
