@@ -17,5 +17,6 @@ mod PlainExamples
 pub mod PlainLemmas
 pub mod Ranking
 pub mod Same
+mod SheetExamples
 pub mod SliceRange
 mod TokenExamples
