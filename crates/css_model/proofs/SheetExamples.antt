@@ -1,5 +1,5 @@
 -- What small sheets are read as, and what is printed of them: each theorem is by computation.
-use Rattle.std.proofs.Common.{◌≡◌, ℕ, Bool, true, false, List, [], ◌∷◌, ◌++◌, Result, Ok, Err, refl}
+use Rattle.std.proofs.Common.{◌≡◌, ℕ, Bool, true, false, List, [], ◌∷◌, ◌++◌, map, Result, Ok, Err, refl}
 use Rattle.std.specs.Prelude.{codes}
 use Rattle.std.specs.Char.{encode_utf8}
 use Rattle.std.specs.Str.{chars, is_utf8}
@@ -14,8 +14,10 @@ use Rattle.css_model.specs.declared.sheet.Item.{Item}
 use Rattle.css_model.specs.declared.sheet.Item.TheVariants.{Rule, KeptRule, KeptBlock}
 use Rattle.css_model.specs.declared.sheet.Piece.{Piece}
 use Rattle.css_model.specs.declared.sheet.SelItem.{SelItem}
+use Rattle.css_model.specs.declared.token.Gap.TheVariants as gap
 use Rattle.css_model.specs.Characters.{backslash, carriage_return, line_feed, quote, space}
 use Rattle.css_model.specs.Printed.{printed}
+use Rattle.css_model.specs.Spelling.{lexemes_of}
 use Rattle.css_model.specs.Tokens.{byte_order_mark}
 use Rattle.css_model.specs.Selectors.{class_test, of_one_test}
 use Rattle.css_model.specs.Sheet.{sheet_of, not_read}
@@ -48,6 +50,17 @@ print_read source (Err fault) = Err fault
 
 abbrev print : List ℕ → Result (List ℕ) SheetFault
 print source = print_read source (sheet_of source)
+
+-- ---- Tokens that are no white space
+
+-- what stands behind each: comments alone, white space with or without comments, nothing
+gaps : map (λ x. x.gap) (lexemes_of (codes "a/**/b /**/c/**/ d")) ≡ gap.Comments ∷ gap.White ∷ gap.White ∷ gap.Nothing ∷ []
+gaps = refl
+
+-- how many brackets are open where each begins: a bracket stands outside itself at its start and inside at
+-- its end, and one that closes nothing leaves the others open
+levels : map (λ x. x.level) (lexemes_of (codes "a{b(]c)}d")) ≡ 0 ∷ 0 ∷ 1 ∷ 2 ∷ 2 ∷ 2 ∷ 1 ∷ 0 ∷ []
+levels = refl
 
 -- ---- Style rules
 
