@@ -1,11 +1,10 @@
 -- Sheets of which one keeps the other, and sheets of which it does not: each clause of `Keeps` at work, on
 -- sheets of a few rules of one selector and one declaration each.
-use Rattle.std.proofs.Common.{map, ◌≡◌, ◌≢◌, ◌⊎◌, ℕ, zero, suc, ◌≤◌, true, List, [], ◌∷◌, Some, None, refl, sym, ap, ap₂, ◌∙◌, subst, inl, inr, arith}
+use Rattle.std.proofs.Common.{◌↔◌, map, ◌≡◌, ◌≢◌, ◌⊎◌, ℕ, zero, suc, ◌≤◌, true, List, [], ◌∷◌, Some, None, refl, sym, ap, ap₂, ◌∙◌, subst, inl, inr, arith}
 use Rattle.std.specs.Prelude.{slice_get}
 use Rattle.std.specs.List.{Contains}
 use Rattle.std.proofs.lemmas.Bool.{false≢true}
 use Rattle.css_model.proofs.Applying.{some-same, rule-same}
-use Rattle.css_model.proofs.MatchingExamples.{at}
 use Rattle.css_model.proofs.Members.{Contains-here, Contains-nil, Contains-cons_cases}
 use Rattle.css_model.specs.declared.sheet.Decl.{Decl}
 use Rattle.css_model.specs.declared.sheet.DeclItem.{DeclItem}
@@ -19,7 +18,7 @@ use Rattle.css_model.specs.Order.{Meet, Pair, IsPairAt, HasPair, IsLast, Weigh, 
 use Rattle.css_model.specs.RuleParts.{RuleParts}
 use Rattle.css_model.specs.SelectorParts.{SelectorParts}
 use Rattle.css_model.specs.StyleRule.{selectors_of}
-use Rattle.css_model.specs.Spelling.{said}
+use Rattle.css_model.specs.Spelling.{Kept, said, kept_text}
 
 -- ---- Any sheet keeps itself
 pub keeps_itself : (source : List ℕ) (items : List Item) → Keeps source items source items
@@ -29,6 +28,64 @@ keeps_itself source items = record {
   order = λ p q w m. (λ h. h, λ h. h);
   kept_order = λ p number item at w. (λ h. h, λ h. h);
 }
+
+-- ---- Keeping goes both ways, and on
+
+-- kept items that say the same weigh with the same pairs
+weighs_same : (source source' : List ℕ) (p : Pair) (k k' : Item) → said source k ≡ said source' k' → WeighsKept p k' → WeighsKept p k
+weighs_same source source' p k (Rule r) e w = absurd w
+weighs_same source source' p (Rule r) (KeptRule b) e w = absurd cc
+weighs_same source source' p (KeptRule a) (KeptRule b) e w = (w.0, subst (λ ds. Contains ds w.0) (sym (decls_same e)) w.1, w.2)
+  where
+    decls_same : Kept (kept_text source a.piece) a.decls a.reason ≡ Kept (kept_text source' b.piece) b.decls b.reason → a.decls ≡ b.decls
+    decls_same h = cc
+weighs_same source source' p (KeptBlock piece) (KeptRule b) e w = tt
+weighs_same source source' p (Rule r) (KeptBlock piece) e w = absurd cc
+weighs_same source source' p (KeptRule a) (KeptBlock piece) e w = absurd cc
+weighs_same source source' p (KeptBlock piece) (KeptBlock piece') e w = tt
+
+-- what stands at a place of one list, where two lists say the same
+there : (source source' : List ℕ) (xs ys : List Item) → map (said source) xs ≡ map (said source') ys → (n : ℕ) (y : Item) → slice_get ys n ≡ Some y → (x : Item) × (slice_get xs n ≡ Some x) × (said source x ≡ said source' y)
+there source source' xs [] e n y at = absurd cc
+there source source' [] (z ∷ ys) e n y at = absurd cc
+there source source' (x ∷ xs) (z ∷ ys) e zero y at = (x, refl, first_same e ∙ ap (said source') (some-same at))
+  where
+    first_same : said source x ∷ map (said source) xs ≡ said source' z ∷ map (said source') ys → said source x ≡ said source' z
+    first_same h = cc
+there source source' (x ∷ xs) (z ∷ ys) e (suc n) y at = there source source' xs ys (rest_same e) n y at
+  where
+    rest_same : said source x ∷ map (said source) xs ≡ said source' z ∷ map (said source') ys → map (said source) xs ≡ map (said source') ys
+    rest_same h = cc
+
+turned_kept : (source source' : List ℕ) (items items' : List Item) → Keeps source items source' items' → (p : Pair) (number : ℕ) (item : Item) → slice_get (kept_items items') number ≡ Some item → WeighsKept p item →
+    IsBeforeKept items p number ↔ IsBeforeKept items' p number
+turned_kept source source' items items' k p number item at w =
+    let other : (x : Item) × (slice_get (kept_items items) number ≡ Some x) × (said source x ≡ said source' item) = there source source' (kept_items items) (kept_items items') k.kept number item at in
+    k.kept_order p number other.0 other.1 (weighs_same source source' p other.0 item other.2 w)
+
+pub keeps_back : (source source' : List ℕ) (items items' : List Item) → Keeps source items source' items' → Keeps source' items' source items
+keeps_back source source' items items' k = record {
+  pairs = λ p. ((k.pairs p).1, (k.pairs p).0);
+  kept = sym k.kept;
+  order = λ p q w m. ((k.order p q w m).1, (k.order p q w m).0);
+  kept_order = λ p number item at w. ((turned_kept source source' items items' k p number item at w).1, (turned_kept source source' items items' k p number item at w).0);
+}
+
+pub keeps_on : (source source' source'' : List ℕ) (items items' items'' : List Item) → Keeps source items source' items' → Keeps source' items' source'' items'' → Keeps source items source'' items''
+keeps_on source source' source'' items items' items'' k l = record {
+  pairs = λ p. (λ h. (l.pairs p).0 ((k.pairs p).0 h), λ h. (k.pairs p).1 ((l.pairs p).1 h));
+  kept = k.kept ∙ l.kept;
+  order = λ p q w m. (λ h. (l.order p q w m).0 ((k.order p q w m).0 h), λ h. (k.order p q w m).1 ((l.order p q w m).1 h));
+  kept_order = λ p number item at w. (
+    λ h. (further p number item at w).0 ((k.kept_order p number item at w).0 h),
+    λ h. (k.kept_order p number item at w).1 ((further p number item at w).1 h),
+  );
+}
+  where
+    further : (p : Pair) (number : ℕ) (item : Item) → slice_get (kept_items items) number ≡ Some item → WeighsKept p item → IsBeforeKept items' p number ↔ IsBeforeKept items'' p number
+    further p number item at w =
+        let other : (x : Item) × (slice_get (kept_items items') number ≡ Some x) × (said source' x ≡ said source item) = there source' source (kept_items items') (kept_items items) (sym k.kept) number item at in
+        l.kept_order p number other.0 other.1 (weighs_same source' source p other.0 item other.2 w)
 
 -- ---- Where the pairs of small sheets stand
 
