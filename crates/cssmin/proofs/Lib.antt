@@ -1,3 +1,4 @@
+mod Following
 mod Joins
 mod Keeping
 mod Limits

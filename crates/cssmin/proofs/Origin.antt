@@ -1,9 +1,8 @@
 -- What joins leave of a sheet that is read: its parts, its kept items, and its counts.
 use Rattle.std.proofs.Common.{◌≡◌, ◌≢◌, ℕ, zero, suc, ◌+◌, ◌*◌, ◌≤◌, List, [], ◌∷◌, ◌++◌, length, filter, refl, sym, ◌∙◌, ap, subst, arith}
-use Rattle.std.specs.List.{AllByRecursion, prefix_len}
+use Rattle.std.specs.List.{AllByRecursion}
 use Rattle.std.proofs.lemmas.List.{length-append}
 use Rattle.std.proofs.lemmas.List.Elements.{filter-append}
-use Rattle.std.proofs.lemmas.List.Folds.{prefix_len-append}
 use Rattle.css_model.specs.declared.fault.TheConstants.{ITEMS, PAIRS}
 use Rattle.css_model.specs.declared.sheet.Item.{Item}
 use Rattle.css_model.specs.declared.sheet.Item.TheVariants.{Rule}
@@ -13,6 +12,7 @@ use Rattle.css_model.specs.Sheet.{pairs_of}
 use Rattle.css_model.specs.Sound.{IsSoundDeclaration, IsSoundRule, IsSoundItem, IsSound}
 use Rattle.css_print.specs.ReadBack.{pair_count, ComesFrom}
 use Rattle.cssmin.specs.Joining.{IsJoin, JoinsIn}
+use Rattle.cssmin.proofs.Following.{follows_itself, follows_both, join_follows}
 use Rattle.cssmin.proofs.SelectorSets.{as_many}
 
 all_append : {X : Type 0} → (P : X → Type 0) (xs ys : List X) → AllByRecursion P xs → AllByRecursion P ys → AllByRecursion P (xs ++ ys)
@@ -47,11 +47,6 @@ join_kept old new join =
     ap (filter is_kept) join.new_is ∙ filter-append is_kept join.before ((Rule (joined join.upper join.lower)) ∷ join.after)
     ∙ sym (ap (filter is_kept) join.old_is ∙ filter-append is_kept join.before ((Rule join.upper) ∷ (Rule join.lower) ∷ join.after))
 
-join_front : (old new : List Item) → IsJoin old new → prefix_len is_kept new ≡ prefix_len is_kept old
-join_front old new join =
-    ap (prefix_len is_kept) join.new_is ∙ prefix_len-append is_kept join.before ((Rule (joined join.upper join.lower)) ∷ join.after)
-    ∙ sym (ap (prefix_len is_kept) join.old_is ∙ prefix_len-append is_kept join.before ((Rule join.upper) ∷ (Rule join.lower) ∷ join.after))
-
 join_fewer : (old new : List Item) → IsJoin old new → length new ≤ length old
 join_fewer old new join =
     let new_length = ap length join.new_is ∙ length-append join.before ((Rule (joined join.upper join.lower)) ∷ join.after) in
@@ -82,8 +77,7 @@ join_pairs old new join =
 join_comes_from : (source : List ℕ) (old between new : List Item) → ComesFrom source old between → IsJoin between new → ComesFrom source old new
 join_comes_from source old between new so_far join = record {
   sound = join_sound source between new join so_far.sound;
-  kept = join_kept between new join ∙ so_far.kept;
-  front = omega (arith, so_far.front, join_front between new join);
+  follows = follows_both new between old (join_follows between new join) so_far.follows;
   few_items = omega (arith, so_far.few_items, join_fewer between new join);
   few_pairs = omega (arith, so_far.few_pairs, join_pairs between new join);
 }
@@ -91,6 +85,11 @@ join_comes_from source old between new so_far join = record {
 -- joins lead to parts of the source that was read, within the limits
 pub joins_come_from : (source : List ℕ) (steps : ℕ) (old new : List Item) → IsSound source old → length old ≤ ITEMS → pair_count old ≤ PAIRS → JoinsIn steps old new → ComesFrom source old new
 joins_come_from source zero old new sound few few' joins =
-    subst (ComesFrom source old) joins (record { sound = sound; kept = refl; front = omega arith; few_items = few; few_pairs = few' })
+    subst (ComesFrom source old) joins (record { sound = sound; follows = follows_itself old; few_items = few; few_pairs = few' })
 joins_come_from source (suc steps) old new sound few few' joins =
     join_comes_from source old joins.0 new (joins_come_from source steps old joins.0 sound few few' joins.1) joins.2
+
+-- the kept items stay
+pub joins_kept : (steps : ℕ) (old new : List Item) → JoinsIn steps old new → filter is_kept new ≡ filter is_kept old
+joins_kept zero old new joins = ap (filter is_kept) (sym joins)
+joins_kept (suc steps) old new joins = join_kept joins.0 new joins.2 ∙ joins_kept steps old joins.0 joins.1
