@@ -1,3 +1,7 @@
+mod BackAlike
+mod BackLists
+mod BackTokens
+mod BackValues
 mod Inversions
 mod Joining
 mod Lengths
