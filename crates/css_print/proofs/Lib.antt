@@ -1,5 +1,7 @@
 mod BackAlike
+mod BackEntries
 mod BackLists
+mod BackSelectors
 mod BackTokens
 mod BackValues
 mod Inversions
