@@ -1,5 +1,8 @@
 mod BackAlike
+mod BackCuts
 mod BackEntries
+mod BackItems
+mod BackKept
 mod BackLists
 mod BackSelectors
 mod BackTokens
