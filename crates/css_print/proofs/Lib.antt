@@ -1,3 +1,12 @@
+mod BackAlike
+mod BackCuts
+mod BackEntries
+mod BackItems
+mod BackKept
+mod BackLists
+mod BackSelectors
+mod BackTokens
+mod BackValues
 mod Inversions
 mod Joining
 mod Lengths
