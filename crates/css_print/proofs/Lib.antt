@@ -7,6 +7,10 @@ mod BackLists
 mod BackSelectors
 mod BackTokens
 mod BackValues
+pub mod FrontChain
+pub mod FrontItems
+pub mod FrontLevels
+pub mod FrontParts
 mod Inversions
 mod Joining
 mod Lengths
