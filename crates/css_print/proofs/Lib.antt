@@ -1,9 +1,12 @@
 mod BackAlike
+mod BackBlocks
 mod BackCuts
 mod BackEntries
 mod BackItems
+mod BackJoins
 mod BackKept
 mod BackLists
+mod BackPreludes
 mod BackSelectors
 mod BackTokens
 mod BackValues
