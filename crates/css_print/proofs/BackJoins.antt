@@ -62,7 +62,7 @@ pub record AreCut (source : List ℕ) (b level : ℕ) (ys : List Lexeme) (ss : L
   pub split : slice_split (is_sign_at b level) ys ≡ parts
   pub each : ArePartsOf source ys parts ss
 
-wider : (source : List ℕ) (whole behind : List Lexeme) (parts : List (List Lexeme)) (ss : List (List Shown)) → StandsIn whole behind → ArePartsOf source behind parts ss → ArePartsOf source whole parts ss
+pub wider : (source : List ℕ) (whole behind : List Lexeme) (parts : List (List Lexeme)) (ss : List (List Shown)) → StandsIn whole behind → ArePartsOf source behind parts ss → ArePartsOf source whole parts ss
 wider source whole behind [] [] inside each = tt
 wider source whole behind [] (s ∷ ss) inside each = absurd each
 wider source whole behind (part ∷ parts) [] inside each = absurd each

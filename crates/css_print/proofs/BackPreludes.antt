@@ -223,7 +223,7 @@ abbrev pub starts_rule : List Shown → Bool
 starts_rule [] = false
 starts_rule (s ∷ ss) = is_of_selector s.kind
 
-starts_append : (xs ys : List Shown) → starts_rule xs ≡ true → starts_rule (xs ++ ys) ≡ true
+pub starts_append : (xs ys : List Shown) → starts_rule xs ≡ true → starts_rule (xs ++ ys) ≡ true
 starts_append [] ys is = absurd (false≢true is)
 starts_append (x ∷ xs) ys is = is
 

@@ -7,6 +7,7 @@ mod BackJoins
 mod BackKept
 mod BackLists
 mod BackPreludes
+mod BackRules
 mod BackSelectors
 mod BackTokens
 mod BackValues
