@@ -262,44 +262,56 @@ entry_again new old (y ∷ a ∷ ys) d parts e =
   where
     value : List Lexeme
     value = parts.value
+
     custom : Bool
     custom = is_custom (property_of (decoded (text_at old parts.name.span)))
+
     first : shown new y ≡ record { kind = kind.Ident; bytes = text_at old d.name; gap = gap.Nothing; level = 1 }
     first = cons_head (shown new y) _ (map (shown new) (a ∷ ys)) _ e
+
     second : shown new a ≡ record { kind = kind.Sign colon; bytes = colon ∷ []; gap = colon_gap d.decl.value (tokens_in old d.value); level = 1 }
     second = cons_head (shown new a) _ (map (shown new) ys) _ (cons_tail (shown new y) _ (map (shown new) (a ∷ ys)) _ e)
+
     third : map (shown new) ys ≡ value_shown old (tokens_in old d.value) ++ importance_shown d.decl.important
     third = cons_tail (shown new a) _ (map (shown new) ys) _ (cons_tail (shown new y) _ (map (shown new) (a ∷ ys)) _ e)
+
     important : d.decl.important ≡ is_important old value
     important = sym (ap (λ x. x.decl.important) parts.is)
+
     text : d.decl.value ≡ text_of_value old custom parts.sign (without_importance old value)
     text = sym (ap (λ x. x.decl.value) parts.is)
+
     again : IsValueAgain new old ys value
     again =
         value_again new old ys value
         (third ∙ ap (λ xs. value_shown old xs ++ importance_shown d.decl.important) parts.alone ∙ ap (λ b. value_shown old (without_importance old value) ++ importance_shown b) important)
         parts.closable
+
     colon_white : a.gap ≡ colon_gap (text_of_value old custom parts.sign (without_importance old value)) (without_importance old value)
     colon_white = ap (λ s. s.gap) second ∙ ap (λ xs. colon_gap d.decl.value xs) parts.alone ∙ ap (λ t. colon_gap t (without_importance old value)) text
+
     same : (declared new y a ys).decl ≡ d.decl
     same =
         declared_same new old parts.name parts.sign value y a ys
         (ap (λ s. unescaped s.bytes) first ∙ sym (ap (λ x. unescaped (text_at old x.name)) parts.is))
         again.important
         (text_again new old custom a parts.sign (without_importance new ys) (without_importance old value) colon_white again.plain
-          (all_shut old (without_importance old value) (each_without (IsClosable old) old value parts.closable)))
+        (all_shut old (without_importance old value) (each_without (IsClosable old) old value parts.closable)))
         ∙ ap (λ x. x.decl) parts.is
+
     reads : declaration new (y ∷ a ∷ ys) ≡ Some (declared new y a ys)
     reads =
         ap (λ s. if is_ident s.kind && is_sign_of colon a.kind then Some (declared new y a ys) else None) first
         ∙ ap (λ s. if is_sign_of colon s.kind then Some (declared new y a ys) else None) second
+
     unless_custom : (is_custom d.decl.name ≡ true) ⊎ (list_any (is_sign_at open_curly 1) (parts.name ∷ parts.sign ∷ value) ≡ false) → (list_any (is_sign_at open_curly 1) (y ∷ a ∷ ys) && not (is_custom d.decl.name)) ≡ false
     unless_custom (inl is) = ap (λ b. list_any (is_sign_at open_curly 1) (y ∷ a ∷ ys) && not b) is ∙ and_false (list_any (is_sign_at open_curly 1) (y ∷ a ∷ ys))
     unless_custom (inr is) =
         let fail = none_any (is_sign_at open_curly 1) (parts.name ∷ parts.sign ∷ value) is in
         ap (λ b. b && not (is_custom d.decl.name))
         (any_none (is_sign_at open_curly 1) (y ∷ a ∷ ys)
-          (none_shown new open_curly 1 (y ∷ a ∷ ys) (declaration_shown old d) e (none_declaration old open_curly 1 d refl parts fail.1.1)))
+        (none_shown new open_curly 1 (y ∷ a ∷ ys) (declaration_shown old d) e (none_declaration old open_curly 1 d refl parts fail.1.1)))
+
     nested : is_nested new (y ∷ a ∷ ys) ≡ false
     nested =
         let inside = or_false (is_at_keyword parts.name.kind) (list_any (is_sign_at open_curly 1) (parts.name ∷ parts.sign ∷ value) && not (declares_custom (declaration old (parts.name ∷ parts.sign ∷ value)))) parts.plain in

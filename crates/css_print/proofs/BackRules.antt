@@ -108,3 +108,88 @@ pub record IsReadRule (new old : List ℕ) (ys : List Lexeme) (r : RuleParts) : 
   pub qualified : is_at_rule ys ≡ false
   pub ended : is_ended ys ≡ true
   pub whole : is_whole ys ≡ true
+
+rule_reads : (new old : List ℕ) (ys : List Lexeme) (read : List SelItem) (items : List DeclItem) (d : DeclItem) (ds : List DeclItem) → AllZip (IsDeclarationAgain new old) items (d ∷ ds)
+    → rule_or_block (piece_of ys) (Some read) (Some items) ≡ Some (Rule (record { selectors = read; decls = items }))
+rule_reads new old ys read [] d ds z = absurd z
+rule_reads new old ys read (item ∷ items) d ds z = refl
+
+rule_by_lists : (new old : List ℕ) (ys : List Lexeme) (s : SelItem) (ss : List SelItem) (d : DeclItem) (ds : List DeclItem) → AllByRecursion (IsOfSelector old) (s ∷ ss) → AllByRecursion (IsOfDeclaration old) (d ∷ ds)
+    → map (shown new) ys ≡ rule_shown old (record { selectors = s ∷ ss; decls = d ∷ ds }) → IsReadRule new old ys (record { selectors = s ∷ ss; decls = d ∷ ds })
+rule_by_lists new old ys s ss d ds selectors decls e =
+    record {
+      rule = record { selectors = read.items; decls = declared.items };
+      reads = reads;
+      again = record { selectors = read.each; decls = declared.each };
+      begins = starts.0;
+      qualified = starts.1;
+      ended = ended_rule ys starts.1 (ap (ends_in false) cut.whole ∙ ends_at cut.front cut.first cut.inside cut.last no_open cut.opens no_close cut.closes);
+      whole = ap (λ b. b || list_any opens_block ys) starts.1 ∙ ap (list_any opens_block) cut.whole ∙ any_at opens_block cut.front cut.first (cut.inside ++ cut.last ∷ []) cut.opens;
+    }
+  where
+    prelude : List Shown
+    prelude = joined (sign_shown comma 0) (map (selector_shown old) (s ∷ ss))
+
+    block : List Shown
+    block = joined (sign_shown semicolon 1) (map (declaration_shown old) (d ∷ ds))
+
+    cut : IsRuleCut new ys prelude block
+    cut = cut_rule new ys prelude block e
+
+    starts : (begins_item ys ≡ true) × (is_at_rule ys ≡ false)
+    starts = starts_shown new ys
+        (ap starts_rule e ∙ starts_append (prelude ++ sign_shown open_curly 0 ∷ block) (sign_shown close_curly 1 ∷ []) (selectors_start old (sign_shown comma 0) s ss (sign_shown open_curly 0 ∷ block) selectors.0))
+
+    no_open : None_of opens_block cut.front
+    no_open = none_shown new open_curly 0 cut.front prelude cut.is_front (none_joined (is_shown_sign open_curly 0) (sign_shown comma 0) (map (selector_shown old) (s ∷ ss)) refl (selectors_no_sign old open_curly 0 (s ∷ ss) selectors))
+
+    no_close : None_of closes_block cut.inside
+    no_close = none_shown new close_curly 1 cut.inside block cut.is_inside (none_joined (is_shown_sign close_curly 1) (sign_shown semicolon 1) (map (declaration_shown old) (d ∷ ds)) refl (declarations_no_close old (d ∷ ds) decls))
+
+    parts : AreCut new comma 0 cut.front (map (selector_shown old) (s ∷ ss))
+    parts = cut_joined new comma 0 (sign_shown comma 0) refl cut.front (selector_shown old s) (map (selector_shown old) ss) cut.is_front (selectors_no_sign old comma 0 (s ∷ ss) selectors)
+
+    entries_cut : AreCut new semicolon 1 cut.inside (map (declaration_shown old) (d ∷ ds))
+    entries_cut = cut_joined new semicolon 1 (sign_shown semicolon 1) refl cut.inside (declaration_shown old d) (map (declaration_shown old) ds) cut.is_inside (declarations_no_semicolon old (d ∷ ds) decls)
+
+    front_in : StandsIn ys cut.front
+    front_in = subst (λ zs. StandsIn zs cut.front) (sym cut.whole) (stands_front cut.front (cut.first ∷ (cut.inside ++ cut.last ∷ [])))
+
+    read : AreSelectorsAgain new old ys parts.parts (s ∷ ss)
+    read = selectors_again new old ys parts.parts (s ∷ ss) selectors (wider new ys cut.front parts.parts (map (selector_shown old) (s ∷ ss)) front_in parts.each)
+
+    declared : AreDeclarationsAgain new old entries_cut.parts (d ∷ ds)
+    declared = declarations_again new old cut.inside entries_cut.parts (d ∷ ds) decls entries_cut.each
+
+    is_parts : selector_parts ys ≡ parts.parts
+    is_parts =
+        ap selector_parts cut.whole
+        ∙ ap (slice_split (is_sign_at comma 0)) (before_at opens_block cut.front cut.first (cut.inside ++ cut.last ∷ []) no_open cut.opens)
+        ∙ parts.split
+
+    is_entries : entries ys ≡ entries_cut.parts
+    is_entries =
+        ap entries cut.whole
+        ∙ ap (λ zs. slice_split (is_sign_at semicolon 1) (before_first closes_block zs)) (after_at opens_block cut.front cut.first (cut.inside ++ cut.last ∷ []) no_open cut.opens)
+        ∙ ap (slice_split (is_sign_at semicolon 1)) (before_at closes_block cut.inside cut.last [] no_close cut.closes)
+        ∙ entries_cut.split
+
+    reads : item_of new ys ≡ Some (Rule (record { selectors = read.items; decls = declared.items }))
+    reads =
+        ap (λ b. if b then Some (KeptBlock (piece_of ys)) else qualified_at new (piece_of ys) (selector_parts ys) (entries ys)) starts.1
+        ∙ ap (λ ps. qualified_at new (piece_of ys) ps (entries ys)) is_parts
+        ∙ ap (λ es. qualified_at new (piece_of ys) parts.parts es) is_entries
+        ∙ ap (λ x. rule_or_block (piece_of ys) x (if list_any (is_nested new) entries_cut.parts then None else Some (filter_map (declaration new) entries_cut.parts))) read.reads
+        ∙ ap (λ b. rule_or_block (piece_of ys) (Some read.items) (if b then None else Some (filter_map (declaration new) entries_cut.parts))) declared.plain
+        ∙ ap (λ xs. rule_or_block (piece_of ys) (Some read.items) (Some xs)) declared.reads
+        ∙ rule_reads new old ys read.items declared.items d ds declared.each
+
+-- Tokens that are shown as a rule's are read as this rule.
+pub rule_again : (new old : List ℕ) (ys : List Lexeme) (r : RuleParts) → IsOfRule old r → map (shown new) ys ≡ rule_shown old r → IsReadRule new old ys r
+rule_again new old ys r sound e = by_lists r.selectors r.decls sound.has_selectors sound.has_declarations sound.selectors sound.decls e
+  where
+    by_lists : (ss : List SelItem) (ds : List DeclItem) → ss ≢ [] → ds ≢ [] → AllByRecursion (IsOfSelector old) ss → AllByRecursion (IsOfDeclaration old) ds
+        → map (shown new) ys ≡ rule_shown old (record { selectors = ss; decls = ds }) → IsReadRule new old ys (record { selectors = ss; decls = ds })
+    by_lists [] ds some some_decl selectors decls e = absurd (some refl)
+    by_lists (s ∷ ss) [] some some_decl selectors decls e = absurd (some_decl refl)
+    by_lists (s ∷ ss) (d ∷ ds) some some_decl selectors decls e = rule_by_lists new old ys s ss d ds selectors decls e
