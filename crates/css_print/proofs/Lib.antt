@@ -9,6 +9,7 @@ mod BackLists
 mod BackPreludes
 mod BackRules
 mod BackSelectors
+mod BackSheet
 mod BackTokens
 mod BackValues
 mod Inversions
