@@ -7,6 +7,7 @@ use Rattle.std.specs.Str.{str_eq_ignore_ascii_case}
 use Rattle.css_model.specs.declared.sheet.Item.{Item}
 use Rattle.css_model.specs.declared.sheet.Item.TheVariants.{Rule, KeptRule, KeptBlock}
 use Rattle.css_model.specs.declared.sheet.Piece.{Piece}
+use Rattle.css_model.specs.declared.sheet.SelItem.{SelItem}
 use Rattle.css_model.specs.declared.token.Lexeme.{Lexeme}
 use Rattle.css_model.specs.declared.token.TokenKind.{TokenKind}
 use Rattle.css_model.specs.declared.token.TokenKind.TheVariants as kind
@@ -26,7 +27,8 @@ use Rattle.css_print.proofs.BackEntries.{at_rule_like, sign_like}
 use Rattle.css_print.proofs.BackItems.{begins_item, is_ended, ended_item_len, all_of_them, StandAsItems, items_again, ended_like, begins_like, item_len_like}
 use Rattle.css_print.proofs.BackJoins.{StandsIn, stands_whole, stands_front, stands_behind, stands_inside}
 use Rattle.css_print.proofs.BackKept.{SameAt, kept_item_same}
-use Rattle.css_print.proofs.BackLists.{AreBoth, AllLast, IsCut, cut_at, zip_length, zip_any}
+use Rattle.css_print.proofs.BackLists.{AreBoth, AllLast, IsCut, cut_at, zip_length, zip_any, zip_map}
+use Rattle.css_print.proofs.BackPreludes.{IsSelectorAgain}
 use Rattle.css_print.proofs.BackRules.{IsOfRule, IsRuleAgain, IsReadRule, rule_again}
 use Rattle.css_print.proofs.BackTokens.{Shown, shown, inner, last_of_item, kept_shown, rule_shown, item_shown, sheet_shown, last_from_shown}
 use Rattle.css_print.proofs.BackValues.{IsInner, IsLastOfItem, kept_same}
@@ -246,4 +248,110 @@ cut_items new old ys (item ∷ its) sound e =
         (item_again new old cut.upper item sound.0 cut.is_front, subst (λ zs. StandsIn zs cut.upper) (sym cut.whole) (stands_front cut.upper cut.lower)),
         wider_items new old ys cut.lower rest.raw its (subst (λ zs. StandsIn zs cut.lower) (sym cut.whole) (stands_behind cut.upper cut.lower)) rest.each,
       );
+    }
+
+wider_selectors : (new old : List ℕ) (outer inner : List Lexeme) → StandsIn outer inner → (ss' ss : List SelItem) → AllZip (IsSelectorAgain new old inner) ss' ss → AllZip (IsSelectorAgain new old outer) ss' ss
+wider_selectors new old outer inner inside = zip_map (IsSelectorAgain new old inner) (IsSelectorAgain new old outer)
+    (λ s' s again. record { tokens = again.tokens; inside = stands_inside outer inner again.tokens inside again.inside; stands = again.stands; same = again.same; text = again.text })
+
+wider_kept : (new old : List ℕ) (outer inner : List Lexeme) → StandsIn outer inner → (p' p : Piece) → IsKeptAgain new old inner p' p → IsKeptAgain new old outer p' p
+wider_kept new old outer inner inside p' p again =
+    record { tokens = again.tokens; inside = stands_inside outer inner again.tokens inside again.inside; stands = again.stands; text = again.text }
+
+wider_again : (new old : List ℕ) (outer inner : List Lexeme) → StandsIn outer inner → (read item : Item) → IsAgain new old inner read item → IsAgain new old outer read item
+wider_again new old outer inner inside (Rule r') (Rule r) again =
+    record { selectors = wider_selectors new old outer inner inside r'.selectors r.selectors again.selectors; decls = again.decls }
+wider_again new old outer inner inside (Rule r') (KeptRule k) again = absurd again
+wider_again new old outer inner inside (Rule r') (KeptBlock p) again = absurd again
+wider_again new old outer inner inside (KeptRule k') (Rule r) again = absurd again
+wider_again new old outer inner inside (KeptRule k') (KeptRule k) again = (wider_kept new old outer inner inside k'.piece k.piece again.0, again.1, again.2)
+wider_again new old outer inner inside (KeptRule k') (KeptBlock p) again = absurd again
+wider_again new old outer inner inside (KeptBlock p') (Rule r) again = absurd again
+wider_again new old outer inner inside (KeptBlock p') (KeptRule k) again = absurd again
+wider_again new old outer inner inside (KeptBlock p') (KeptBlock p) again = wider_kept new old outer inner inside p' p again
+
+-- tokens of an item among those of a sheet
+abbrev IsRaw : List ℕ → List ℕ → List Lexeme → List Lexeme → Item → Type 0
+IsRaw new old ys zs item = IsReadItem new old zs item × StandsIn ys zs
+
+raw_stand : (new old : List ℕ) (ys : List Lexeme) (raw : List (List Lexeme)) (its : List Item) → AllZip (IsRaw new old ys) raw its → AreInOrder old its → StandAsItems raw
+raw_stand new old ys [] [] z order = tt
+raw_stand new old ys [] (item ∷ its) z order = absurd z
+raw_stand new old ys (zs ∷ raw) [] z order = absurd z
+raw_stand new old ys (zs ∷ []) (item ∷ []) z order = (z.0.0.begins, z.0.0.is_item)
+raw_stand new old ys (zs ∷ []) (item ∷ next ∷ its) z order = absurd z.1
+raw_stand new old ys (zs ∷ later ∷ raw) (item ∷ []) z order = absurd z.1
+raw_stand new old ys (zs ∷ later ∷ raw) (item ∷ next ∷ its) z order =
+    (z.0.0.begins, z.0.0.ended ∙ order.1, raw_stand new old ys (later ∷ raw) (next ∷ its) z.1 order.2)
+
+raw_whole : (new old : List ℕ) (ys : List Lexeme) (raw : List (List Lexeme)) (its : List Item) → AllZip (IsRaw new old ys) raw its → filter is_whole raw ≡ raw
+raw_whole new old ys [] [] z = refl
+raw_whole new old ys [] (item ∷ its) z = absurd z
+raw_whole new old ys (zs ∷ raw) [] z = absurd z
+raw_whole new old ys (zs ∷ raw) (item ∷ its) z =
+    ap (λ b. if b then zs ∷ filter is_whole raw else filter is_whole raw) z.0.0.is_kept ∙ ap (λ rest. zs ∷ rest) (raw_whole new old ys raw its z.1)
+
+raw_names : (new old : List ℕ) (ys : List Lexeme) (raw : List (List Lexeme)) (its : List Item) → AllZip (IsRaw new old ys) raw its → find (is_namespace new) raw ≡ None
+raw_names new old ys [] [] z = refl
+raw_names new old ys [] (item ∷ its) z = absurd z
+raw_names new old ys (zs ∷ raw) [] z = absurd z
+raw_names new old ys (zs ∷ raw) (item ∷ its) z =
+    ap (λ b. if b then Some zs else find (is_namespace new) raw) z.0.0.no_namespace ∙ raw_names new old ys raw its z.1
+
+raw_imports : (new old : List ℕ) (ys : List Lexeme) (raw : List (List Lexeme)) (its : List Item) → AllZip (IsRaw new old ys) raw its → list_any (is_import new) raw ≡ list_any (imports old) its
+raw_imports new old ys = zip_any (IsRaw new old ys) (is_import new) (imports old) (λ zs item r. r.0.import)
+
+record AreRead (new old : List ℕ) (ys : List Lexeme) (raw : List (List Lexeme)) (its : List Item) : Type 0 where
+  read : List Item
+  reads : read_items new raw ≡ read
+  each : AllZip (IsAgain new old ys) read its
+
+read_first : (new old : List ℕ) (ys zs : List Lexeme) (raw : List (List Lexeme)) (item : Item) (its : List Item) → IsRaw new old ys zs item → IsBefore old (list_any (imports old) its) item
+    → list_any (is_import new) raw ≡ list_any (imports old) its → AreRead new old ys raw its → AreRead new old ys (zs ∷ raw) (item ∷ its)
+read_first new old ys zs raw item its r before imported rest =
+    let here = r.0.reads (list_any (imports old) its) before in
+    record {
+      read = here.0 ∷ rest.read;
+      reads =
+          ap (λ b. onto (if b then Some (KeptBlock (piece_of zs)) else item_of new zs) (read_items new raw)) imported
+          ∙ ap (λ x. onto x (read_items new raw)) here.1
+          ∙ ap (λ xs. here.0 ∷ xs) rest.reads;
+      each = (wider_again new old ys zs r.1 here.0 item here.2, rest.each);
+    }
+
+raw_read : (new old : List ℕ) (ys : List Lexeme) (raw : List (List Lexeme)) (its : List Item) → AllZip (IsRaw new old ys) raw its → AreInOrder old its → AreRead new old ys raw its
+raw_read new old ys [] [] z order = record { read = []; reads = refl; each = tt }
+raw_read new old ys [] (item ∷ its) z order = absurd z
+raw_read new old ys (zs ∷ raw) [] z order = absurd z
+raw_read new old ys (zs ∷ []) (item ∷ []) z order = read_first new old ys zs [] item [] z.0 order refl (record { read = []; reads = refl; each = tt })
+raw_read new old ys (zs ∷ []) (item ∷ next ∷ its) z order = absurd z.1
+raw_read new old ys (zs ∷ later ∷ raw) (item ∷ []) z order = absurd z.1
+raw_read new old ys (zs ∷ later ∷ raw) (item ∷ next ∷ its) z order =
+    read_first new old ys zs (later ∷ raw) item (next ∷ its) z.0 order.0 (raw_imports new old ys (later ∷ raw) (next ∷ its) z.1) (raw_read new old ys (later ∷ raw) (next ∷ its) z.1 order.2)
+
+-- what the tokens of a printed sheet are read as
+pub record IsSheetAgain (new old : List ℕ) (ys : List Lexeme) (its : List Item) : Type 0 where
+  pub raw : List (List Lexeme)
+  pub is_raw : filter is_whole (items ys) ≡ raw
+  pub no_namespace : find (is_namespace new) raw ≡ None
+  pub read : List Item
+  pub reads : read_items new raw ≡ read
+  pub each : AllZip (IsAgain new old ys) read its
+
+-- Tokens that are shown as those of a sheet are read as its items.
+pub sheet_again : (new old : List ℕ) (ys : List Lexeme) (its : List Item) → AllByRecursion (IsFrom old) its → AreInOrder old its → map (shown new) ys ≡ sheet_shown old its
+    → IsSheetAgain new old ys its
+sheet_again new old ys its sound order e =
+    let cut = cut_items new old ys its sound e in
+    let read = raw_read new old ys cut.raw its cut.each order in
+    record {
+      raw = cut.raw;
+      is_raw =
+          ap (λ zs. filter is_whole (items zs)) cut.whole
+          ∙ ap (filter is_whole) (items_again cut.raw (raw_stand new old ys cut.raw its cut.each order))
+          ∙ raw_whole new old ys cut.raw its cut.each;
+      no_namespace = raw_names new old ys cut.raw its cut.each;
+      read = read.read;
+      reads = read.reads;
+      each = read.each;
     }
