@@ -6,6 +6,7 @@ mod BackItems
 mod BackJoins
 mod BackKept
 mod BackLists
+mod BackPieces
 mod BackPreludes
 mod BackRules
 mod BackSelectors
