@@ -9,6 +9,7 @@ mod BackLists
 mod BackPieces
 mod BackPreludes
 mod BackRules
+mod BackSaid
 mod BackSelectors
 mod BackSheet
 mod BackTokens
