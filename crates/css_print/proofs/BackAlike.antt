@@ -37,7 +37,7 @@ pub record IsLike (new old : List ℕ) (y x : Lexeme) : Type 0 where
   pub dashed : begins_with (text_at new y.span) (codes "--") ≡ begins_with (text_at old x.span) (codes "--")
   pub dashes : same_text (text_at new y.span) (codes "--") ≡ same_text (text_at old x.span) (codes "--")
 
-and_false : (b : Bool) → b && false ≡ false
+pub and_false : (b : Bool) → b && false ≡ false
 and_false true = refl
 and_false false = refl
 

@@ -81,15 +81,16 @@ without_like new old R ys xs same z = which (is_important new ys) (is_important 
 
 -- declarations of one name and one value
 pub declared_same : (new old : List ℕ) (name sign : Lexeme) (value : List Lexeme) (name' sign' : Lexeme) (value' : List Lexeme)
-    → is_ident name.kind ≡ true → IsLike new old name' name → is_important new value' ≡ is_important old value
-    → ((custom : Bool) → text_of_value new custom sign' (without_importance new value') ≡ text_of_value old custom sign (without_importance old value))
+    → unescaped (text_at new name'.span) ≡ unescaped (text_at old name.span) → is_important new value' ≡ is_important old value
+    → (let custom = is_custom (property_of (decoded (text_at old name.span))) in
+    text_of_value new custom sign' (without_importance new value') ≡ text_of_value old custom sign (without_importance old value))
     → (declared new name' sign' value').decl ≡ (declared old name sign value).decl
-declared_same new old name sign value name' sign' value' ident like important text =
+declared_same new old name sign value name' sign' value' same important text =
     let property' = property_of (decoded (text_at new name'.span)) in
     let property = property_of (decoded (text_at old name.span)) in
-    let named : property' ≡ property = ap (λ t. property_of (code_points t)) (ident_like new old name' name ident like) in
+    let named : property' ≡ property = ap (λ t. property_of (code_points t)) same in
     ap (λ (p : List ℕ). record { name = p; value = text_of_value new (is_custom p) sign' (without_importance new value'); important = is_important new value' }) named
-    ∙ ap (λ (t : List ℕ). record { name = property; value = t; important = is_important new value' }) (text (is_custom property))
+    ∙ ap (λ (t : List ℕ). record { name = property; value = t; important = is_important new value' }) text
     ∙ ap (λ (b : Bool). record { name = property; value = text_of_value old (is_custom property) sign (without_importance old value); important = b }) important
 
 inner_of : (new old : List ℕ) (ys xs : List Lexeme) → AllZip (IsPrinted new old) ys xs → AllZip (IsInner new old) ys xs
@@ -146,8 +147,8 @@ declaration_printed new old (y ∷ a ∷ ys) (x ∷ b ∷ xs) z =
         inside : (t : Bool) → (is_ident x.kind && is_sign_of colon b.kind) ≡ t
             → AreBoth SaySame (if is_ident x.kind && is_sign_of colon b.kind then Some (declared new y a ys) else None) (if is_ident x.kind && is_sign_of colon b.kind then Some (declared old x b xs) else None)
         inside false is = rw is tt
-        inside true is = rw is (declared_same new old x b xs y a ys (and_parts (is_ident x.kind) (is_sign_of colon b.kind) is).0 name values
-            (λ custom. text_printed new old custom a b (without_importance new ys) (without_importance old xs) (ap (λ s. s.gap) z.1.0.0) (without_like new old (IsPrinted new old) ys xs values z.1.1)))
+        inside true is = rw is (declared_same new old x b xs y a ys (ident_like new old y x (and_parts (is_ident x.kind) (is_sign_of colon b.kind) is).0 name) values
+            (text_printed new old (is_custom (property_of (decoded (text_at old x.span)))) a b (without_importance new ys) (without_importance old xs) (ap (λ s. s.gap) z.1.0.0) (without_like new old (IsPrinted new old) ys xs values z.1.1)))
 
 custom_same : (d' d : Option DeclItem) → AreBoth SaySame d' d → declares_custom d' ≡ declares_custom d
 custom_same None None both = refl

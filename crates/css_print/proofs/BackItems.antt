@@ -233,7 +233,7 @@ block_end (x ∷ xs) ends = which (block_end xs) (closes_block x) refl
         let rest = again (ap (λ (b : Bool). if b then is_nil xs else ends_with_block xs) (sym is) ∙ ends) in
         record { front = x ∷ rest.front; last = rest.last; whole = ap (λ zs. x ∷ zs) rest.whole; closes = rest.closes }
 
-or_true : (b : Bool) → (b || true) ≡ true
+pub or_true : (b : Bool) → (b || true) ≡ true
 or_true true = refl
 or_true false = refl
 

@@ -81,7 +81,7 @@ cut_last new old (y ∷ after ∷ ys) (x ∷ next ∷ front) last z each =
     record { upper = y ∷ rest.upper; end = rest.end; whole = ap (λ zs. y ∷ zs) rest.whole; fronts = ((z.0, each.0), rest.fronts); ends = rest.ends }
 
 -- a qualified rule, in the words of its tokens
-abbrev qualified_at : List ℕ → Piece → List (List Lexeme) → List (List Lexeme) → Option Item
+abbrev pub qualified_at : List ℕ → Piece → List (List Lexeme) → List (List Lexeme) → Option Item
 qualified_at source piece parts entries =
     rule_or_block piece (all_of (selector_item source) parts) (if list_any (is_nested source) entries then None else Some (filter_map (declaration source) entries))
 

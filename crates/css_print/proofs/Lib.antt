@@ -1,10 +1,17 @@
 mod BackAlike
+mod BackBlocks
 mod BackCuts
 mod BackEntries
 mod BackItems
+mod BackJoins
 mod BackKept
 mod BackLists
+mod BackPieces
+mod BackPreludes
+mod BackRules
+mod BackSaid
 mod BackSelectors
+mod BackSheet
 mod BackTokens
 mod BackValues
 pub mod FrontChain
