@@ -18,6 +18,7 @@ pub mod FrontChain
 pub mod FrontItems
 pub mod FrontLevels
 pub mod FrontParts
+pub mod FrontSheet
 mod Inversions
 mod Joining
 mod Lengths
