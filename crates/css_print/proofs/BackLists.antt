@@ -172,3 +172,6 @@ cut_at {C = C} f (y ∷ ys) (s ∷ front) behind e =
       is_front = ap (λ (t : C). t ∷ map f rest.upper) (cons_head (f y) s (map f ys) (front ++ behind) e) ∙ ap (λ zs. s ∷ zs) rest.is_front;
       is_behind = rest.is_behind;
     }
+
+pub some_not_none : {A : Type 0} (x : A) → Some x ≡ None → ⊥
+some_not_none x e = absurd (cc)

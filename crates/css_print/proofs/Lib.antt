@@ -2,6 +2,7 @@ mod BackAlike
 mod BackBlocks
 mod BackCuts
 mod BackEntries
+mod BackFaults
 mod BackItems
 mod BackJoins
 mod BackKept
