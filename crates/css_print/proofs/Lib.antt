@@ -20,6 +20,7 @@ pub mod FrontItems
 pub mod FrontLevels
 pub mod FrontParts
 pub mod FrontSheet
+pub mod FrontTexts
 mod Inversions
 mod Joining
 mod Lengths
