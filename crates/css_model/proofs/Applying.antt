@@ -40,10 +40,10 @@ in_map (y ∷ ss) x h = cases (Contains-cons_cases y ss x h) (in_map ss x)
 
 -- ---- What equal values are made of
 
-some-same : {A : Type 0} {x y : A} → Some x ≡ Some y → x ≡ y
+pub some-same : {A : Type 0} {x y : A} → Some x ≡ Some y → x ≡ y
 some-same h = cc
 
-rule-same : {r s : RuleParts} → Rule r ≡ Rule s → r ≡ s
+pub rule-same : {r s : RuleParts} → Rule r ≡ Rule s → r ≡ s
 rule-same h = cc
 
 -- ---- The entries of one declaration, of a rule's declarations and of a kept item

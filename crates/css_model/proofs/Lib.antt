@@ -10,11 +10,14 @@ pub mod JoiningSets
 pub mod LegalExamples
 pub mod MatchingExamples
 pub mod MatchingWords
+pub mod Keeping
 pub mod Members
+mod OrderExamples
 mod PlainExamples
 pub mod PlainLemmas
 pub mod Ranking
 pub mod Same
+mod SheetExamples
 pub mod SliceRange
 pub mod Soundness
 mod TokenExamples

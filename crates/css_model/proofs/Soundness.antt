@@ -1,4 +1,6 @@
 -- What a source is read as is sound for it.
+use Rattle.std.specs.Prelude.{◌||◌}
+use Rattle.std.proofs.lemmas.Bool.{true≢false}
 use Rattle.std.proofs.Common.{cond, ◌≡◌, ◌≢◌, ℕ, suc, nat_lt, Bool, true, false, List, [], ◌∷◌, map, length, Option, Some, None, Ok, Err, refl, sym, ap, ◌∙◌, subst, arith}
 use Rattle.std.specs.List.{AllByRecursion, Contains, cons_option, filter_map, list_any, onto_first, slice_split}
 use Rattle.css_model.specs.declared.fault.SheetFault.{SheetFault}
@@ -53,14 +55,21 @@ all_of-some {B = B} f (x ∷ xs) some e = from (f x) (all_of f xs) e
     from (Some y) None e = absurd cc
     from (Some y) (Some zs) e = absurd (let n : length (y ∷ zs) ≡ 0 = ap length (Some-is (y ∷ zs) [] e) in omega arith)
 
-filter_map-from : {A B : Type 0} (f : A → Option B) (P : B → Type 0) (xs : List A) → ((x : A) (y : B) → Contains xs x → f x ≡ Some y → P y)
-    → AllByRecursion P (filter_map f xs)
-filter_map-from f P [] h = tt
-filter_map-from {B = B} f P (x ∷ xs) h = from (f x) refl (filter_map-from f P xs (λ z y c. h z y (Contains-there x xs z c)))
+-- each member of `filter_map` comes from a member of the list, none of which passes the test
+filter_map-from : {A B : Type 0} (f : A → Option B) (test : A → Bool) (P : B → Type 0) (xs : List A) → list_any test xs ≡ false
+    → ((x : A) (y : B) → Contains xs x → test x ≡ false → f x ≡ Some y → P y) → AllByRecursion P (filter_map f xs)
+filter_map-from f test P [] none h = tt
+filter_map-from {B = B} f test P (x ∷ xs) none h =
+    from (f x) refl (neither (test x) (list_any test xs) none) (λ fails. filter_map-from f test P xs fails (λ z y c t. h z y (Contains-there x xs z c) t))
   where
-    from : (o : Option B) → f x ≡ o → AllByRecursion P (filter_map f xs) → AllByRecursion P (cons_option o (filter_map f xs))
-    from None is rest = rest
-    from (Some y) is rest = (h x y (Contains-here x xs) is, rest)
+    neither : (a b : Bool) → a || b ≡ false → (a ≡ false) × (b ≡ false)
+    neither false b e = (refl, e)
+    neither true b e = absurd (true≢false e)
+
+    from : (o : Option B) → f x ≡ o → (test x ≡ false) × (list_any test xs ≡ false) → (list_any test xs ≡ false → AllByRecursion P (filter_map f xs))
+        → AllByRecursion P (cons_option o (filter_map f xs))
+    from None is fails rest = rest fails.1
+    from (Some y) is fails rest = (h x y (Contains-here x xs) fails.0 is, rest fails.1)
 
 split-some : {A : Type 0} (p : A → Bool) (xs : List A) → slice_split p xs ≢ []
 split-some p [] e = absurd (let n : 1 ≡ 0 = ap length e in omega arith)
@@ -82,11 +91,11 @@ selectors-sound source item h read e =
     all_of-from (selector_item source) (IsSoundSelector source) (selector_parts item)
     (λ part s c is. record { item = item; part = part; item_in = h; part_in = c; reads = is }) read e
 
-decls-sound : (source : List ℕ) (item : List Lexeme) → Contains (raw_items source) item
+decls-sound : (source : List ℕ) (item : List Lexeme) → Contains (raw_items source) item → list_any (is_nested source) (entries item) ≡ false
     → AllByRecursion (IsSoundDeclaration source) (filter_map (declaration source) (entries item))
-decls-sound source item h =
-    filter_map-from (declaration source) (IsSoundDeclaration source) (entries item)
-    (λ entry d c is. record { item = item; entry = entry; item_in = h; entry_in = c; reads = is })
+decls-sound source item h none =
+    filter_map-from (declaration source) (is_nested source) (IsSoundDeclaration source) (entries item) none
+    (λ entry d c plain is. record { item = item; entry = entry; item_in = h; entry_in = c; plain = plain; reads = is })
 
 -- what an item of a source is read as is sound for it
 item-sound : (source : List ℕ) (item : List Lexeme) → Contains (raw_items source) item → (x : Item) → item_of source item ≡ Some x → IsSoundItem source x
@@ -111,13 +120,13 @@ item-sound source item h x e = at (is_at_rule item) refl
           decls = decls;
         })
 
-    qualified : (b : Bool) → rule_or_block (piece_of item) (selectors source item) (cond b None (Some (filter_map (declaration source) (entries item)))) ≡ Some x → IsSoundItem source x
-    qualified true here = subst (IsSoundItem source) (Some-is (KeptBlock (piece_of item)) x here) block
-    qualified false here = rule (selectors source item) refl (filter_map (declaration source) (entries item)) (decls-sound source item h) here
+    qualified : (b : Bool) → list_any (is_nested source) (entries item) ≡ b → rule_or_block (piece_of item) (selectors source item) (cond b None (Some (filter_map (declaration source) (entries item)))) ≡ Some x → IsSoundItem source x
+    qualified true nested here = subst (IsSoundItem source) (Some-is (KeptBlock (piece_of item)) x here) block
+    qualified false nested here = rule (selectors source item) refl (filter_map (declaration source) (entries item)) (decls-sound source item h nested) here
 
     at : (b : Bool) → is_at_rule item ≡ b → IsSoundItem source x
     at true is = subst (IsSoundItem source) (Some-is (KeptBlock (piece_of item)) x (sym (cond-true _ _ _ is) ∙ e)) block
-    at false is = qualified (list_any (is_nested source) (entries item)) (sym (cond-false _ _ _ is) ∙ e)
+    at false is = qualified (list_any (is_nested source) (entries item)) refl (sym (cond-false _ _ _ is) ∙ e)
 
 read-sound : (source : List ℕ) (raw : List (List Lexeme)) → ((item : List Lexeme) → Contains raw item → Contains (raw_items source) item) → IsSound source (read_items source raw)
 read-sound source [] h = tt

@@ -1,6 +1,7 @@
 //! Laws above the definition of the tokens. They do nothing when they run.
 
 ghost use Rattle.css_model.specs.Runs.{RunsAreLongest};
+ghost use Rattle.css_tokens.specs.Alike.{PartsEndAlike, RowsEndAlike};
 ghost use Rattle.css_tokens.specs.Laws.{PartsJoin, TokensCover};
 ghost use Rattle.css_tokens.specs.Lexed.{LexedAreParts, LexedAreUtf8, PartsAreLexed};
 
@@ -31,4 +32,14 @@ pub fn parts_read_back()
 /// point.
 pub fn parts_are_utf8()
     ensures { LexedAreUtf8 }
+{}
+
+/// A token or a comment that ends before one rest of a text ends before any other in which nothing begins that
+/// it could go on with, and that did not begin in the first: `Alike` for names, numbers and white space, which
+/// end where no more of them follows, and `LooksAlike` for the single tokens that look behind themselves, as `<`
+/// for `!--`. All others end themselves, whatever follows. So a row of parts that are read where they stand is
+/// read so before other parts, if its last one ends alike.
+pub fn parts_end_alike()
+    ensures part { PartsEndAlike }
+    ensures row { RowsEndAlike }
 {}

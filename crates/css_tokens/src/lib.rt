@@ -12,7 +12,9 @@ mod runs;
 mod strings;
 mod units;
 
-pub use laws::{parts_are_utf8, parts_join, parts_read_back, runs_are_longest, tokens_cover};
+pub use laws::{
+    parts_are_utf8, parts_end_alike, parts_join, parts_read_back, runs_are_longest, tokens_cover,
+};
 pub use names::decode;
 pub use reader::{NotUtf8, Tokens};
 
