@@ -14,6 +14,7 @@ mod BackRules
 mod BackSaid
 mod BackSelectors
 mod BackSheet
+mod BackSource
 mod BackTokens
 mod BackValues
 mod Inversions
