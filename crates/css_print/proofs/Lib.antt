@@ -10,6 +10,7 @@ mod BackLists
 mod BackNames
 mod BackPieces
 mod BackPreludes
+mod BackRaw
 mod BackRules
 mod BackSaid
 mod BackSelectors
