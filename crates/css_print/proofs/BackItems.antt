@@ -61,22 +61,22 @@ block_len (x ∷ xs) more ends = which (block_len xs more) (closes_block x) refl
         ap suc (position_later closes_block x (xs ++ more) is ∙ again later)
 
 -- what holds of a token that opens a block, of one that ends an at-rule, and of any other
-abbrev by_end : {A : Type 0} → Bool → Bool → A → A → A → A
+abbrev pub by_end : {A : Type 0} → Bool → Bool → A → A → A → A
 by_end opens semi at_block at_semi other = if opens then at_block else if semi then at_semi else other
 
-at_block : {A : Type 0} (o s : Bool) (x y z : A) → o ≡ true → by_end o s x y z ≡ x
+pub at_block : {A : Type 0} (o s : Bool) (x y z : A) → o ≡ true → by_end o s x y z ≡ x
 at_block o s x y z is = ap (λ (b : Bool). by_end b s x y z) is
 
-at_semi : {A : Type 0} (o s : Bool) (x y z : A) → o ≡ false → s ≡ true → by_end o s x y z ≡ y
+pub at_semi : {A : Type 0} (o s : Bool) (x y z : A) → o ≡ false → s ≡ true → by_end o s x y z ≡ y
 at_semi o s x y z is semi = ap (λ (b : Bool). by_end b s x y z) is ∙ ap (λ (b : Bool). by_end false b x y z) semi
 
-at_other : {A : Type 0} (o s : Bool) (x y z : A) → o ≡ false → s ≡ false → by_end o s x y z ≡ z
+pub at_other : {A : Type 0} (o s : Bool) (x y z : A) → o ≡ false → s ≡ false → by_end o s x y z ≡ z
 at_other o s x y z is semi = ap (λ (b : Bool). by_end b s x y z) is ∙ ap (λ (b : Bool). by_end false b x y z) semi
 
-ends_first : (a : Bool) (x : Lexeme) → opens_block x ≡ true → ends_prelude a x ≡ true
+pub ends_first : (a : Bool) (x : Lexeme) → opens_block x ≡ true → ends_prelude a x ≡ true
 ends_first a x is = ap (λ (b : Bool). b || (a && is_sign_at semicolon 0 x)) is
 
-ends_second : (a : Bool) (x : Lexeme) (t : Bool) → opens_block x ≡ false → (a && is_sign_at semicolon 0 x) ≡ t → ends_prelude a x ≡ t
+pub ends_second : (a : Bool) (x : Lexeme) (t : Bool) → opens_block x ≡ false → (a && is_sign_at semicolon 0 x) ≡ t → ends_prelude a x ≡ t
 ends_second a x t is semi = ap (λ (b : Bool). b || (a && is_sign_at semicolon 0 x)) is ∙ semi
 
 ended_len : (a : Bool) (xs more : List Lexeme) → ends_in a xs ≡ true → len_of a (xs ++ more) ≡ length xs

@@ -67,11 +67,15 @@ IsBefore source import (Rule r) = import ≡ false
 IsBefore source import (KeptRule k) = (import ≡ false) × (item_of source (tokens_in source k.piece) ≡ Some (KeptRule k))
 IsBefore source import (KeptBlock piece) = import ≡ false → item_of source (tokens_in source piece) ≡ Some (KeptBlock piece)
 
+-- an item that others follow ends by itself
+abbrev pub EndsBefore : List ℕ → List Item → Item → Type 0
+EndsBefore source [] item = ⊤
+EndsBefore source (next ∷ rest) item = ends_itself source item ≡ true
+
 -- items in the order of a source: each is as it is read before the others, and only the last may end by the end of the source
 abbrev pub AreInOrder : List ℕ → List Item → Type 0
 AreInOrder source [] = ⊤
-AreInOrder source (item ∷ []) = IsBefore source false item
-AreInOrder source (item ∷ next ∷ rest) = IsBefore source (list_any (imports source) (next ∷ rest)) item × (ends_itself source item ≡ true) × AreInOrder source (next ∷ rest)
+AreInOrder source (item ∷ rest) = IsBefore source (list_any (imports source) rest) item × EndsBefore source rest item × AreInOrder source rest
 
 -- a kept item that is read from tokens of the same kept text
 pub record IsKeptAgain (new old : List ℕ) (whole : List Lexeme) (piece' piece : Piece) : Type 0 where
@@ -323,11 +327,8 @@ raw_read : (new old : List ℕ) (ys : List Lexeme) (raw : List (List Lexeme)) (i
 raw_read new old ys [] [] z order = record { read = []; reads = refl; each = tt }
 raw_read new old ys [] (item ∷ its) z order = absurd z
 raw_read new old ys (zs ∷ raw) [] z order = absurd z
-raw_read new old ys (zs ∷ []) (item ∷ []) z order = read_first new old ys zs [] item [] z.0 order refl (record { read = []; reads = refl; each = tt })
-raw_read new old ys (zs ∷ []) (item ∷ next ∷ its) z order = absurd z.1
-raw_read new old ys (zs ∷ later ∷ raw) (item ∷ []) z order = absurd z.1
-raw_read new old ys (zs ∷ later ∷ raw) (item ∷ next ∷ its) z order =
-    read_first new old ys zs (later ∷ raw) item (next ∷ its) z.0 order.0 (raw_imports new old ys (later ∷ raw) (next ∷ its) z.1) (raw_read new old ys (later ∷ raw) (next ∷ its) z.1 order.2)
+raw_read new old ys (zs ∷ raw) (item ∷ its) z order =
+    read_first new old ys zs raw item its z.0 order.0 (raw_imports new old ys raw its z.1) (raw_read new old ys raw its z.1 order.2)
 
 -- what the tokens of a printed sheet are read as
 pub record IsSheetAgain (new old : List ℕ) (ys : List Lexeme) (its : List Item) : Type 0 where

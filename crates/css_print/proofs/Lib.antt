@@ -7,12 +7,15 @@ mod BackItems
 mod BackJoins
 mod BackKept
 mod BackLists
+mod BackNames
 mod BackPieces
 mod BackPreludes
+mod BackRaw
 mod BackRules
 mod BackSaid
 mod BackSelectors
 mod BackSheet
+mod BackSource
 mod BackTokens
 mod BackValues
 pub mod FrontChain
