@@ -1,7 +1,10 @@
 pub mod CommentLemmas
 pub mod CommentParts
+pub mod InsideRuns
 pub mod LawLemmas
 pub mod LexedLemmas
+pub mod OpenRuns
+pub mod OpenUnits
 pub mod PartLemmas
 pub mod RuleLemmas
 pub mod RunLemmas
