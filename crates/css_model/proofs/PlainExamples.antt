@@ -5,7 +5,7 @@ use Rattle.css_model.specs.declared.sheet.Decl.{Decl}
 use Rattle.css_model.specs.declared.selector.Test.TheVariants.{Kind, Id}
 use Rattle.css_model.specs.declared.fault.FaultKind.TheVariants.{NotBuilt}
 use Rattle.css_model.specs.Plain.{plain_of, class_test, of_one_test}
-use Rattle.css_model.specs.Sheet.{sheet_of}
+use Rattle.css_model.specs.PlainSheet.{sheet_of}
 
 abbrev declaration : List ℕ → List ℕ → Decl
 declaration name value = record { name = name; value = value; important = false }

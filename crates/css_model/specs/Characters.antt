@@ -71,6 +71,38 @@ less_than = 60
 abbrev pub greater_than : ℕ
 greater_than = 62
 
+-- `!`
+abbrev pub exclamation_mark : ℕ
+exclamation_mark = 33
+
+-- `,`
+abbrev pub comma : ℕ
+comma = 44
+
+-- `:`
+abbrev pub colon : ℕ
+colon = 58
+
+-- `;`
+abbrev pub semicolon : ℕ
+semicolon = 59
+
+-- `[`
+abbrev pub open_square : ℕ
+open_square = 91
+
+-- `]`
+abbrev pub close_square : ℕ
+close_square = 93
+
+-- `{`
+abbrev pub open_curly : ℕ
+open_curly = 123
+
+-- `}`
+abbrev pub close_curly : ℕ
+close_curly = 125
+
 -- `@`
 abbrev pub at_sign : ℕ
 at_sign = 64

@@ -1,34 +1,44 @@
--- The printed text of a sheet: the bytes of its pieces, with the signs that the syntax needs between
--- them (CSS Syntax 3, section 10, asks of a serialisation that it reads back; to put nothing else
--- between the pieces is this project's own choice).
-use Rattle.std.specs.Prelude.{ℕ, if◌then◌else◌, List, [], ◌∷◌, ◌++◌, map, codes}
-use Rattle.std.specs.List.{join_with_byte, flat_map}
+-- The printed text of a style sheet: its parts, with no more between them than they need to be read
+-- back (CSS Syntax 3, section 10, asks of a serialisation that it reads back; the rest is own).
+use Rattle.std.specs.Prelude.{ℕ, nat_eq, Bool, if◌then◌else◌, List, [], ◌∷◌, ◌++◌, map, codes}
+use Rattle.std.specs.List.{flat_map, join_with_byte, starts_with}
 use Rattle.css_model.specs.declared.sheet.DeclItem.{DeclItem}
 use Rattle.css_model.specs.declared.sheet.Item.{Item}
 use Rattle.css_model.specs.declared.sheet.Item.TheVariants.{Rule, KeptRule, KeptBlock}
 use Rattle.css_model.specs.declared.sheet.SelItem.{SelItem}
+use Rattle.css_model.specs.Characters.{comma, colon, semicolon, open_curly, close_curly, space}
 use Rattle.css_model.specs.RuleParts.{RuleParts}
 use Rattle.css_model.specs.Source.{text_at}
+use Rattle.css_model.specs.Spelling.{tokens_in, kept_text}
+use Rattle.css_model.specs.Tokens.{byte_order_mark}
 
+-- the tokens of a selector, without the comments between them
 abbrev pub printed_selector : List ℕ → SelItem → List ℕ
-printed_selector source s = text_at source s.piece
+printed_selector source s = flat_map (λ x. text_at source x.span) (tokens_in source s.piece)
 
--- the property, `:`, the value, and `!important` where it is
+abbrev pub importance : Bool → List ℕ
+importance important = if important then codes "!important" else []
+
+-- the property, `:`, the text of the value, and `!important` where it is
 abbrev pub printed_declaration : List ℕ → DeclItem → List ℕ
-printed_declaration source d =
-    text_at source d.name ++ 58 ∷ text_at source d.value ++ (if d.decl.important then codes "!important" else [])
+printed_declaration source d = text_at source d.name ++ colon ∷ d.decl.value ++ importance d.decl.important
 
 -- the selectors with `,` between them, and the declarations with `;` between them, in `{` and `}`
 abbrev pub printed_rule : List ℕ → RuleParts → List ℕ
 printed_rule source r =
-    join_with_byte 44 (map (printed_selector source) r.selectors) ++ 123 ∷ join_with_byte 59 (map (printed_declaration source) r.decls) ++ 125 ∷ []
+    join_with_byte comma (map (printed_selector source) r.selectors)
+    ++ open_curly ∷ join_with_byte semicolon (map (printed_declaration source) r.decls) ++ close_curly ∷ []
 
--- a kept item is printed as it stands
 abbrev pub printed_item : List ℕ → Item → List ℕ
 printed_item source (Rule r) = printed_rule source r
-printed_item source (KeptRule k) = text_at source k.piece
-printed_item source (KeptBlock piece) = text_at source piece
+printed_item source (KeptRule k) = kept_text source k.piece
+printed_item source (KeptBlock piece) = kept_text source piece
+
+-- A text that would begin with a byte order mark begins with a space before it: the mark would be
+-- skipped when it is read back (CSS Syntax 3, section 3.2).
+abbrev pub behind_mark : List ℕ → List ℕ
+behind_mark text = if starts_with nat_eq text byte_order_mark then space ∷ text else text
 
 -- the items, with nothing between them
 abbrev pub printed : List ℕ → List Item → List ℕ
-printed source items = flat_map (printed_item source) items
+printed source items = behind_mark (flat_map (printed_item source) items)

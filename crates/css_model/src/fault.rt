@@ -6,6 +6,15 @@ use std::fmt;
 /// The greatest length of a style sheet that is read, in bytes.
 pub const LIMIT: u32 = 1_048_576;
 
+/// How many brackets may be open at once.
+pub const BRACKETS: u32 = 256;
+
+/// How many items a style sheet may have.
+pub const ITEMS: u32 = 16_384;
+
+/// How many pairs of a selector and a declaration the style rules of a sheet may have together.
+pub const PAIRS: u32 = 262_144;
+
 /// Why a style sheet is refused. It is displayed as its name.
 #[derive(Clone, Copy, Debug, PartialEq, Eq, Hash)]
 pub enum FaultKind {
@@ -13,6 +22,22 @@ pub enum FaultKind {
     TooLong,
     /// The sheet is not of the plain form that is read today.
     NotBuilt,
+    /// The sheet is not UTF-8.
+    NotUtf8,
+    /// A newline stands inside a string, without a backslash before it.
+    BadString,
+    /// A code point stands inside a url that no url may hold.
+    BadUrl,
+    /// The sheet ends inside a comment, a string, a url, an escape or an open bracket.
+    EndInside,
+    /// More than 256 brackets are open at once.
+    TooDeep,
+    /// A rule `@namespace` changes what every type selector means.
+    Namespace,
+    /// The sheet has more than 16,384 items.
+    TooManyItems,
+    /// The style rules have together more than 262,144 pairs of a selector and a declaration.
+    TooManyPairs,
 }
 
 impl fmt::Display for FaultKind {
@@ -22,6 +47,14 @@ impl fmt::Display for FaultKind {
         f.write_str(match self {
             FaultKind::TooLong => "TooLong",
             FaultKind::NotBuilt => "NotBuilt",
+            FaultKind::NotUtf8 => "NotUtf8",
+            FaultKind::BadString => "BadString",
+            FaultKind::BadUrl => "BadUrl",
+            FaultKind::EndInside => "EndInside",
+            FaultKind::TooDeep => "TooDeep",
+            FaultKind::Namespace => "Namespace",
+            FaultKind::TooManyItems => "TooManyItems",
+            FaultKind::TooManyPairs => "TooManyPairs",
         })
     }
 }

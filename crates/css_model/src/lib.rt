@@ -16,7 +16,7 @@ mod token;
 pub use bytes::Bytes;
 pub use counting::specificity;
 pub use family::{Family, relating_is_decided};
-pub use fault::{FaultKind, LIMIT, SheetFault};
+pub use fault::{BRACKETS, FaultKind, ITEMS, LIMIT, PAIRS, SheetFault};
 pub use laws::{
     alike_behind_an_item, alike_wins_alike, applied_is_what_applies, greatest_is_winner,
     joining_applies_alike, joining_keeps_winners, matching_is_decided,
@@ -29,7 +29,7 @@ pub use selector::{
 };
 pub use sheet::{Decl, DeclItem, Item, KeptRule, Piece, Rule, SelItem, Sheet};
 pub use text::Text;
-pub use token::{Token, TokenFault, TokenFlaw, TokenKind};
+pub use token::{Bracket, Gap, Lexeme, Token, TokenFault, TokenFlaw, TokenKind};
 
 #[cfg(test)]
 mod tests;

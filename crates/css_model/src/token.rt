@@ -76,3 +76,38 @@ pub enum TokenFault {
         at: u32,
     },
 }
+
+/// What stands between a token and the next one that is no white space.
+#[derive(Clone, Copy, Debug, PartialEq, Eq, Hash)]
+pub enum Gap {
+    /// Nothing.
+    Nothing,
+    /// Comments, and no white space.
+    Comments,
+    /// White space, and perhaps comments.
+    White,
+}
+
+/// A token of a source that is no white space, with what stands behind it, and how deep it stands.
+#[derive(Clone, Copy, Debug, PartialEq, Eq, Hash)]
+pub struct Lexeme {
+    /// What it is.
+    pub kind: TokenKind,
+    /// Where it stands.
+    pub span: Piece,
+    /// What stands behind it, up to the next one.
+    pub gap: Gap,
+    /// The first white space behind it; where there is none, the empty piece at its end.
+    pub white: Piece,
+    /// How many brackets are open where it begins.
+    pub level: u32,
+}
+
+/// An open bracket of a source.
+#[derive(Clone, Copy, Debug, PartialEq, Eq, Hash)]
+pub struct Bracket {
+    /// The sign that closes it.
+    pub closer: u8,
+    /// The place of the token that opens it, in bytes from 0.
+    pub at: u32,
+}

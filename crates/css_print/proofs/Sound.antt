@@ -9,7 +9,7 @@ use Rattle.css_model.specs.declared.sheet.SelItem.{SelItem}
 use Rattle.css_model.specs.declared.sheet.Item.{Item}
 use Rattle.css_model.specs.declared.sheet.Item.TheVariants.{Rule, KeptRule, KeptBlock}
 use Rattle.css_model.specs.Plain.{is_property, is_value, where_true, selector_of, plain_of}
-use Rattle.css_model.specs.Printed.{printed}
+use Rattle.css_model.specs.PlainPrinted.{printed}
 use Rattle.css_model.specs.Source.{IsSoundSelector, IsSoundDeclaration, IsSound, text_at}
 use Rattle.css_model.specs.StyleRule.{style_rule, style_rules}
 use Rattle.css_print.proofs.Inversions.{where_true_some}

@@ -11,7 +11,7 @@ use Rattle.css_model.specs.declared.sheet.SelItem.{SelItem}
 use Rattle.css_model.specs.declared.sheet.Item.{Item}
 use Rattle.css_model.specs.declared.sheet.Item.TheVariants.{Rule, KeptRule, KeptBlock}
 use Rattle.css_model.specs.Plain.{is_name, is_property, is_value, where_true, class_test, test_of, of_one_test, selector_of}
-use Rattle.css_model.specs.Printed.{printed_selector, printed_declaration, printed_rule, printed}
+use Rattle.css_model.specs.PlainPrinted.{printed_selector, printed_declaration, printed_rule, printed}
 use Rattle.css_model.specs.RuleParts.{RuleParts}
 use Rattle.css_model.specs.SelectorParts.{SelectorParts}
 use Rattle.css_model.specs.Source.{IsSoundSelector, IsSoundDeclaration, IsSoundRule, IsSound, text_at}

@@ -3,7 +3,7 @@
 ghost use Rattle.std.specs.Prelude.{◌≡◌, ◌≤◌, List, ℕ, Some, length};
 ghost use Rattle.css_model.specs.declared.sheet.Item.{Item};
 ghost use Rattle.css_model.specs.Plain.{plain_of};
-ghost use Rattle.css_model.specs.Printed.{printed};
+ghost use Rattle.css_model.specs.PlainPrinted.{printed};
 ghost use Rattle.css_model.specs.Source.{IsSound};
 ghost use Rattle.css_model.specs.StyleRule.{style_rules};
 

@@ -1,6 +1,6 @@
 ghost use Rattle.std.specs.Prelude.{◌≡◌, ◌==◌, ◌++◌, [], ◌∷◌, if◌then◌else◌, map, IfOk, OnOk};
 ghost use Rattle.std.specs.List.{AllByRecursion, join_with_byte};
-ghost use Rattle.css_model.specs.Printed.{printed_selector, printed_declaration, printed_rule, printed_item, printed};
+ghost use Rattle.css_model.specs.PlainPrinted.{printed_selector, printed_declaration, printed_rule, printed_item, printed};
 ghost use Rattle.css_model.specs.Source.{IsWithin, IsSoundSelector, IsSoundDeclaration, IsSoundRule, IsSoundItem, IsSound};
 
 use css_model::{DeclItem, Item, Rule, SelItem, Sheet};

@@ -6,7 +6,7 @@ use Rattle.std.proofs.lemmas.List.Concat.{flat_map-append}
 use Rattle.css_model.specs.declared.sheet.Item.{Item}
 use Rattle.css_model.specs.declared.sheet.Item.TheVariants.{Rule}
 use Rattle.css_model.specs.Cascade.{winner}
-use Rattle.css_model.specs.Printed.{printed_selector, printed_declaration, printed_rule, printed_item, printed}
+use Rattle.css_model.specs.PlainPrinted.{printed_selector, printed_declaration, printed_rule, printed_item, printed}
 use Rattle.css_model.specs.RuleParts.{RuleParts}
 use Rattle.css_model.specs.Source.{IsSoundDeclaration, IsSoundRule, IsSoundItem, IsSound}
 use Rattle.css_model.specs.Laws.{joined, WinAlike, JoiningKeepsWinners}

@@ -5,8 +5,8 @@ use Rattle.css_model.specs.declared.fault.TheConstants.{LIMIT}
 use Rattle.css_model.specs.declared.sheet.Item.{Item}
 use Rattle.css_model.specs.Laws.{JoiningKeepsWinners}
 use Rattle.css_model.specs.Plain.{plain_of}
-use Rattle.css_model.specs.Printed.{printed}
-use Rattle.css_model.specs.Sheet.{plain_or_fault, sheet_of}
+use Rattle.css_model.specs.PlainPrinted.{printed}
+use Rattle.css_model.specs.PlainSheet.{plain_or_fault, sheet_of}
 use Rattle.css_model.specs.Source.{IsSound}
 use Rattle.css_model.specs.StyleRule.{StyleRule, style_rules}
 use Rattle.cssmin.specs.Joining.{JoinsIn, HasNoEqualNeighbours}

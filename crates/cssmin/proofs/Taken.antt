@@ -4,7 +4,7 @@ use Rattle.std.specs.Prelude.{IfSome}
 use Rattle.std.proofs.lemmas.List.{drop_all}
 use Rattle.css_io.specs.Io.{HasTaken}
 use Rattle.css_model.specs.declared.fault.SheetFault.{SheetFault}
-use Rattle.css_model.specs.Sheet.{sheet_of}
+use Rattle.css_model.specs.PlainSheet.{sheet_of}
 use Rattle.cssmin.specs.Run.{IsRefused}
 
 pub all_taken : (left left' : Option (List ℕ)) (read : List ℕ) → IfSome left (λ bytes. (read ≡ bytes) × (left' ≡ Some [])) → length read ≤ 1048576 → (n : ℕ) × (n ≤ 1048577) × HasTaken n left left'

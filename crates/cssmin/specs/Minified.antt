@@ -2,8 +2,8 @@
 use Rattle.std.specs.Prelude.{◌≡◌, ◌≤◌, ℕ, List, Ok, length}
 use Rattle.css_model.specs.declared.sheet.Item.{Item}
 use Rattle.css_model.specs.Laws.{WinAlike}
-use Rattle.css_model.specs.Printed.{printed}
-use Rattle.css_model.specs.Sheet.{sheet_of}
+use Rattle.css_model.specs.PlainPrinted.{printed}
+use Rattle.css_model.specs.PlainSheet.{sheet_of}
 use Rattle.css_model.specs.Source.{IsSound}
 use Rattle.css_model.specs.StyleRule.{style_rules}
 use Rattle.cssmin.specs.Joining.{JoinsIn, HasNoEqualNeighbours}

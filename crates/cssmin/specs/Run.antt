@@ -4,7 +4,7 @@ use Rattle.std.specs.Global.{Global}
 use Rattle.css_io.specs.Io.{Rose, HasAdded}
 use Rattle.css_model.specs.declared.fault.SheetFault.{SheetFault}
 use Rattle.css_model.specs.declared.fault.TheConstants.{LIMIT}
-use Rattle.css_model.specs.Sheet.{sheet_of}
+use Rattle.css_model.specs.PlainSheet.{sheet_of}
 use Rattle.cssmin.specs.declared.status.Status.{Status}
 use Rattle.cssmin.specs.declared.status.Status.TheVariants.{Done, Usage, SheetRefused, ReadFault, WriteFault, NoMemory}
 use Rattle.cssmin.specs.Minified.{IsMinified}

@@ -1,7 +1,7 @@
 //! A smaller text for a style sheet.
 
 ghost use Rattle.std.specs.Prelude.{IfOk, IfErr};
-ghost use Rattle.css_model.specs.Sheet.{sheet_of};
+ghost use Rattle.css_model.specs.PlainSheet.{sheet_of};
 ghost use Rattle.sheet_read.specs.Reading.{Refuses};
 ghost use Rattle.cssmin.specs.Minified.{IsMinified};
 

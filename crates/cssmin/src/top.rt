@@ -3,7 +3,7 @@
 ghost use Rattle.std.specs.Prelude.{◌≡◌, ◌⊎◌, ◌↔◌, ◌≤◌, ◌<◌, ℕ, List, [], ◌∷◌, Some, Ok, Err, codes, map, string_bytes, vec_len, IsTrue, IsOk, IfOk, IfErr, IfSome, IsSomeAnd, OnOk};
 ghost use Rattle.css_io.specs.Io.{Rose, HasTaken, HasAdded};
 ghost use Rattle.css_model.specs.declared.fault.SheetFault.{SheetFault};
-ghost use Rattle.css_model.specs.Sheet.{sheet_of};
+ghost use Rattle.css_model.specs.PlainSheet.{sheet_of};
 ghost use Rattle.cssmin.specs.Minified.{IsMinified};
 ghost use Rattle.cssmin.specs.Run.{IsMin, Did, Began, IsRefused, Outcome, Tells, Reads, IsTold};
 ghost use Rattle.cssmin.specs.Status.{message};

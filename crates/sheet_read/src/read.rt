@@ -1,7 +1,7 @@
 //! A style sheet from its bytes, or its fault.
 
 ghost use Rattle.std.specs.Prelude.{IfOk};
-ghost use Rattle.css_model.specs.Sheet.{sheet_of};
+ghost use Rattle.css_model.specs.PlainSheet.{sheet_of};
 ghost use Rattle.css_model.specs.Source.{IsSound};
 ghost use Rattle.css_model.specs.StyleRule.{style_rules};
 ghost use Rattle.sheet_read.specs.Reading.{Answers};

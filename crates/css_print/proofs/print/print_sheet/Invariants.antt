@@ -1,5 +1,5 @@
 use Rattle.std.proofs.Common.{◌≡◌, take}
-use Rattle.css_model.specs.Printed.{printed}
+use Rattle.css_model.specs.PlainPrinted.{printed}
 use Rattle.css_print.proofs.print.print_sheet.Given as goal
 
 -- what was written so far

@@ -1,5 +1,5 @@
 use Rattle.std.proofs.Common.{arith}
-use Rattle.css_model.specs.Printed.{printed_selector}
+use Rattle.css_model.specs.PlainPrinted.{printed_selector}
 use Rattle.css_print.proofs.Joining.{join_step}
 use Rattle.css_print.proofs.print.push_selectors.Goals as goal
 

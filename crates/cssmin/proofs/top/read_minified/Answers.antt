@@ -1,5 +1,5 @@
 use Rattle.std.proofs.Common.{◌≡◌, Err, ap, subst, sym, ◌∙◌, arith}
-use Rattle.css_model.specs.Sheet.{sheet_of}
+use Rattle.css_model.specs.PlainSheet.{sheet_of}
 use Rattle.sheet_read.specs.Reading.{Refuses}
 use Rattle.sheet_read.specs.declared.fault.SheetError.{SheetError}
 use Rattle.cssmin.proofs.Taken.{all_taken, refused_read}
