@@ -1,9 +1,16 @@
+pub mod ClosedTokens
 pub mod CommentLemmas
 pub mod CommentParts
+pub mod EscapeLemmas
 pub mod InsideRuns
 pub mod LawLemmas
 pub mod LexedLemmas
+pub mod NearNames
+pub mod NearNumbers
+pub mod NearRules
+pub mod NearTokens
 pub mod OpenRuns
+pub mod OpenTokens
 pub mod OpenUnits
 pub mod PartLemmas
 pub mod RuleLemmas

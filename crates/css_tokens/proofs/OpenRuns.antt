@@ -1,14 +1,15 @@
 -- Rows of name units before a white space, and how they begin.
-use Rattle.std.proofs.Common.{ℕ, zero, suc, ◌+◌, ◌<◌, ◌≤◌, ◌≡◌, Bool, true, false, cond, ltb, ◌==◌, ◌&&◌, ◌||◌, List, [], ◌∷◌, ◌++◌, length, drop, refl, sym, ap, ◌∙◌, subst, arith}
-use Rattle.std.proofs.lemmas.Bool.{eqb-true, false≢true, le-ltb, lt-ltb}
-use Rattle.std.proofs.lemmas.List.{drop-append-le, append-nil}
+use Rattle.std.proofs.Common.{ℕ, zero, suc, ◌+◌, ◌<◌, ◌≤◌, ◌≡◌, Bool, true, false, cond, ltb, ◌==◌, ◌||◌, List, [], ◌∷◌, ◌++◌, length, refl, sym, ap, ◌∙◌, arith}
+use Rattle.std.proofs.lemmas.Bool.{eqb-true, false≢true, lt-ltb}
+use Rattle.std.proofs.lemmas.List.{append-nil}
 use Rattle.std.specs.Char.{is_ascii_digit, is_ascii_hexdigit}
 use Rattle.css_model.specs.Characters.{space, backslash, dash, is_newline, is_name, is_start, begins}
-use Rattle.css_model.specs.Runs.{run_from, run, unit_then}
+use Rattle.css_model.specs.Runs.{run_from, run}
 use Rattle.css_model.specs.Units.{hex_rest, escape_after, name_unit, start_unit, name_start, one_and}
 use Rattle.css_model.specs.Unescaped.{less_one}
-use Rattle.css_tokens.proofs.RunLemmas.{run_from-drop, run_none}
-use Rattle.css_tokens.proofs.OpenUnits.{is_open_escape, ends_open_from, follows_none, follows_space, escape_near, FirstUnit, first_unit, left_below, run_zero, at_least_two}
+use Rattle.css_tokens.proofs.RunLemmas.{run_none}
+use Rattle.css_tokens.specs.OpenEscape.{is_open_escape, ends_open_from}
+use Rattle.css_tokens.proofs.OpenUnits.{follows_none, follows_space, escape_near, FirstUnit, first_unit, left_below, run_zero, at_least_two}
 
 -- a row that takes the white space too
 past_space : (cs more : List ℕ) → name_unit more ≡ 0 → run_from name_unit (suc (length cs)) (cs ++ space ∷ more) ≡ suc (length cs)

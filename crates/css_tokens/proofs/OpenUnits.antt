@@ -1,32 +1,11 @@
 -- Names before a white space: where they end in an open escape, it takes that white space.
-use Rattle.std.proofs.Common.{ℕ, zero, suc, ◌+◌, ◌<◌, ◌≤◌, ◌≡◌, Bool, true, false, cond, ltb, ◌==◌, ◌&&◌, ◌||◌, List, [], ◌∷◌, ◌++◌, length, drop, refl, sym, ap, ◌∙◌, arith}
+use Rattle.std.proofs.Common.{ℕ, zero, suc, ◌+◌, ◌<◌, ◌≤◌, ◌≡◌, Bool, true, false, cond, ◌==◌, ◌&&◌, List, [], ◌∷◌, ◌++◌, length, refl, arith}
 use Rattle.std.specs.Char.{is_ascii_hexdigit}
-use Rattle.css_model.specs.Characters.{space, line_feed, carriage_return, backslash, dash, is_newline, is_white, is_name, is_start, begins}
+use Rattle.css_model.specs.Characters.{space, line_feed, carriage_return, is_newline, is_white, begins}
 use Rattle.css_model.specs.Runs.{run_from, run, unit_then}
-use Rattle.css_model.specs.Units.{white_unit, hex_rest, escape_after, name_unit, start_unit, name_start, one_and}
-use Rattle.css_model.specs.Unescaped.{less_one}
+use Rattle.css_model.specs.Units.{white_unit, hex_rest, escape_after}
+use Rattle.css_tokens.specs.OpenEscape.{is_open_hex, is_open_escape}
 use Rattle.css_tokens.proofs.RunLemmas.{run_from-drop}
-
--- at most n hex digits and nothing else
-abbrev pub is_open_hex : ℕ → List ℕ → Bool
-is_open_hex n [] = true
-is_open_hex zero (c ∷ cs) = false
-is_open_hex (suc n) (c ∷ cs) = is_ascii_hexdigit c && is_open_hex n cs
-
--- what stands behind a backslash is all of an escape to which a white space would belong
-abbrev pub is_open_escape : List ℕ → Bool
-is_open_escape [] = true
-is_open_escape (c ∷ cs) = is_ascii_hexdigit c && is_open_hex 5 cs
-
--- whether a text ends in an open escape, where the next `left` bytes belong to the escape at hand
-abbrev pub ends_open_from : ℕ → List ℕ → Bool
-ends_open_from left [] = false
-ends_open_from (suc left) (c ∷ cs) = ends_open_from left cs
-ends_open_from zero (c ∷ cs) =
-    cond (c == backslash) (is_open_escape cs || ends_open_from (less_one (escape_after cs)) cs) (ends_open_from 0 cs)
-
-abbrev pub ends_open : List ℕ → Bool
-ends_open text = ends_open_from 0 text
 
 -- how many bytes an escape takes of what follows it: `extra`, however many hex digits may still come
 pub record Follows (new : List ℕ) (extra : ℕ) : Type 0 where

@@ -3,6 +3,7 @@
 ghost use Rattle.css_model.specs.Runs.{RunsAreLongest};
 ghost use Rattle.css_tokens.specs.Laws.{PartsJoin, TokensCover};
 ghost use Rattle.css_tokens.specs.Lexed.{LexedAreParts, PartsAreLexed};
+ghost use Rattle.css_tokens.specs.Open.{LastCloses, SpaceCloses, SpaceEnds};
 
 /// A run is the longest row of its units.
 pub fn runs_are_longest()
@@ -25,4 +26,12 @@ pub fn tokens_cover()
 pub fn parts_read_back()
     ensures lexed { PartsAreLexed }
     ensures back { LexedAreParts }
+{}
+
+/// A white space behind a token is no part of it, except that one which ends in an open escape takes it and is
+/// open no more. A token whose last byte is neither a hex digit nor a backslash is not open.
+pub fn space_behind()
+    ensures ends { SpaceEnds }
+    ensures closes { SpaceCloses }
+    ensures last { LastCloses }
 {}
