@@ -1,3 +1,4 @@
+pub mod Alike
 pub mod Laws
 pub mod Left
 pub mod Lexed

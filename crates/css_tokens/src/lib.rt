@@ -14,7 +14,9 @@ mod strings;
 mod units;
 
 pub use escapes::ends_open;
-pub use laws::{parts_join, parts_read_back, runs_are_longest, space_behind, tokens_cover};
+pub use laws::{
+    parts_end_alike, parts_join, parts_read_back, runs_are_longest, space_behind, tokens_cover,
+};
 pub use names::decode;
 pub use reader::{NotUtf8, Tokens};
 
