@@ -49,7 +49,7 @@ hex_closed x closer (suc n) (suc at) (c ∷ cs) last = which (is_ascii_hexdigit 
     which false later = refl
 
 escape_closed : (x : ℕ) → IsCloser x → (at : ℕ) (text : List ℕ) → drop at text ≡ x ∷ [] → is_open_escape text ≡ false
-escape_closed x closer at [] last = hex_closed x closer 5 at [] last
+escape_closed x closer at [] last = refl
 escape_closed x closer at (c ∷ cs) last = hex_closed x closer 6 at (c ∷ cs) last
 
 closed_from : (x : ℕ) → IsCloser x → (left at : ℕ) (text : List ℕ) → drop at text ≡ x ∷ [] → ends_open_from left text ≡ false

@@ -13,7 +13,7 @@ is_open_hex (suc n) (c ∷ cs) = is_ascii_hexdigit c && is_open_hex n cs
 
 -- what stands behind a backslash is all of an escape to which a white space would belong
 abbrev pub is_open_escape : List ℕ → Bool
-is_open_escape [] = true
+is_open_escape [] = false
 is_open_escape (c ∷ cs) = is_ascii_hexdigit c && is_open_hex 5 cs
 
 -- whether a text ends in an open escape, where the next `left` bytes belong to the escape at hand

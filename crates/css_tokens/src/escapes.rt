@@ -7,12 +7,13 @@ ghost use Rattle.css_model.specs.Kept.{is_open};
 ghost use Rattle.css_tokens.specs.Open.{IsRead};
 ghost use Rattle.css_tokens.specs.OpenEscape as open_escape;
 
+use crate::characters::after;
 use crate::units::escape_after;
 use memchr::memchr;
 
-/// What stands behind a backslash is all of an escape to which a white space would belong.
-fn is_open_escape(text: &[u8]) -> bool
-    ensures { result ≡ open_escape.is_open_escape text.now }
+/// At most six hex digits and nothing else.
+fn is_open_hex(text: &[u8]) -> bool
+    ensures { result ≡ open_escape.is_open_hex 6 text.now }
 {
     let mut i = 0;
     'digits: while i < 6 && i < text.len() && text[i].is_ascii_hexdigit() {
@@ -21,17 +22,27 @@ fn is_open_escape(text: &[u8]) -> bool
     i == text.len()
 }
 
+/// What stands behind a backslash is all of an escape to which a white space would belong.
+fn is_open_escape(text: &[u8]) -> bool
+    ensures { result ≡ open_escape.is_open_escape text.now }
+{
+    match text {
+        [] => false,
+        [_, ..] => is_open_hex(text),
+    }
+}
+
 /// Whether a text of bytes and escapes ends in an open one.
 fn ends_in_open_escape(text: &[u8]) -> bool
     ensures { result ≡ open_escape.ends_open text.now }
 {
-    let mut i = 0;
-    'escapes: while let Some(plain) = memchr(b'\\', &text[i..]) {
-        let rest = &text[i + plain + 1..];
+    let mut rest = text;
+    'escapes: while let Some(at) = memchr(b'\\', rest) {
+        rest = &rest[at + 1..];
         if is_open_escape(rest) {
             return true;
         }
-        i += plain + 1 + escape_after(rest).saturating_sub(1);
+        rest = after(rest, escape_after(rest).saturating_sub(1));
     }
     false
 }

@@ -1,8 +1,8 @@
-use Rattle.std.proofs.Common.{◌≡◌, ◌<◌, ◌≤◌, ◌⊎◌, inl, inr, false, sym, length, get_or, arith}
+use Rattle.std.proofs.Common.{◌≡◌, ◌<◌, ◌≤◌, ◌⊎◌, inl, inr, false, sym, ◌∙◌, length, get_or, arith}
 use Rattle.std.specs.Char.{is_ascii_hexdigit}
 use Rattle.css_tokens.proofs.EscapeLemmas.{hex_end}
-use Rattle.css_tokens.proofs.escapes.is_open_escape.Goals.{then-digits-test+then-i-text+else-is_ascii_hexdigit, then-digits-test+else-i-text, else-digits-test}
-use Rattle.css_tokens.proofs.escapes.is_open_escape.Goals as goal
+use Rattle.css_tokens.proofs.escapes.is_open_hex.Goals.{then-digits-test+then-i-text+else-is_ascii_hexdigit, then-digits-test+else-i-text, else-digits-test}
+use Rattle.css_tokens.proofs.escapes.is_open_hex.Goals as goal
 
 pub returns : goal.returns
 returns c =
@@ -13,4 +13,4 @@ returns c =
       | then-digits-test+else-i-text w ↦ absurd (omega (arith, below, w.if-i-text))
       | else-digits-test w ↦ inl (omega (arith, w.digits-test))
     ] in
-    hex_end i text c.digits.invariant.0 c.digits.invariant.1 c.digits.invariant.2 ends
+    hex_end i text c.digits.invariant.2 ends ∙ c.digits.invariant.0

@@ -1,6 +1,6 @@
 use Rattle.std.proofs.Common.{◌≡◌, ◌≤◌, ◌-◌, length, drop}
 use Rattle.css_tokens.specs.OpenEscape.{is_open_hex}
-use Rattle.css_tokens.proofs.escapes.is_open_escape.Given as goal
+use Rattle.css_tokens.proofs.escapes.is_open_hex.Given as goal
 
 -- the digits that were passed, and what the rest says
 abbrev pub invariant-digits : goal.invariant-digits
