@@ -3,11 +3,13 @@ pub mod ClosedAgain
 pub mod ClosedTokens
 pub mod CommentLemmas
 pub mod CommentParts
+pub mod EndsLemmas
 pub mod EscapeLemmas
 pub mod InsideRuns
 pub mod Keeps
 pub mod LawLemmas
 pub mod LexedLemmas
+pub mod LooksLemmas
 pub mod NamedAgain
 pub mod NamesAgain
 pub mod NearNames
@@ -20,6 +22,7 @@ pub mod OpenRuns
 pub mod OpenTokens
 pub mod OpenUnits
 pub mod PartLemmas
+pub mod RowsAgain
 pub mod RuleBounds
 pub mod RuleLemmas
 pub mod RulesAgain

@@ -112,7 +112,7 @@ abbrev pub other_at : ℕ → List ℕ → Result Shape TokenFlaw
 other_at c cs = cond (c == less_than) (less_shape cs) (cond (c == at_sign) (at_shape cs) (word_at (c ∷ cs)))
 
 -- a byte before a rest begins no number
-decimal_none : (c : ℕ) (old new : List ℕ) → (c ≡ dot → digit_unit old ≡ 0 → digit_unit new ≡ 0) → decimal (c ∷ old) ≡ 0 → decimal (c ∷ new) ≡ 0
+pub decimal_none : (c : ℕ) (old new : List ℕ) → (c ≡ dot → digit_unit old ≡ 0 → digit_unit new ≡ 0) → decimal (c ∷ old) ≡ 0 → decimal (c ∷ new) ≡ 0
 decimal_none c old new dotted = which (is_ascii_digit c) refl (c == dot) refl
   where
     one_and_none : (n : ℕ) → 0 + one_and n ≡ 0 → n ≡ 0

@@ -8,6 +8,8 @@ use Rattle.css_model.specs.Characters.{line_feed, hash, percent, open_round, sta
 use Rattle.css_model.specs.Units.{white_unit, escape_after, name_unit, name_start, digit_unit, fraction, decimal, signed_digits}
 use Rattle.css_model.specs.Unescaped.{is_url}
 use Rattle.css_model.specs.TokenAt.{part_at, after_white, is_quote}
+use Rattle.css_model.specs.Tokens.{Part, text_of}
+use Rattle.css_tokens.specs.Lexed.{IsLexed}
 
 -- What does not begin in one rest does not begin in another.
 pub record Alike (old new : List ℕ) : Type 0 where
@@ -60,8 +62,6 @@ pub record LooksAlike (kind_of : Option TokenKind) (bytes old new : List ℕ) : 
   pub escaped : kind_of ≡ Some (kind.Delim backslash) → escape_after old ≡ 0 → escape_after new ≡ 0
   pub starred : kind_of ≡ Some (kind.Delim slash) → begins star old ≡ false → begins star new ≡ false
   pub banged : kind_of ≡ Some (kind.Delim less_than) → begins_bang_dashes old ≡ false → begins_bang_dashes new ≡ false
-  -- for a `<` before it
-  pub dashed : kind_of ≡ Some (kind.Delim 33) → begins_dashes old ≡ false → begins_dashes new ≡ false
   pub signed : (c : ℕ) → kind_of ≡ Some (kind.Delim c) → is_plus_or_minus c ≡ true → decimal old ≡ 0 → decimal new ≡ 0
   pub dash_named : kind_of ≡ Some (kind.Delim dash) → name_start (dash ∷ old) ≡ 0 → name_start (dash ∷ new) ≡ 0
   pub dotted : kind_of ≡ Some (kind.Delim dot) → digit_unit old ≡ 0 → digit_unit new ≡ 0
@@ -75,8 +75,25 @@ pub record LooksAlike (kind_of : Option TokenKind) (bytes old new : List ℕ) : 
   pub exponented : (front : List ℕ) (e : ℕ) → kind_of ≡ Some kind.Dimension → bytes ≡ front ++ e ∷ [] → is_exponent e ≡ true
       → signed_digits old ≡ 0 → signed_digits new ≡ 0
 
+-- What a token lets the one before it look at behind itself: `!` lets `<` see `--`, and white space lets
+-- `url(` see a quote.
+pub record LooksThrough (kind_of : Option TokenKind) (old new : List ℕ) : Type 0 where
+  pub dashed : kind_of ≡ Some (kind.Delim 33) → begins_dashes old ≡ false → begins_dashes new ≡ false
+  pub quoted : kind_of ≡ Some kind.White → begins_with is_quote old ≡ true → begins_with is_quote new ≡ true
+
 -- A token or a comment that ends before one rest ends before any other in which nothing begins that it could
 -- go on with, and that did not begin in the first.
 abbrev pub PartsEndAlike : Type 0
 PartsEndAlike = (v old new : List ℕ) (k : Option TokenKind) → (ends_itself k ≡ false → Alike old new) → LooksAlike k v old new
     → part_at (v ++ old) ≡ Ok (k, length v) → part_at (v ++ new) ≡ Ok (k, length v)
+
+-- all of this of one part
+pub record EndsAlike (p : Part) (old new : List ℕ) : Type 0 where
+  pub alike : ends_itself p.kind ≡ false → Alike old new
+  pub looks : LooksAlike p.kind p.bytes old new
+  pub through : LooksThrough p.kind old new
+
+-- Parts that are read where they stand, before others, are so before any others, if the last of them ends alike.
+abbrev pub RowsEndAlike : Type 0
+RowsEndAlike = (ps : List Part) (last : Part) (old new : List Part) → IsLexed (ps ++ last ∷ old) → IsLexed new
+    → EndsAlike last (text_of old) (text_of new) → IsLexed (ps ++ last ∷ new)

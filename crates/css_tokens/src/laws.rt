@@ -1,7 +1,7 @@
 //! Laws above the definition of the tokens. They do nothing when they run.
 
 ghost use Rattle.css_model.specs.Runs.{RunsAreLongest};
-ghost use Rattle.css_tokens.specs.Alike.{PartsEndAlike};
+ghost use Rattle.css_tokens.specs.Alike.{PartsEndAlike, RowsEndAlike};
 ghost use Rattle.css_tokens.specs.Laws.{PartsJoin, TokensCover};
 ghost use Rattle.css_tokens.specs.Lexed.{LexedAreParts, PartsAreLexed};
 ghost use Rattle.css_tokens.specs.Open.{LastCloses, SpaceCloses, SpaceEnds};
@@ -40,7 +40,9 @@ pub fn space_behind()
 /// A token or a comment that ends before one rest of a text ends before any other in which nothing begins that
 /// it could go on with, and that did not begin in the first. `Alike` says what that is for the tokens that end
 /// where nothing more of them follows, and `LooksAlike` what single tokens look at behind themselves, as `<` at
-/// `!--`; all others end themselves, whatever follows.
+/// `!--`; all others end themselves, whatever follows. So a row of parts that are read where they stand is read so
+/// before other parts if its last one ends alike.
 pub fn parts_end_alike()
-    ensures { PartsEndAlike }
+    ensures part { PartsEndAlike }
+    ensures row { RowsEndAlike }
 {}
