@@ -7,6 +7,7 @@ pub mod EndsLemmas
 pub mod EscapeLemmas
 pub mod InsideRuns
 pub mod Keeps
+pub mod KeptParts
 pub mod LawLemmas
 pub mod LexedLemmas
 pub mod LooksLemmas
@@ -18,9 +19,12 @@ pub mod NearRules
 pub mod NearTokens
 pub mod NumberRule
 pub mod NumbersAgain
+pub mod OpenFront
 pub mod OpenRuns
 pub mod OpenTokens
 pub mod OpenUnits
+pub mod PartFacts
+pub mod PartKinds
 pub mod PartLemmas
 pub mod RowsAgain
 pub mod RuleBounds

@@ -6,4 +6,5 @@ pub mod Open
 pub mod OpenEscape
 pub mod Plain
 pub mod Said
+pub mod Solids
 pub mod UnitOf
