@@ -14,6 +14,7 @@ use Rattle.css_tokens.proofs.UnitsAgain.{escape_two}
 use Rattle.css_tokens.proofs.NamesAgain.{name_none}
 use Rattle.css_tokens.proofs.RuleBounds.{rule_name_start, rule_number}
 use Rattle.css_tokens.proofs.PartLemmas.{part_len, part_rule}
+use Rattle.css_tokens.proofs.OneAnd.{one_and_fits, none_one_and}
 
 white_cases : (w f f' : Bool) → ◌≡◌ {A = ℕ} (cond w (cond f 2 1) 0) 0 → ◌≡◌ {A = ℕ} (cond w (cond f' 2 1) 0) 0
 white_cases false f f' none = refl
@@ -32,23 +33,10 @@ alike_first c old new no_escape no_dash no_dot = record {
   feed = λ none. none;
   unit = λ none. rw no_escape (rw no_escape at none);
   name = λ none. rw (no_dash, no_escape) (rw (no_dash, no_escape) at none);
-  opened = λ none. none;
-  percented = λ none. none;
+  bracket = λ none. none;
+  percentage = λ none. none;
   digit = λ none. none;
-  fractioned = λ none. rw no_dot refl;
-}
-
-pub alike_refl : (rest : List ℕ) → Alike rest rest
-alike_refl rest = record {
-  hex = λ none. none;
-  white = λ none. none;
-  feed = λ none. none;
-  unit = λ none. none;
-  name = λ none. none;
-  opened = λ none. none;
-  percented = λ none. none;
-  digit = λ none. none;
-  fractioned = λ none. none;
+  decimals = λ none. rw no_dot refl;
 }
 
 pub alike_nil : (old : List ℕ) → Alike old []
@@ -58,10 +46,10 @@ alike_nil old = record {
   feed = λ _. refl;
   unit = λ _. refl;
   name = λ _. refl;
-  opened = λ _. refl;
-  percented = λ _. refl;
+  bracket = λ _. refl;
+  percentage = λ _. refl;
   digit = λ _. refl;
-  fractioned = λ _. refl;
+  decimals = λ _. refl;
 }
 
 -- where white space stood, a space may
@@ -72,10 +60,10 @@ alike_space old new white = record {
   feed = λ _. refl;
   unit = λ _. refl;
   name = λ _. refl;
-  opened = λ _. refl;
-  percented = λ _. refl;
+  bracket = λ _. refl;
+  percentage = λ _. refl;
   digit = λ _. refl;
-  fractioned = λ _. refl;
+  decimals = λ _. refl;
 }
 
 -- a byte that a token could go on with
@@ -101,10 +89,10 @@ alike_byte c old new nothing =
       feed = λ _. feed.0;
       unit = λ _. rw (six.1, two.1) refl;
       name = λ _. rw (name.1, start.0, two.1) refl;
-      opened = λ _. three.1;
-      percented = λ _. four.1;
+      bracket = λ _. three.1;
+      percentage = λ _. four.1;
       digit = λ _. rw start.1 refl;
-      fractioned = λ _. rw five.1 refl;
+      decimals = λ _. rw five.1 refl;
     }
 
 newline_cases : (b x x' : Bool) (m m' : ℕ) → ◌≡◌ {A = ℕ} (cond b 0 (cond x (2 + m) 2)) 0 → ◌≡◌ {A = ℕ} (cond b 0 (cond x (2 + m') 2)) 0
@@ -153,17 +141,11 @@ unit_front old new c cs bounds = which (c == backslash) refl
     which true escape = subst (λ (c : ℕ). Bounds (c ∷ cs) new → name_unit (c ∷ cs ++ old) ≡ 0 → name_unit (c ∷ cs ++ new) ≡ 0) (sym (eqb-true c backslash escape)) at_escape bounds
     which false escape = λ none. rw escape (rw escape at none)
 
-pub one_and_none : (n : ℕ) → one_and n ≡ 0 → n ≡ 0
-one_and_none zero none = refl
-one_and_none (suc n) none = absurd (omega (arith, none))
-
 digits_front : (old new cs : List ℕ) → one_and (run digit_unit (cs ++ new)) ≤ suc (length cs) → one_and (run digit_unit (cs ++ old)) ≡ 0 → one_and (run digit_unit (cs ++ new)) ≡ 0
-digits_front old new [] short none = short_none (run digit_unit new) short
-  where
-    short_none : (n : ℕ) → one_and n ≤ 1 → one_and n ≡ 0
-    short_none zero short = refl
-    short_none (suc n) short = absurd (omega (arith, short))
-digits_front old new (d ∷ ds) short none = ap one_and (digit_first d (ds ++ old) (ds ++ new) (one_and_none (run digit_unit (d ∷ ds ++ old)) none))
+digits_front old new [] short none =
+    let digits : run digit_unit new ≡ 0 = omega (arith, one_and_fits (run digit_unit new) 0 short) in
+    ap one_and digits
+digits_front old new (d ∷ ds) short none = ap one_and (digit_first d (ds ++ old) (ds ++ new) (none_one_and (run digit_unit (d ∷ ds ++ old)) none))
 
 pub fraction_front : (old new : List ℕ) (c : ℕ) (cs : List ℕ) → Bounds (c ∷ cs) new → fraction (c ∷ cs ++ old) ≡ 0 → fraction (c ∷ cs ++ new) ≡ 0
 fraction_front old new c cs bounds = which (c == dot) refl
@@ -188,8 +170,8 @@ alike_front (c ∷ cs) old new k is =
       feed = λ none. none;
       unit = unit_front old new c cs bounds;
       name = λ none. name_none old new (c ∷ cs) none bounds.name;
-      opened = λ none. none;
-      percented = λ none. none;
+      bracket = λ none. none;
+      percentage = λ none. none;
       digit = λ none. none;
-      fractioned = fraction_front old new c cs bounds;
+      decimals = fraction_front old new c cs bounds;
     }

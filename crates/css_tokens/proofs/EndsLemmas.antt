@@ -4,13 +4,12 @@ use Rattle.std.specs.Char.{is_ascii_digit}
 use Rattle.std.proofs.lemmas.Bool.{or_parts}
 use Rattle.css_model.specs.declared.token.TokenKind.{TokenKind}
 use Rattle.css_model.specs.declared.token.TokenKind.TheVariants as kind
-use Rattle.css_model.specs.Characters.{backslash, star, slash, plus, dash, dot, greater_than, is_start, is_name}
+use Rattle.css_model.specs.Characters.{line_feed, backslash, star, slash, plus, dash, dot, greater_than, is_start, is_name}
 use Rattle.css_model.specs.Units.{white_unit}
 use Rattle.css_model.specs.TokenAt.{part_at}
 use Rattle.css_model.specs.Tokens.{Part}
-use Rattle.css_tokens.specs.Alike.{LooksAlike, LooksThrough, EndsAlike, ends_itself, begins_dashes}
+use Rattle.css_tokens.specs.Alike.{KeepsString, LooksAlike, LooksThrough, EndsAlike, ends_itself, begins_dashes}
 use Rattle.css_tokens.proofs.RunLemmas.{run_none}
-use Rattle.css_tokens.proofs.NamedAgain.{KeepsString}
 use Rattle.css_tokens.proofs.AlikeLemmas.{alike_nil, alike_byte, alike_space, goes_on}
 use Rattle.css_tokens.proofs.RulesAgain.{rule_part}
 
@@ -54,52 +53,52 @@ not_looked_for c none =
       no_dash = name.1;
     }
 
-pub looks_byte : (k : Option TokenKind) (v old : List ℕ) (c : ℕ) (new : List ℕ) → is_looked_for c ≡ false → (k ≡ Some (kind.Delim backslash) → ⊥) → KeepsString v k old (c ∷ new)
+pub looks_byte : (k : Option TokenKind) (v old : List ℕ) (c : ℕ) (new : List ℕ) → is_looked_for c ≡ false → (k ≡ Some (kind.Delim backslash) → ⊥) → KeepsString k v old (c ∷ new)
     → LooksAlike k v old (c ∷ new)
 looks_byte k v old c new none lone keeps =
     let is = not_looked_for c none in
     record {
-      escaped = λ e. absurd (lone e);
-      starred = λ _ _. is.no_star;
-      banged = λ _ _. rw is.no_bang refl;
-      signed = λ _ _ _ _. rw (is.no_digit, is.no_dot) refl;
-      dash_named = λ _ _. rw (is.no_dash, is.no_start, is.no_escape) refl;
-      dotted = λ _ _. rw is.no_digit refl;
-      hashed = λ _ _. rw (is.no_name, is.no_escape) refl;
-      at_named = λ _ _. rw (is.no_dash, is.no_start, is.no_escape) refl;
-      closed = λ _ _. is.no_greater;
-      quoted = keeps;
-      exponented = λ _ _ _ _ _ _. rw (is.no_plus, is.no_dash, is.no_digit) refl;
+      at_backslash = λ e. absurd (lone e);
+      at_slash = λ _ _. is.no_star;
+      at_less_than = λ _ _. rw is.no_bang refl;
+      at_plus_or_minus = λ _ _ _ _. rw (is.no_digit, is.no_dot) refl;
+      at_dash = λ _ _. rw (is.no_dash, is.no_start, is.no_escape) refl;
+      at_dot = λ _ _. rw is.no_digit refl;
+      at_hash = λ _ _. rw (is.no_name, is.no_escape) refl;
+      at_at_sign = λ _ _. rw (is.no_dash, is.no_start, is.no_escape) refl;
+      at_dashes = λ _ _ _. is.no_greater;
+      at_url = keeps;
+      at_exponent = λ _ _ _ _ _ _. rw (is.no_plus, is.no_dash, is.no_digit) refl;
     }
 
-pub looks_bang : (k : Option TokenKind) (v old new : List ℕ) → begins_dashes new ≡ false → (k ≡ Some (kind.Delim backslash) → ⊥) → KeepsString v k old (33 ∷ new) → LooksAlike k v old (33 ∷ new)
+pub looks_bang : (k : Option TokenKind) (v old new : List ℕ) → begins_dashes new ≡ false → (k ≡ Some (kind.Delim backslash) → ⊥) → KeepsString k v old (33 ∷ new) → LooksAlike k v old (33 ∷ new)
 looks_bang k v old new none lone keeps = record {
-  escaped = λ e. absurd (lone e);
-  starred = λ _ _. refl;
-  banged = λ _ _. none;
-  signed = λ _ _ _ _. refl;
-  dash_named = λ _ _. refl;
-  dotted = λ _ _. refl;
-  hashed = λ _ _. refl;
-  at_named = λ _ _. refl;
-  closed = λ _ _. refl;
-  quoted = keeps;
-  exponented = λ _ _ _ _ _ _. refl;
+  at_backslash = λ e. absurd (lone e);
+  at_slash = λ _ _. refl;
+  at_less_than = λ _ _. none;
+  at_plus_or_minus = λ _ _ _ _. refl;
+  at_dash = λ _ _. refl;
+  at_dot = λ _ _. refl;
+  at_hash = λ _ _. refl;
+  at_at_sign = λ _ _. refl;
+  at_dashes = λ _ _ _. refl;
+  at_url = keeps;
+  at_exponent = λ _ _ _ _ _ _. refl;
 }
 
-pub looks_nil : (k : Option TokenKind) (v old : List ℕ) → (k ≡ Some (kind.Delim backslash) → ⊥) → KeepsString v k old [] → LooksAlike k v old []
+pub looks_nil : (k : Option TokenKind) (v old : List ℕ) → (k ≡ Some (kind.Delim backslash) → ⊥) → KeepsString k v old [] → LooksAlike k v old []
 looks_nil k v old lone keeps = record {
-  escaped = λ e. absurd (lone e);
-  starred = λ _ _. refl;
-  banged = λ _ _. refl;
-  signed = λ _ _ _ _. refl;
-  dash_named = λ _ _. refl;
-  dotted = λ _ _. refl;
-  hashed = λ _ _. refl;
-  at_named = λ _ _. refl;
-  closed = λ _ _. refl;
-  quoted = keeps;
-  exponented = λ _ _ _ _ _ _. refl;
+  at_backslash = λ e. absurd (lone e);
+  at_slash = λ _ _. refl;
+  at_less_than = λ _ _. refl;
+  at_plus_or_minus = λ _ _ _ _. refl;
+  at_dash = λ _ _. refl;
+  at_dot = λ _ _. refl;
+  at_hash = λ _ _. refl;
+  at_at_sign = λ _ _. refl;
+  at_dashes = λ _ _ _. refl;
+  at_url = keeps;
+  at_exponent = λ _ _ _ _ _ _. refl;
 }
 
 -- neither white space nor a function nor a backslash that begins no escape
@@ -112,13 +111,13 @@ is_plain k = true
 plain_is : (k j : Option TokenKind) → is_plain k ≡ true → is_plain j ≡ false → k ≡ j → ⊥
 plain_is k j plain odd same = true≢false (sym plain ∙ ap is_plain same ∙ odd)
 
-plain_keeps : (k : Option TokenKind) (v old new : List ℕ) → is_plain k ≡ true → KeepsString v k old new
+plain_keeps : (k : Option TokenKind) (v old new : List ℕ) → is_plain k ≡ true → KeepsString k v old new
 plain_keeps k v old new plain = λ _ called _ _ _. absurd (plain_is k (Some kind.Function) plain refl called)
 
 pub through_plain : (k : Option TokenKind) (old new : List ℕ) → is_plain k ≡ true → begins_dashes new ≡ false → LooksThrough k old new
 through_plain k old new plain none = record {
-  dashed = λ _ _. none;
-  quoted = λ white _. absurd (plain_is k (Some kind.White) plain refl white);
+  at_bang = λ _ _. none;
+  at_white = λ white _. absurd (plain_is k (Some kind.White) plain refl white);
 }
 
 pub ends_nil : (p : Part) (old : List ℕ) → is_plain p.kind ≡ true → EndsAlike p old []
@@ -151,6 +150,26 @@ ends_space p old new plain white = record {
   alike = λ open_ended. alike_space old new (white open_ended);
   looks = looks_byte p.kind p.bytes old 32 new refl (plain_is p.kind (Some (kind.Delim backslash)) plain refl) (plain_keeps p.kind p.bytes old (32 ∷ new) plain);
   through = through_plain p.kind old (32 ∷ new) plain refl;
+}
+
+-- a backslash that begins no escape begins none before a line feed
+pub ends_feed : (p : Part) (old new : List ℕ) → p.kind ≡ Some (kind.Delim backslash) → EndsAlike p old (line_feed ∷ new)
+ends_feed p old new lone = record {
+  alike = λ open_ended. absurd (true≢false (sym (ap ends_itself lone) ∙ open_ended));
+  looks = record {
+    at_backslash = λ _ _. refl;
+    at_slash = λ _ _. refl;
+    at_less_than = λ _ _. refl;
+    at_plus_or_minus = λ _ _ _ _. refl;
+    at_dash = λ _ _. refl;
+    at_dot = λ _ _. refl;
+    at_hash = λ _ _. refl;
+    at_at_sign = λ _ _. refl;
+    at_dashes = λ _ _ _. refl;
+    at_url = λ _ called _ _ _. absurd (cc);
+    at_exponent = λ _ _ _ _ _ _. refl;
+  };
+  through = record { at_bang = λ _ _. refl; at_white = λ white _. absurd (cc) };
 }
 
 -- one space, before what begins with none

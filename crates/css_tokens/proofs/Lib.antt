@@ -3,6 +3,8 @@ pub mod ClosedAgain
 pub mod ClosedTokens
 pub mod CommentLemmas
 pub mod CommentParts
+pub mod EndExamples
+pub mod EndsAnywhere
 pub mod EndsLemmas
 pub mod EscapeLemmas
 pub mod InsideRuns
@@ -19,6 +21,7 @@ pub mod NearRules
 pub mod NearTokens
 pub mod NumberRule
 pub mod NumbersAgain
+pub mod OneAnd
 pub mod OpenFront
 pub mod OpenRuns
 pub mod OpenTokens

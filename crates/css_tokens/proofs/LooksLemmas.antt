@@ -16,7 +16,8 @@ use Rattle.css_tokens.proofs.RuleBounds.{white_is}
 use Rattle.css_tokens.proofs.WordsAgain.{decimal_none}
 use Rattle.css_tokens.proofs.PartLemmas.{part_len, part_rule}
 use Rattle.css_tokens.proofs.Shapes.{shape_parts}
-use Rattle.css_tokens.proofs.AlikeLemmas.{Bounds, part_bounds, escape_first, digit_first, unit_front, one_and_none}
+use Rattle.css_tokens.proofs.AlikeLemmas.{Bounds, part_bounds, escape_first, digit_first, unit_front}
+use Rattle.css_tokens.proofs.OneAnd.{one_and_fits, none_one_and}
 
 -- white space is read as such
 white_rule : (cs : List ℕ) (c : ℕ) → is_white c ≡ true → rule_at (c ∷ cs) ≡ done kind.White (run white_unit (c ∷ cs))
@@ -48,7 +49,7 @@ quoted_front old new j c cs through before now = which (is_white c) refl
         let old_part = white_part c cs old j white before in
         let new_part = white_part c cs new j white now in
         let quote : begins_with is_quote old ≡ true = sym (ap (λ (cs : List ℕ). begins_with is_quote cs) old_part.1) ∙ is in
-        ap (λ (cs : List ℕ). begins_with is_quote cs) new_part.1 ∙ through.quoted old_part.0 quote
+        ap (λ (cs : List ℕ). begins_with is_quote cs) new_part.1 ∙ through.at_white old_part.0 quote
     which false black is = quoted_first c (cs ++ old) (cs ++ new) black is
 
 -- `!` is read alone
@@ -63,7 +64,7 @@ bang_front : (old new : List ℕ) (j : Option TokenKind) (c : ℕ) (cs : List �
 bang_front old new j c cs through is = which (c == 33) refl
   where
     at_bang : (cs : List ℕ) → part_at (33 ∷ cs ++ old) ≡ Ok (j, suc (length cs)) → begins_bang_dashes (33 ∷ cs ++ old) ≡ false → begins_bang_dashes (33 ∷ cs ++ new) ≡ false
-    at_bang [] is none = through.dashed (bang_part [] old j is).0 none
+    at_bang [] is none = through.at_bang (bang_part [] old j is).0 none
     at_bang (d ∷ ds) is none = absurd (omega (arith, (bang_part (d ∷ ds) old j is).1))
 
     which : (b : Bool) → (c == 33) ≡ b → begins_bang_dashes (c ∷ cs ++ old) ≡ false → begins_bang_dashes (c ∷ cs ++ new) ≡ false
@@ -78,21 +79,17 @@ sign_bound c cs new bounds sign =
     let same : signed_decimal (c ∷ cs ++ new) ≡ one_and (decimal (cs ++ new)) = rw sign refl in
     omega (arith, bounds.number, same)
 
-one_and_short : (n : ℕ) → one_and n ≤ 1 → n ≡ 0
-one_and_short zero short = refl
-one_and_short (suc n) short = absurd (omega (arith, short))
-
 digits_front : (old new : List ℕ) (c : ℕ) (cs : List ℕ) → Bounds (c ∷ cs) new → signed_digits (c ∷ cs ++ old) ≡ 0 → signed_digits (c ∷ cs ++ new) ≡ 0
 digits_front old new c cs bounds = which (is_plus_or_minus c) refl
   where
     behind : (cs : List ℕ) → one_and (decimal (cs ++ new)) ≤ suc (length cs) → run digit_unit (cs ++ old) ≡ 0 → run digit_unit (cs ++ new) ≡ 0
-    behind [] short none = omega (arith, one_and_short (decimal new) short)
+    behind [] short none = omega (arith, one_and_fits (decimal new) 0 short)
     behind (d ∷ ds) short none = digit_first d (ds ++ old) (ds ++ new) none
 
     which : (b : Bool) → is_plus_or_minus c ≡ b → signed_digits (c ∷ cs ++ old) ≡ 0 → signed_digits (c ∷ cs ++ new) ≡ 0
     which true sign none =
         let digits : one_and (run digit_unit (cs ++ old)) ≡ 0 = rw sign at none in
-        rw sign (ap one_and (behind cs (sign_bound c cs new bounds sign) (one_and_none (run digit_unit (cs ++ old)) digits)))
+        rw sign (ap one_and (behind cs (sign_bound c cs new bounds sign) (none_one_and (run digit_unit (cs ++ old)) digits)))
     which false sign none =
         let digits : run digit_unit (c ∷ cs ++ old) ≡ 0 = rw sign at none in
         rw sign (digit_first c (cs ++ old) (cs ++ new) digits)
@@ -103,7 +100,7 @@ decimal_front old new c cs bounds = decimal_none c (cs ++ old) (cs ++ new) (λ a
     dotted : (cs : List ℕ) → Bounds (dot ∷ cs) new → digit_unit (cs ++ old) ≡ 0 → digit_unit (cs ++ new) ≡ 0
     dotted [] bounds none =
         let number : 0 + one_and (run digit_unit new) ≤ 1 = bounds.number in
-        let digits : run digit_unit new ≡ 0 = one_and_short (run digit_unit new) (omega (arith, number)) in
+        let digits : run digit_unit new ≡ 0 = omega (arith, one_and_fits (run digit_unit new) 0 (omega (arith, number))) in
         omega (arith, unit_le_run digit_unit new refl, digits)
     dotted (d ∷ ds) bounds none = none
 
@@ -134,17 +131,17 @@ looks_front k u [] old new j through before now = absurd (omega (arith, part_len
 looks_front k u (c ∷ cs) old new j through before now =
     let bounds = part_bounds (c ∷ cs) new j now in
     record {
-      escaped = λ _. escape_first c (cs ++ old) (cs ++ new);
-      starred = λ _ none. none;
-      banged = λ _. bang_front old new j c cs through before;
-      signed = λ _ _ _. decimal_front old new c cs bounds;
-      dash_named = λ _. named_front old new c cs bounds;
-      dotted = λ _ none. none;
-      hashed = λ _. unit_front old new c cs bounds;
-      at_named = λ _ none. name_none old new (c ∷ cs) none bounds.name;
-      closed = λ _ none. none;
-      quoted = λ _ _ _ _. quoted_front old new j c cs through before now;
-      exponented = λ _ _ _ _ _. digits_front old new c cs bounds;
+      at_backslash = λ _. escape_first c (cs ++ old) (cs ++ new);
+      at_slash = λ _ none. none;
+      at_less_than = λ _. bang_front old new j c cs through before;
+      at_plus_or_minus = λ _ _ _. decimal_front old new c cs bounds;
+      at_dash = λ _. named_front old new c cs bounds;
+      at_dot = λ _ none. none;
+      at_hash = λ _. unit_front old new c cs bounds;
+      at_at_sign = λ _ none. name_none old new (c ∷ cs) none bounds.name;
+      at_dashes = λ _ _ none. none;
+      at_url = λ _ _ _ _. quoted_front old new j c cs through before now;
+      at_exponent = λ _ _ _ _ _. digits_front old new c cs bounds;
     }
 
 dashes_front : (old new : List ℕ) (c : ℕ) (cs : List ℕ) → Bounds (c ∷ cs) new → begins_dashes (c ∷ cs ++ old) ≡ false → begins_dashes (c ∷ cs ++ new) ≡ false
@@ -160,4 +157,4 @@ dashes_front old new c (d ∷ ds) bounds none = none
 
 pub through_front : (k : Option TokenKind) (v old new : List ℕ) (j : Option TokenKind) → part_at (v ++ new) ≡ Ok (j, length v) → LooksThrough k (v ++ old) (v ++ new)
 through_front k [] old new j now = absurd (omega (arith, part_len new (j, 0) now))
-through_front k (c ∷ cs) old new j now = record { dashed = λ _. dashes_front old new c cs (part_bounds (c ∷ cs) new j now); quoted = λ _ quote. quote }
+through_front k (c ∷ cs) old new j now = record { at_bang = λ _. dashes_front old new c cs (part_bounds (c ∷ cs) new j now); at_white = λ _ quote. quote }

@@ -9,7 +9,7 @@ use Rattle.css_model.specs.Characters.{hash, at_sign, open_round, begins}
 use Rattle.css_model.specs.Units.{name_unit, name_start, name_len}
 use Rattle.css_model.specs.Unescaped.{is_url}
 use Rattle.css_model.specs.TokenAt.{Shape, hash_shape, at_shape, opened_shape, named_shape, done}
-use Rattle.css_tokens.specs.Alike.{Alike, ends_itself, begins_quoted}
+use Rattle.css_tokens.specs.Alike.{Alike, KeepsString, ends_itself}
 use Rattle.css_tokens.proofs.Keeps.{run_begins, unit_le_run}
 use Rattle.css_tokens.proofs.NamesAgain.{name_len_again, name_again, no_name_again}
 use Rattle.css_tokens.proofs.AlikeLemmas.{alike_first}
@@ -93,11 +93,7 @@ named_opened w rest is =
     ∙ ap (λ (cs : List ℕ). cond (begins open_round cs) (opened_shape (take n text) (n + 1) (drop (n + 1) text)) (done kind.Ident n)) at
     ∙ ap (λ (cs : List ℕ). opened_shape cs (n + 1) (drop (n + 1) text)) front ∙ ap (λ (cs : List ℕ). opened_shape w (n + 1) cs) more
 
--- what a function whose name is `url` keeps behind it
-abbrev pub KeepsString : List ℕ → Option TokenKind → List ℕ → List ℕ → Type 0
-KeepsString v k old new = (name : List ℕ) → k ≡ Some kind.Function → v ≡ name ++ open_round ∷ [] → is_url name ≡ true → begins_quoted old ≡ true → begins_quoted new ≡ true
-
-open_again : (w z old new : List ℕ) (k : Option TokenKind) → KeepsString (w ++ open_round ∷ z) k old new → name_len (w ++ open_round ∷ (z ++ old)) ≡ length w
+open_again : (w z old new : List ℕ) (k : Option TokenKind) → KeepsString k (w ++ open_round ∷ z) old new → name_len (w ++ open_round ∷ (z ++ old)) ≡ length w
     → named_shape (w ++ open_round ∷ (z ++ old)) ≡ Ok (k, length w + 1 + length z) → named_shape (w ++ open_round ∷ (z ++ new)) ≡ Ok (k, length w + 1 + length z)
 open_again w z old new k keeps before is =
     let h : Alike (open_round ∷ (z ++ old)) (open_round ∷ (z ++ new)) = alike_first open_round (z ++ old) (z ++ new) refl refl refl in
@@ -109,17 +105,17 @@ open_again w z old new k keeps before is =
     (λ _ same. same) (sym (named_opened w (z ++ old) before) ∙ is)
 
 -- the name is cut off by its length
-function_again : (old new : List ℕ) (k : Option TokenKind) (n : ℕ) (v : List ℕ) → n < length v → KeepsString v k old new → name_len (v ++ old) ≡ n → begins open_round (drop n (v ++ old)) ≡ true
+function_again : (old new : List ℕ) (k : Option TokenKind) (n : ℕ) (v : List ℕ) → n < length v → KeepsString k v old new → name_len (v ++ old) ≡ n → begins open_round (drop n (v ++ old)) ≡ true
     → named_shape (v ++ old) ≡ Ok (k, length v) → named_shape (v ++ new) ≡ Ok (k, length v)
 function_again old new k n v inside =
-    by_cut (λ v. KeepsString v k old new → name_len (v ++ old) ≡ n → begins open_round (drop n (v ++ old)) ≡ true → named_shape (v ++ old) ≡ Ok (k, length v) → named_shape (v ++ new) ≡ Ok (k, length v))
+    by_cut (λ v. KeepsString k v old new → name_len (v ++ old) ≡ n → begins open_round (drop n (v ++ old)) ≡ true → named_shape (v ++ old) ≡ Ok (k, length v) → named_shape (v ++ new) ≡ Ok (k, length v))
     n cut v inside
   where
     C : List ℕ → List ℕ → ℕ → Type 0
-    C w z x = KeepsString (w ++ x ∷ z) k old new → name_len (w ++ x ∷ (z ++ old)) ≡ length w
+    C w z x = KeepsString k (w ++ x ∷ z) old new → name_len (w ++ x ∷ (z ++ old)) ≡ length w
         → named_shape (w ++ x ∷ (z ++ old)) ≡ Ok (k, length w + 1 + length z) → named_shape (w ++ x ∷ (z ++ new)) ≡ Ok (k, length w + 1 + length z)
 
-    cut : (w : List ℕ) (x : ℕ) (z : List ℕ) → length w ≡ n → KeepsString (w ++ x ∷ z) k old new → name_len ((w ++ x ∷ z) ++ old) ≡ n
+    cut : (w : List ℕ) (x : ℕ) (z : List ℕ) → length w ≡ n → KeepsString k (w ++ x ∷ z) old new → name_len ((w ++ x ∷ z) ++ old) ≡ n
         → begins open_round (drop n ((w ++ x ∷ z) ++ old)) ≡ true → named_shape ((w ++ x ∷ z) ++ old) ≡ Ok (k, length (w ++ x ∷ z)) → named_shape ((w ++ x ∷ z) ++ new) ≡ Ok (k, length (w ++ x ∷ z))
     cut w x z size keeps len opened is =
         let moved : (rest : List ℕ) → (w ++ x ∷ z) ++ rest ≡ w ++ x ∷ (z ++ rest) = λ rest. append_assoc w (x ∷ z) rest in
@@ -132,7 +128,7 @@ function_again old new k n v inside =
         shaped new ∙ again keeps name (sym (shaped old) ∙ is ∙ sized) ∙ sym sized
 
 -- an ident, a function or a url
-pub named_again : (old new : List ℕ) (k : Option TokenKind) → (ends_itself k ≡ false → Alike old new) → (v : List ℕ) → KeepsString v k old new
+pub named_again : (old new : List ℕ) (k : Option TokenKind) → (ends_itself k ≡ false → Alike old new) → (v : List ℕ) → KeepsString k v old new
     → named_shape (v ++ old) ≡ Ok (k, length v) → named_shape (v ++ new) ≡ Ok (k, length v)
 named_again old new k alike v keeps is = which (begins open_round (drop (name_len (v ++ old)) (v ++ old))) refl is
   where
@@ -149,5 +145,5 @@ named_again old new k alike v keeps is = which (begins open_round (drop (name_le
         let h = alike (ap ends_itself (sym parts.0)) in
         let behind : name_len (v ++ new) ≡ length v = name_len_again old new h v parts.1 in
         let ended : begins open_round old ≡ false = sym (ap (λ (cs : List ℕ). begins open_round cs) (drop_at v old m (sym parts.1))) ∙ closed in
-        let ended' : begins open_round (drop (name_len (v ++ new)) (v ++ new)) ≡ false = ap (λ (cs : List ℕ). begins open_round cs) (drop_at v new (name_len (v ++ new)) (sym behind)) ∙ h.opened ended in
+        let ended' : begins open_round (drop (name_len (v ++ new)) (v ++ new)) ≡ false = ap (λ (cs : List ℕ). begins open_round cs) (drop_at v new (name_len (v ++ new)) (sym behind)) ∙ h.bracket ended in
         rw ended' (same_shape (Some kind.Ident) k (name_len (v ++ new)) (length v) parts.0 behind)

@@ -8,6 +8,7 @@ use Rattle.css_tokens.specs.Alike.{Alike}
 use Rattle.css_tokens.proofs.RunLemmas.{run_unit}
 use Rattle.css_tokens.proofs.Keeps.{run_keeps, unit_le_run}
 use Rattle.css_tokens.proofs.UnitsAgain.{escape_two, name_keeps}
+use Rattle.css_tokens.proofs.OneAnd.{one_and_le, one_and_some}
 
 -- what starts a name is a unit of one
 pub start_le_unit : (text : List ℕ) → start_unit text ≤ name_unit text
@@ -18,10 +19,6 @@ start_le_unit (c ∷ cs) = which (is_start c) refl (c == backslash) refl
     which true start e escape = rw start (omega arith)
     which false start true escape = rw (eqb-true c backslash escape) (omega arith)
     which false start false escape = rw (start, escape) (omega arith)
-
-one_and_le : (n : ℕ) → one_and n ≤ suc n
-one_and_le zero = omega arith
-one_and_le (suc n) = omega arith
 
 below_cond : (b : Bool) (m k n : ℕ) → (b ≡ true → m ≤ n) → (b ≡ false → k ≤ n) → cond b m k ≤ n
 below_cond true m k n p q = p refl
@@ -80,10 +77,6 @@ start_begins : (old new v : List ℕ) → 0 < start_unit (v ++ old) → start_un
 start_begins old new [] some fits = absurd (omega arith)
 start_begins old new (c ∷ cs) some fits =
     begin_cases (is_start c) (c == backslash) (escape_after (cs ++ old)) (escape_after (cs ++ new)) (suc (length cs)) (escape_begins old new cs) some fits
-
-one_and_some : (n : ℕ) → 0 < n → 0 < one_and n
-one_and_some zero some = absurd (omega arith)
-one_and_some (suc n) some = omega arith
 
 -- `-` alone is no start that fits
 lone_cases : (b d : Bool) (m k k' : ℕ) → (0 < k → k ≤ 1 → 0 < k') → 0 < cond b (cond d 2 (one_and m)) k → cond b (cond d 2 (one_and m)) k ≤ 1

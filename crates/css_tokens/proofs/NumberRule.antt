@@ -113,7 +113,7 @@ plain_again old new h k c cs some number =
     let number' : IsNumber k (length v) n' (drop n' (v ++ new)) = record {
       kinds = number.kinds;
       unnamed = ap (λ (cs : List ℕ). name_start cs) behind ∙ h.name none;
-      unpercented = ap (λ (cs : List ℕ). begins percent cs) behind ∙ h.percented unpercented;
+      unpercented = ap (λ (cs : List ℕ). begins percent cs) behind ∙ h.percentage unpercented;
       len = now.1;
     } in
     record { some = omega (arith, some, now.0); is = number_from k (length v) n' (drop n' (v ++ new)) (inr (inr number')) }

@@ -8,10 +8,7 @@ use Rattle.css_model.specs.Units.{digit_unit, fraction, decimal, signed_decimal,
 use Rattle.css_tokens.specs.Alike.{Alike, is_exponent}
 use Rattle.css_tokens.proofs.Keeps.{run_fits, seq_same}
 use Rattle.css_tokens.proofs.UnitsAgain.{digit_fits}
-
-one_and_fits : (m l : ℕ) → one_and m ≤ suc l → m ≤ l
-one_and_fits zero l fits = omega arith
-one_and_fits (suc m) l fits = omega arith
+use Rattle.css_tokens.proofs.OneAnd.{one_and_fits}
 
 -- a byte and what follows it, or something else
 sign_cases : (b : Bool) (m m' k k' l : ℕ) → (m ≤ l → m' ≡ m) → (k ≤ suc l → k' ≡ k) → cond b (one_and m) k ≤ suc l → cond b (one_and m') k' ≡ cond b (one_and m) k
@@ -24,7 +21,7 @@ digits_same old new h v fits = run_fits digit_unit old new refl (digit_fits old 
 fraction_same : (old new : List ℕ) → Alike old new → (v : List ℕ) → fraction (v ++ old) ≤ length v → fraction (v ++ new) ≡ fraction (v ++ old)
 fraction_same old new h [] fits =
     let none : fraction old ≡ 0 = omega arith in
-    h.fractioned none ∙ sym none
+    h.decimals none ∙ sym none
 fraction_same old new h (c ∷ cs) fits =
     sign_cases (c == dot) (run digit_unit (cs ++ old)) (run digit_unit (cs ++ new)) 0 0 (length cs) (digits_same old new h cs) (λ _. refl) fits
 

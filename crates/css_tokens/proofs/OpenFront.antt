@@ -1,12 +1,12 @@
 -- What stands before an open token does not see whether that takes a white space.
-use Rattle.std.proofs.Common.{ℕ, zero, suc, ◌≡◌, Bool, true, false, cond, ◌==◌, List, [], ◌∷◌, ◌++◌, Option, drop, refl, sym, ap, ◌∙◌, subst, arith}
+use Rattle.std.proofs.Common.{ℕ, zero, suc, ◌≡◌, Bool, true, false, cond, ◌==◌, List, [], ◌∷◌, ◌++◌, drop, refl, sym, ap, ◌∙◌, subst, arith}
 use Rattle.std.proofs.lemmas.Bool.{false≢true, eqb-true}
-use Rattle.css_model.specs.declared.token.TokenKind.{TokenKind}
 use Rattle.css_model.specs.Characters.{backslash, dash, dot, is_white, is_start, is_name, is_plus_or_minus, begins_with}
 use Rattle.css_model.specs.Runs.{run}
 use Rattle.css_model.specs.Units.{escape_after, name_unit, start_unit, name_start, digit_unit, fraction, decimal, signed_digits, one_and}
 use Rattle.css_model.specs.TokenAt.{is_quote}
-use Rattle.css_tokens.specs.Alike.{Alike, LooksAlike, LooksThrough, begins_bang_dashes}
+use Rattle.css_model.specs.Tokens.{Part}
+use Rattle.css_tokens.specs.Alike.{EndsAlike, begins_bang_dashes}
 use Rattle.css_tokens.specs.OpenEscape.{ends_open}
 use Rattle.css_tokens.proofs.AlikeLemmas.{white_none, escape_first, digit_first}
 use Rattle.css_tokens.proofs.PartFacts.{after_white_none}
@@ -59,60 +59,55 @@ signed_two a b xs ys =
     name_cases (is_plus_or_minus a) (one_and (run digit_unit (b ∷ xs))) (one_and (run digit_unit (b ∷ ys))) (run digit_unit (a ∷ b ∷ xs)) (run digit_unit (a ∷ b ∷ ys))
     (and_none (run digit_unit (b ∷ xs)) (run digit_unit (b ∷ ys)) (digit_first b xs ys)) (digit_first a (b ∷ xs) (b ∷ ys))
 
--- what a part sees of either, if it is not white space
-pub record SeesAlike (k : Option TokenKind) (u old new : List ℕ) : Type 0 where
-  pub alike : Alike old new
-  pub looks : LooksAlike k u old new
-  pub through : LooksThrough k old new
-
-sees_two : (k : Option TokenKind) (u : List ℕ) (a b : ℕ) (xs ys : List ℕ) → is_white a ≡ false → (name_start (a ∷ b ∷ xs) ≡ 0 → name_start (a ∷ b ∷ ys) ≡ 0)
-    → (begins_bang_dashes (a ∷ b ∷ xs) ≡ false → begins_bang_dashes (a ∷ b ∷ ys) ≡ false) → SeesAlike k u (a ∷ b ∷ xs) (a ∷ b ∷ ys)
-sees_two k u a b xs ys no_white name bang = record {
-  alike = record {
+-- any part ends alike before both
+ends_two : (p : Part) (a b : ℕ) (xs ys : List ℕ) → is_white a ≡ false → (name_start (a ∷ b ∷ xs) ≡ 0 → name_start (a ∷ b ∷ ys) ≡ 0)
+    → (begins_bang_dashes (a ∷ b ∷ xs) ≡ false → begins_bang_dashes (a ∷ b ∷ ys) ≡ false) → EndsAlike p (a ∷ b ∷ xs) (a ∷ b ∷ ys)
+ends_two p a b xs ys no_white name bang = record {
+  alike = λ _. record {
     hex = λ none. none;
     white = white_none a (b ∷ xs) (b ∷ ys);
     feed = λ none. none;
     unit = unit_two a b xs ys;
     name = name;
-    opened = λ none. none;
-    percented = λ none. none;
+    bracket = λ none. none;
+    percentage = λ none. none;
     digit = λ none. none;
-    fractioned = fraction_two a b xs ys;
+    decimals = fraction_two a b xs ys;
   };
   looks = record {
-    escaped = λ _. escape_first a (b ∷ xs) (b ∷ ys);
-    starred = λ _ none. none;
-    banged = λ _. bang;
-    signed = λ _ _ _. decimal_two a b xs ys;
-    dash_named = λ _. dash_none (a == dash) (start_unit (a ∷ b ∷ xs)) (start_unit (a ∷ b ∷ ys)) (start_two a b xs ys);
-    dotted = λ _ none. none;
-    hashed = λ _. unit_two a b xs ys;
-    at_named = λ _. name;
-    closed = λ _ none. none;
-    quoted = λ _ _ _ _ quote. ap (begins_with is_quote) (after_white_none (a ∷ b ∷ ys) no_white) ∙ ap (begins_with is_quote) (sym (after_white_none (a ∷ b ∷ xs) no_white)) ∙ quote;
-    exponented = λ _ _ _ _ _. signed_two a b xs ys;
+    at_backslash = λ _. escape_first a (b ∷ xs) (b ∷ ys);
+    at_slash = λ _ none. none;
+    at_less_than = λ _. bang;
+    at_plus_or_minus = λ _ _ _. decimal_two a b xs ys;
+    at_dash = λ _. dash_none (a == dash) (start_unit (a ∷ b ∷ xs)) (start_unit (a ∷ b ∷ ys)) (start_two a b xs ys);
+    at_dot = λ _ none. none;
+    at_hash = λ _. unit_two a b xs ys;
+    at_at_sign = λ _. name;
+    at_dashes = λ _ _ none. none;
+    at_url = λ _ _ _ _ quote. ap (begins_with is_quote) (after_white_none (a ∷ b ∷ ys) no_white) ∙ ap (begins_with is_quote) (sym (after_white_none (a ∷ b ∷ xs) no_white)) ∙ quote;
+    at_exponent = λ _ _ _ _ _. signed_two a b xs ys;
   };
-  through = record { dashed = λ _ none. none; quoted = λ _ quote. quote };
+  through = record { at_bang = λ _ none. none; at_white = λ _ quote. quote };
 }
 
 -- an open token is an escape of one digit, or longer
-pub open_sees : (k : Option TokenKind) (u v old new : List ℕ) → ends_open v ≡ true → begins_with is_white v ≡ false → SeesAlike k u (v ++ old) (v ++ new)
-open_sees k u [] old new is no_white = absurd (false≢true is)
-open_sees k u (a ∷ []) old new is no_white = absurd (which (a == backslash) is)
+pub ends_before_open : (p : Part) (v old new : List ℕ) → ends_open v ≡ true → begins_with is_white v ≡ false → EndsAlike p (v ++ old) (v ++ new)
+ends_before_open p [] old new is no_white = absurd (false≢true is)
+ends_before_open p (a ∷ []) old new is no_white = absurd (which (a == backslash) is)
   where
     which : (b : Bool) → cond b false false ≡ true → ⊥
     which true is = false≢true is
     which false is = false≢true is
-open_sees k u (a ∷ b ∷ []) old new is no_white = which (a == backslash) refl
+ends_before_open p (a ∷ b ∷ []) old new is no_white = which (a == backslash) refl
   where
     alone : (b : Bool) → cond b false false ≡ true → ⊥
     alone true is = false≢true is
     alone false is = false≢true is
 
-    which : (e : Bool) → (a == backslash) ≡ e → SeesAlike k u (a ∷ b ∷ old) (a ∷ b ∷ new)
+    which : (e : Bool) → (a == backslash) ≡ e → EndsAlike p (a ∷ b ∷ old) (a ∷ b ∷ new)
     which true escape =
-        let S : ℕ → Type 0 = λ (a : ℕ). SeesAlike k u (a ∷ b ∷ old) (a ∷ b ∷ new) in
-        subst S (sym (eqb-true a backslash escape)) (sees_two k u backslash b old new refl (escape_first b old new) (λ _. refl))
+        let S : ℕ → Type 0 = λ (a : ℕ). EndsAlike p (a ∷ b ∷ old) (a ∷ b ∷ new) in
+        subst S (sym (eqb-true a backslash escape)) (ends_two p backslash b old new refl (escape_first b old new) (λ _. refl))
     which false escape = absurd (alone (b == backslash) (rw escape at is))
-open_sees k u (a ∷ b ∷ c ∷ cs) old new is no_white =
-    sees_two k u a b (c ∷ cs ++ old) (c ∷ cs ++ new) no_white (name_three a b c (cs ++ old) (cs ++ new)) (λ none. none)
+ends_before_open p (a ∷ b ∷ c ∷ cs) old new is no_white =
+    ends_two p a b (c ∷ cs ++ old) (c ∷ cs ++ new) no_white (name_three a b c (cs ++ old) (cs ++ new)) (λ none. none)

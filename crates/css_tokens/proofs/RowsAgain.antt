@@ -1,10 +1,11 @@
 -- Rows of parts before other rests.
-use Rattle.std.proofs.Common.{List, [], ◌∷◌, ◌++◌}
+use Rattle.std.proofs.Common.{◌≡◌, true, List, [], ◌∷◌, ◌++◌}
 use Rattle.css_model.specs.Tokens.{Part, text_of}
 use Rattle.css_tokens.specs.Alike.{EndsAlike, LooksThrough, RowsEndAlike}
 use Rattle.css_tokens.specs.Lexed.{IsLexed}
 use Rattle.css_tokens.proofs.AlikeLemmas.{alike_front}
 use Rattle.css_tokens.proofs.LooksLemmas.{looks_front, through_front}
+use Rattle.css_tokens.proofs.EndsLemmas.{ends_nil, is_plain}
 use Rattle.css_tokens.proofs.RulesAgain.{part_again}
 
 pub ends_front : (p q : Part) (old new : List Part) → IsLexed (q ∷ old) → IsLexed (q ∷ new) → LooksThrough q.kind (text_of old) (text_of new)
@@ -36,3 +37,7 @@ row_again p (q ∷ qs) last old new (before, later) lexed ends = row_step p q (q
 pub rows_again : RowsEndAlike
 rows_again [] last old new before later ends = first_again last old new before later ends
 rows_again (p ∷ ps) last old new before later ends = (row_again p ps last old new before later ends).lexed
+
+-- the front of parts that are read where they stand, by itself
+pub row_alone : (ps : List Part) (last : Part) (old : List Part) → is_plain last.kind ≡ true → IsLexed (ps ++ last ∷ old) → IsLexed (ps ++ last ∷ [])
+row_alone ps last old plain before = rows_again ps last old [] before tt (ends_nil last (text_of old) plain)

@@ -1,5 +1,5 @@
 -- What a rule reads is no shorter than the number and the start of a name that begin its text.
-use Rattle.std.proofs.Common.{ℕ, zero, suc, ◌+◌, ◌<◌, ◌≤◌, ◌≡◌, inl, inr, ◌⊎◌, Bool, true, false, cond, ltb, leb, ◌&&◌, ◌||◌, ◌==◌, List, [], ◌∷◌, Result, Option, Ok, Err, Some, IfOk, drop, take, refl, sym, subst, arith}
+use Rattle.std.proofs.Common.{ℕ, ◌+◌, ◌<◌, ◌≤◌, ◌≡◌, inl, inr, ◌⊎◌, Bool, true, false, cond, ltb, leb, ◌&&◌, ◌||◌, ◌==◌, List, [], ◌∷◌, Result, Option, Ok, Err, Some, IfOk, drop, take, refl, sym, subst, arith}
 use Rattle.std.specs.Char.{is_ascii_digit}
 use Rattle.std.proofs.lemmas.Bool.{eqb-true, or_cases, and_parts, and_left, or_from, ne_eqb, ltb-true, ltb-false, leb-true, false_from_ne_true}
 use Rattle.css_model.specs.declared.token.TokenKind.{TokenKind}
@@ -7,10 +7,11 @@ use Rattle.css_model.specs.declared.token.TokenKind.TheVariants as kind
 use Rattle.css_model.specs.declared.token.TokenFlaw.{TokenFlaw}
 use Rattle.css_model.specs.Characters.{dash, plus, dot, backslash, slash, hash, quote, apostrophe, less_than, at_sign, greater_than, is_start, is_white, is_newline, is_plus_or_minus, is_sign, open_round, begins, begins_with}
 use Rattle.css_model.specs.Runs.{run}
-use Rattle.css_model.specs.Units.{white_unit, url_unit, name_start, name_len, decimal, signed_decimal, number_len, one_and}
+use Rattle.css_model.specs.Units.{white_unit, url_unit, name_start, name_len, decimal, signed_decimal, number_len}
 use Rattle.css_model.specs.Unescaped.{is_url}
 use Rattle.css_model.specs.TokenAt.{Shape, rule_at, symbol_at, word_at, slash_shape, string_shape, hash_shape, number_shape, less_shape, at_shape, url_shape, url_end, opened_shape, named_shape, done, is_quote, after_white}
 use Rattle.css_tokens.proofs.NamesAgain.{name_start_le}
+use Rattle.css_tokens.proofs.OneAnd.{some_one_and}
 
 -- what is read, if anything is, has at least n bytes
 pub record AtLeast (n : ℕ) (r : Result Shape TokenFlaw) : Type 0 where
@@ -69,9 +70,6 @@ named_len text s is = least_of (name_len text) (named_shape text) s (named_least
 
 number_least : (n : ℕ) (rest : List ℕ) → AtLeast n (number_shape n rest)
 number_least n rest = search (arith, either_least, some_least)
-
-pub number_shape_len : (n : ℕ) (rest : List ℕ) (s : Shape) → number_shape n rest ≡ Ok s → n ≤ s.1
-number_shape_len n rest s is = least_of n (number_shape n rest) s (number_least n rest) is
 
 -- what holds of each white space holds of this one
 pub white_is : (P : ℕ → Type 0) → P 32 → P 9 → P 10 → P 13 → P 12 → (c : ℕ) → is_white c ≡ true → P c
@@ -146,14 +144,10 @@ decimal_starts_none c cs some = which (is_ascii_digit c) refl (c == dot) refl
         let none : decimal (c ∷ cs) ≡ 0 = rw (digit, is) refl in
         absurd (omega (arith, some, none))
 
-one_and_positive : (m : ℕ) → 0 < one_and m → 0 < m
-one_and_positive zero some = absurd (omega (arith, some))
-one_and_positive (suc m) some = omega arith
-
 negative_no_start : (cs : List ℕ) → 0 < signed_decimal (dash ∷ cs) → name_start (dash ∷ cs) ≡ 0
 negative_no_start [] some = absurd (omega (arith, some))
 negative_no_start (d ∷ ds) some =
-    let none = decimal_starts_none d ds (one_and_positive (decimal (d ∷ ds)) some) in
+    let none = decimal_starts_none d ds (some_one_and (decimal (d ∷ ds)) some) in
     rw (none.no_dash, none.no_start, none.no_escape) refl
 
 -- where a number begins, no name does

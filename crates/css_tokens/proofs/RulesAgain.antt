@@ -69,7 +69,7 @@ symbol_again old new k alike c cs looks =
     let all : Result Shape TokenFlaw = Ok (k, suc (length cs)) in
     tested_again (ltb 0 (signed_decimal text)) (ltb 0 (signed_decimal text')) shape (other_at c (cs ++ old)) shape' (other_at c (cs ++ new)) all
     (λ some is.
-    let now = number_read_again old new k alike c cs looks.exponented (record { some = ltb-true 0 (signed_decimal text) some; is = is }) in
+    let now = number_read_again old new k alike c cs looks.at_exponent (record { some = ltb-true 0 (signed_decimal text) some; is = is }) in
     (lt-ltb 0 (signed_decimal text') now.some, now.is)
     )
     (λ none is.
@@ -77,9 +77,9 @@ symbol_again old new k alike c cs looks =
       le-ltb 0 (signed_decimal text') (omega (arith, never)),
       chosen_again (c == less_than) (less_shape (cs ++ old)) (cond (c == at_sign) (at_shape (cs ++ old)) (word_at text))
           (less_shape (cs ++ new)) (cond (c == at_sign) (at_shape (cs ++ new)) (word_at text')) all
-          (λ _. less_again old new k looks.banged cs)
+          (λ _. less_again old new k looks.at_less_than cs)
           (λ _. chosen_again (c == at_sign) (at_shape (cs ++ old)) (word_at text) (at_shape (cs ++ new)) (word_at text') all
-          (λ _. at_again old new k alike looks.at_named cs) (λ _. word_again old new k alike c cs looks)) is,
+          (λ _. at_again old new k alike looks.at_at_sign cs) (λ _. word_again old new k alike c cs looks)) is,
     )
     )
 
@@ -97,12 +97,12 @@ rule_again old new k alike c cs looks =
     let strings' = cond (is_quote c) (string_shape c (cs ++ new)) hashes' in
     let sized : ◌≡◌ {A = Result Shape TokenFlaw} (Ok (k, 1 + length cs)) all = ap (λ (m : ℕ). Ok (k, m)) (omega arith) in
     chosen_again (c == slash) (slash_shape (cs ++ old)) (cond (is_white c) white strings) (slash_shape (cs ++ new)) (cond (is_white c) white' strings') all
-    (λ _. slash_again old new k looks.starred cs)
+    (λ _. slash_again old new k looks.at_slash cs)
     (λ _. chosen_again (is_white c) white strings white' strings' all (λ _. white_again old new k alike (c ∷ cs))
     (λ _. chosen_again (is_quote c) (string_shape c (cs ++ old)) hashes (string_shape c (cs ++ new)) hashes' all
     (λ quoted is. string_again old new k c quoted cs (is ∙ sym sized) ∙ sized)
     (λ _. chosen_again (c == hash) (hash_shape (cs ++ old)) (symbol_at text) (hash_shape (cs ++ new)) (symbol_at text') all
-    (λ _. hash_again old new k alike looks.hashed cs) (λ _. symbol_again old new k alike c cs looks))))
+    (λ _. hash_again old new k alike looks.at_hash cs) (λ _. symbol_again old new k alike c cs looks))))
 
 -- what a rule reads that fits is a part
 pub rule_part : (text : List ℕ) (k : Option TokenKind) (n : ℕ) → rule_at text ≡ Ok (k, n) → n ≤ length text → part_at text ≡ Ok (k, n)

@@ -38,10 +38,10 @@ pub fn space_behind()
 {}
 
 /// A token or a comment that ends before one rest of a text ends before any other in which nothing begins that
-/// it could go on with, and that did not begin in the first. `Alike` says what that is for the tokens that end
-/// where nothing more of them follows, and `LooksAlike` what single tokens look at behind themselves, as `<` at
-/// `!--`; all others end themselves, whatever follows. So a row of parts that are read where they stand is read so
-/// before other parts if its last one ends alike.
+/// it could go on with, and that did not begin in the first: `Alike` for names, numbers and white space, which
+/// end where no more of them follows, and `LooksAlike` for the single tokens that look behind themselves, as `<`
+/// for `!--`. All others end themselves, whatever follows. So a row of parts that are read where they stand is
+/// read so before other parts, if its last one ends alike.
 pub fn parts_end_alike()
     ensures part { PartsEndAlike }
     ensures row { RowsEndAlike }
