@@ -4,6 +4,10 @@ ghost use Rattle.css_model.specs.Runs.{RunsAreLongest};
 ghost use Rattle.css_tokens.specs.Alike.{PartsEndAlike, RowsEndAlike};
 ghost use Rattle.css_tokens.specs.Laws.{PartsJoin, TokensCover};
 ghost use Rattle.css_tokens.specs.Lexed.{LexedAreParts, LexedAreUtf8, PartsAreLexed};
+{}
+
+ghost use Rattle.css_tokens.specs.Lexed.{LexedAreParts, PartsAreLexed};
+ghost use Rattle.css_tokens.specs.Open.{LastCloses, SpaceCloses, SpaceEnds};
 
 /// A run is the longest row of its units.
 pub fn runs_are_longest()
@@ -32,6 +36,14 @@ pub fn parts_read_back()
 /// point.
 pub fn parts_are_utf8()
     ensures { LexedAreUtf8 }
+{}
+
+/// A white space behind a token is no part of it, except that one which ends in an open escape takes it and is
+/// open no more. A token whose last byte is neither a hex digit nor a backslash is not open.
+pub fn space_behind()
+    ensures ends { SpaceEnds }
+    ensures closes { SpaceCloses }
+    ensures last { LastCloses }
 {}
 
 /// A token or a comment that ends before one rest of a text ends before any other in which nothing begins that
