@@ -13,14 +13,10 @@ mod runs;
 mod strings;
 mod units;
 
-<<<<<<< HEAD
-pub use laws::{
-    parts_are_utf8, parts_end_alike, parts_join, parts_read_back, runs_are_longest, tokens_cover,
-=======
 pub use escapes::ends_open;
 pub use laws::{
-    parts_end_alike, parts_join, parts_read_back, runs_are_longest, space_behind, tokens_cover,
->>>>>>> ac2a882459bc605955caef41e3118c99451f3087
+    parts_are_utf8, parts_end_alike, parts_join, parts_read_back, runs_are_longest, space_behind,
+    tokens_cover,
 };
 pub use names::decode;
 pub use reader::{NotUtf8, Tokens};
