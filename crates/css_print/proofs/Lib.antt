@@ -22,6 +22,7 @@ pub mod FrontChain
 pub mod FrontItems
 pub mod FrontLevels
 pub mod FrontParts
+pub mod FrontReads
 pub mod FrontSheet
 pub mod FrontTexts
 mod Inversions
