@@ -21,6 +21,7 @@ mod BackValues
 pub mod FrontChain
 pub mod FrontItems
 pub mod FrontLevels
+pub mod FrontLexed
 pub mod FrontParts
 pub mod FrontReads
 pub mod FrontSheet

@@ -1,0 +1,161 @@
+-- The parts of a printed sheet's tokens are read where they stand.
+use Rattle.std.proofs.Common.{◌≡◌, ◌≢◌, ◌⊎◌, inl, inr, ℕ, zero, suc, ◌+◌, ◌==◌, Bool, true, false, not, cond, List, [], ◌∷◌, ◌++◌, map, length, take, drop, Option, Some, None, Result, Ok, refl, sym, ◌∙◌, ap, subst, arith}
+use Rattle.std.specs.Prelude.{⊤, ◌&&◌, codes}
+use Rattle.std.specs.List.{AllByRecursion, flat_map}
+use Rattle.std.proofs.lemmas.Bool.{eq-eqb, false≢true, true≢false}
+use Rattle.std.proofs.lemmas.List.{append-nil, append_assoc, length-map, map-append}
+use Rattle.std.proofs.Math.Seq.{take-append_seam, drop-append_seam}
+use Rattle.css_model.specs.declared.sheet.DeclItem.{DeclItem}
+use Rattle.css_model.specs.declared.sheet.SelItem.{SelItem}
+use Rattle.css_model.specs.declared.token.Lexeme.{Lexeme}
+use Rattle.css_model.specs.declared.token.TokenKind.{TokenKind}
+use Rattle.css_model.specs.declared.token.TokenKind.TheVariants as kind
+use Rattle.css_model.specs.Characters.{close_curly, close_round, colon, comma, dot, exclamation_mark, is_sign, is_white, open_curly, open_round, semicolon, space}
+use Rattle.css_model.specs.Kept.{solid}
+use Rattle.css_model.specs.RuleParts.{RuleParts}
+use Rattle.css_model.specs.Source.{text_at}
+use Rattle.css_model.specs.Spelling.{lexemes_of, tokens_in}
+use Rattle.css_model.specs.TokenAt.{part_at}
+use Rattle.css_model.specs.Tokens.{Part, text_of}
+use Rattle.css_model.specs.Units.{digit_unit, white_unit}
+use Rattle.css_tokens.specs.Lexed.{IsLexed}
+use Rattle.css_tokens.specs.Solids.{IsBehind, ends_called, is_ender, is_function, solids, solids_of}
+use Rattle.css_tokens.proofs.EndsAnywhere.{ends_sign, sign_read}
+use Rattle.css_tokens.proofs.EndsLemmas.{is_plain, space_read}
+use Rattle.css_tokens.proofs.KeptParts.{kept_parts}
+use Rattle.css_tokens.proofs.RulesAgain.{part_again, rule_part}
+use Rattle.css_print.proofs.BackTokens.{Shown, colon_gap, declaration_shown, importance_shown, joined, rule_shown, selector_shown, selector_token, sign_shown, value_shown}
+use Rattle.css_print.proofs.FrontChain.{gap_parts, parts_of, token_part}
+use Rattle.css_print.proofs.FrontItems.{IsPartOf}
+use Rattle.css_print.proofs.FrontLevels.{open_behind}
+use Rattle.css_print.proofs.FrontParts.{closers_after}
+use Rattle.css_print.proofs.FrontReads.{value-parts}
+use Rattle.css_print.proofs.FrontTexts.{IsLoneBeforeWhite, parts-append, text-append}
+
+-- kept text is read where it stands before what may stand behind it
+abbrev pub KeptLexed : Type 0
+KeptLexed = (value : Bool) (ps : List Part) (m n : ℕ) → IsLexed ps → ends_called (solids_of ps m n) ≡ false
+    → (rest : List Part) → IsLexed rest → IsBehind (text_of rest) → IsLexed (kept_parts value (solids_of ps m n) ++ rest)
+
+-- the parts of a source and its tokens
+pub record IsSpelledBy (source : List ℕ) (ps : List Part) : Type 0 where
+  pub lexed : IsLexed ps
+  pub solids : map (solid source) (lexemes_of source) ≡ solids ps
+
+-- these bytes are read as a token of this kind before some rest
+pub record IsReadAs (bytes : List ℕ) (k : TokenKind) : Type 0 where
+  pub old : List ℕ
+  pub read : part_at (bytes ++ old) ≡ Ok (Some k, length bytes)
+
+-- the tokens of a part of a source, by its parts
+pub part-solids : (source : List ℕ) (ps : List Part) (xs : List Lexeme) (s : IsSpelledBy source ps) (p : IsPartOf (lexemes_of source) xs)
+    → map (solid source) xs ≡ solids_of ps (length p.before) (length xs)
+part-solids source ps xs s p =
+    let all_ : solids ps ≡ map (solid source) p.before ++ (map (solid source) xs ++ map (solid source) p.behind) =
+        sym s.solids ∙ ap (map (solid source)) p.are ∙ map-append (solid source) p.before (xs ++ p.behind) ∙ ap (λ ys. map (solid source) p.before ++ ys) (map-append (solid source) xs p.behind) in
+    let front : drop (length p.before) (solids ps) ≡ map (solid source) xs ++ map (solid source) p.behind =
+        ap (drop (length p.before)) all_ ∙ ap (λ (n : ℕ). drop n (map (solid source) p.before ++ (map (solid source) xs ++ map (solid source) p.behind))) (sym (length-map p.before (solid source)))
+        ∙ drop-append_seam (map (solid source) p.before) (map (solid source) xs ++ map (solid source) p.behind) in
+    sym (ap (take (length xs)) front ∙ ap (λ (n : ℕ). take n (map (solid source) xs ++ map (solid source) p.behind)) (sym (length-map xs (solid source)))
+      ∙ take-append_seam (map (solid source) xs) (map (solid source) p.behind))
+
+-- where the last token is a function, its bracket is open
+called-open : (source : List ℕ) (cs : List ℕ) (xs : List Lexeme) → ends_called (map (solid source) xs) ≡ true → (ds : List ℕ) × (open_behind cs xs ≡ close_round ∷ ds)
+called-open source cs [] e = absurd (false≢true e)
+called-open source cs (x ∷ []) e = at x.kind e cs
+  where
+    at : (k : TokenKind) → is_function k ≡ true → (cs : List ℕ) → (ds : List ℕ) × (closers_after k cs ≡ close_round ∷ ds)
+    at kind.Function is [] = ([], refl)
+    at kind.Function is (c ∷ cs) = (c ∷ cs, refl)
+    at _ is cs = absurd (false≢true is)
+called-open source cs (x ∷ y ∷ xs) e = called-open source (closers_after x.kind cs) (y ∷ xs) e
+
+pub not-called : (source : List ℕ) (cs : List ℕ) (xs : List Lexeme) → ((ds : List ℕ) → open_behind cs xs ≡ close_round ∷ ds → ⊥) → ends_called (map (solid source) xs) ≡ false
+not-called source cs xs other = which (ends_called (map (solid source) xs)) refl
+  where
+    which : (b : Bool) → ends_called (map (solid source) xs) ≡ b → ends_called (map (solid source) xs) ≡ false
+    which false is = is
+    which true is = let c = called-open source cs xs is in absurd (other c.0 c.1)
+
+-- parts that begin with a sign which ends what stands before it
+pub record Ends (rest : List Part) : Type 0 where
+  pub first : ℕ
+  pub more : List ℕ
+  pub is : text_of rest ≡ first ∷ more
+  pub sign : is_sign first ≡ true
+  pub closed : (first == open_round) ≡ false
+  pub ender : is_ender first ≡ true
+  pub no_bang : (first == exclamation_mark) ≡ false
+  pub no_white : is_white first ≡ false
+
+ends-behind : (rest : List Part) → Ends rest → IsBehind (text_of rest)
+ends-behind rest e = subst IsBehind (sym e.is) (e.ender, λ bang. absurd (true≢false (sym (eq-eqb e.first exclamation_mark bang) ∙ e.no_bang)))
+
+sign-part : (b level : ℕ) → is_sign b ≡ true → (rest : List Part) → IsLexed rest → IsLexed (parts_of (sign_shown b level ∷ []) ++ rest)
+sign-part b level sign rest lexed = (sign_read (text_of rest) b sign, lexed)
+
+-- a name before a sign
+name-ends : (bytes : List ℕ) (k : TokenKind) → IsReadAs bytes k → is_plain (Some k) ≡ true → (c : ℕ) (cs : List ℕ) → is_sign c ≡ true → (c == open_round) ≡ false
+    → part_at (bytes ++ (c ∷ cs)) ≡ Ok (Some k, length bytes)
+name-ends bytes k read plain c cs sign closed =
+    let e = ends_sign (record { kind = Some k; bytes = bytes }) read.old c cs plain sign closed in
+    part_again bytes read.old (c ∷ cs) (Some k) e.alike e.looks read.read
+
+important-read : (rest : List Part) → Ends rest → part_at (codes "important" ++ text_of rest) ≡ Ok (Some kind.Ident, 9)
+important-read rest e = subst (λ (cs : List ℕ). part_at (codes "important" ++ cs) ≡ Ok (Some kind.Ident, 9)) (sym e.is)
+    (name-ends (codes "important") kind.Ident (record { old = []; read = refl }) refl e.first e.more e.sign e.closed)
+
+importance-lexed : (important : Bool) (rest : List Part) → IsLexed rest → Ends rest → IsLexed (parts_of (importance_shown important) ++ rest)
+importance-lexed false rest lexed e = lexed
+importance-lexed true rest lexed e = (rule_part (33 ∷ (codes "important" ++ text_of rest)) (Some (kind.Delim 33)) 1 refl (omega arith), (important-read rest e, lexed))
+
+importance-behind : (important : Bool) (rest : List Part) → Ends rest → IsBehind (text_of (parts_of (importance_shown important) ++ rest))
+importance-behind false rest e = ends-behind rest e
+importance-behind true rest e = (refl, λ _. refl)
+
+importance-no-white : (important : Bool) (rest : List Part) → Ends rest → white_unit (text_of (parts_of (importance_shown important) ++ rest)) ≡ 0
+importance-no-white true rest e = refl
+importance-no-white false rest e = ap white_unit e.is ∙ white_none e.first e.more e.no_white
+  where
+    white_none : (c : ℕ) (cs : List ℕ) → is_white c ≡ false → white_unit (c ∷ cs) ≡ 0
+    white_none c cs none = rw none refl
+
+-- a declaration of a source, by what is read of it
+pub record IsReadDeclaration (source : List ℕ) (d : DeclItem) : Type 0 where
+  pub name : IsReadAs (text_at source d.name) kind.Ident
+  pub part : IsPartOf (lexemes_of source) (tokens_in source d.value)
+  pub ends : open_behind (close_curly ∷ []) (tokens_in source d.value) ≡ close_curly ∷ []
+  pub lone : AllByRecursion IsLoneBeforeWhite (tokens_in source d.value)
+
+value-lexed : KeptLexed → (source : List ℕ) (ps : List Part) → IsSpelledBy source ps → (d : DeclItem) → IsReadDeclaration source d → (rest : List Part) → IsLexed rest → IsBehind (text_of rest)
+    → IsLexed (parts_of (value_shown source (tokens_in source d.value)) ++ rest)
+value-lexed kept_lexed source ps s d read rest lexed behind =
+    let xs = tokens_in source d.value in
+    let are = part-solids source ps xs s read.part in
+    let other : ends_called (map (solid source) xs) ≡ false =
+        not-called source (close_curly ∷ []) xs (λ ds e. absurd (let h = sym read.ends ∙ e in cc)) in
+    let here = kept_lexed true ps (length read.part.before) (length xs) s.lexed (ap ends_called (sym are) ∙ other) rest lexed behind in
+    subst (λ parts. IsLexed (parts ++ rest)) (ap (kept_parts true) (sym are) ∙ value-parts source xs read.lone) here
+
+declaration-lexed : KeptLexed → (source : List ℕ) (ps : List Part) → IsSpelledBy source ps → (d : DeclItem) → IsReadDeclaration source d → (rest : List Part) → IsLexed rest → Ends rest
+    → IsLexed (parts_of (declaration_shown source d) ++ rest)
+declaration-lexed kept_lexed source ps s d read rest lexed e =
+    let xs = tokens_in source d.value in
+    let important = parts_of (importance_shown d.decl.important) in
+    let value = parts_of (value_shown source xs) in
+    let behind : IsLexed (important ++ rest) = importance-lexed d.decl.important rest lexed e in
+    let valued : IsLexed (value ++ (important ++ rest)) = value-lexed kept_lexed source ps s d read (important ++ rest) behind (importance-behind d.decl.important rest e) in
+    let spaced : IsLexed (gap_parts (kind.Sign colon) (colon_gap d.decl.value xs) ++ (value ++ (important ++ rest))) = colon-lexed d.decl.value xs valued in
+    let all_ : parts_of (value_shown source xs ++ importance_shown d.decl.important) ++ rest ≡ value ++ (important ++ rest) =
+        ap (λ parts. parts ++ rest) (parts-append (value_shown source xs) (importance_shown d.decl.important)) ∙ append_assoc value important rest in
+    let inside : IsLexed (gap_parts (kind.Sign colon) (colon_gap d.decl.value xs) ++ parts_of (value_shown source xs ++ importance_shown d.decl.important) ++ rest) =
+        subst IsLexed (sym (append_assoc (gap_parts (kind.Sign colon) (colon_gap d.decl.value xs)) (parts_of (value_shown source xs ++ importance_shown d.decl.important)) rest
+          ∙ ap (λ parts. gap_parts (kind.Sign colon) (colon_gap d.decl.value xs) ++ parts) all_)) spaced in
+    (name-ends (text_at source d.name) kind.Ident read.name refl colon (text_of (gap_parts (kind.Sign colon) (colon_gap d.decl.value xs) ++ parts_of (value_shown source xs ++ importance_shown d.decl.important) ++ rest)) refl refl,
+      (sign_read (text_of (gap_parts (kind.Sign colon) (colon_gap d.decl.value xs) ++ parts_of (value_shown source xs ++ importance_shown d.decl.important) ++ rest)) colon refl, inside))
+  where
+    colon-lexed : (v : List ℕ) (xs : List Lexeme) → IsLexed (parts_of (value_shown source xs) ++ (parts_of (importance_shown d.decl.important) ++ rest))
+        → IsLexed (gap_parts (kind.Sign colon) (colon_gap v xs) ++ (parts_of (value_shown source xs) ++ (parts_of (importance_shown d.decl.important) ++ rest)))
+    colon-lexed [] xs valued = valued
+    colon-lexed (c ∷ cs) [] valued = (space_read (text_of (parts_of (importance_shown d.decl.important) ++ rest)) (importance-no-white d.decl.important rest e), valued)
+    colon-lexed (c ∷ cs) (x ∷ xs) valued = valued
