@@ -23,6 +23,8 @@ use Rattle.css_tokens.specs.Solids.{IsBehind, ends_called, is_ender, is_function
 use Rattle.css_tokens.proofs.EndsAnywhere.{ends_sign, sign_read}
 use Rattle.css_tokens.proofs.EndsLemmas.{is_plain, space_read}
 use Rattle.css_tokens.proofs.KeptParts.{kept_parts}
+use Rattle.css_tokens.proofs.RunLemmas.{run_none}
+use Rattle.css_model.specs.declared.token.Gap.TheVariants as gap
 use Rattle.css_tokens.proofs.RulesAgain.{part_again, rule_part}
 use Rattle.css_print.proofs.BackTokens.{Shown, colon_gap, declaration_shown, importance_shown, joined, rule_shown, selector_shown, selector_token, sign_shown, value_shown}
 use Rattle.css_print.proofs.FrontChain.{gap_parts, parts_of, token_part}
@@ -159,3 +161,69 @@ declaration-lexed kept_lexed source ps s d read rest lexed e =
     colon-lexed [] xs valued = valued
     colon-lexed (c ∷ cs) [] valued = (space_read (text_of (parts_of (importance_shown d.decl.important) ++ rest)) (importance-no-white d.decl.important rest e), valued)
     colon-lexed (c ∷ cs) (x ∷ xs) valued = valued
+
+-- a sign that ends what stands before it
+pub record IsEnd (c : ℕ) : Type 0 where
+  pub sign : is_sign c ≡ true
+  pub closed : (c == open_round) ≡ false
+  pub ender : is_ender c ≡ true
+  pub no_bang : (c == exclamation_mark) ≡ false
+  pub no_white : is_white c ≡ false
+
+sign-ends : (b level : ℕ) → IsEnd b → (more : List Shown) (rest : List Part) → Ends (parts_of (sign_shown b level ∷ more) ++ rest)
+sign-ends b level e more rest = record {
+    first = b; more = text_of ((gap_parts (kind.Sign b) gap.Nothing ++ parts_of more) ++ rest); is = refl;
+    sign = e.sign; closed = e.closed; ender = e.ender; no_bang = e.no_bang; no_white = e.no_white
+  }
+
+-- what is shown for a part of a rule is read where it stands before such a sign
+abbrev pub IsReadBefore : List Shown → Type 0
+IsReadBefore ss = (rest : List Part) → IsLexed rest → Ends rest → IsLexed (parts_of ss ++ rest)
+
+joined-lexed : (b level : ℕ) → IsEnd b → (parts : List (List Shown)) → AllByRecursion IsReadBefore parts → IsReadBefore (joined (sign_shown b level) parts)
+joined-lexed b level e [] each rest lexed ends = lexed
+joined-lexed b level e (part ∷ []) (one, later) rest lexed ends = one rest lexed ends
+joined-lexed b level e (part ∷ next ∷ parts) (one, later) rest lexed ends =
+    let more = joined (sign_shown b level) (next ∷ parts) in
+    let behind : IsLexed (parts_of (sign_shown b level ∷ more) ++ rest) =
+        (sign_read (text_of (parts_of more ++ rest)) b e.sign, joined-lexed b level e (next ∷ parts) later rest lexed ends) in
+    subst IsLexed (sym (ap (λ ps. ps ++ rest) (parts-append part (sign_shown b level ∷ more)) ∙ append_assoc (parts_of part) (parts_of (sign_shown b level ∷ more)) rest))
+      (one (parts_of (sign_shown b level ∷ more) ++ rest) behind (sign-ends b level e more rest))
+
+-- a selector of one token, or of a dot and a name
+pub record IsOneToken (source : List ℕ) (xs : List Lexeme) : Type 0 where
+  pub token : Lexeme
+  pub are : xs ≡ token ∷ []
+  pub read : IsReadAs (text_at source token.span) token.kind
+  pub plain : is_plain (Some token.kind) ≡ true
+
+pub record IsDotName (source : List ℕ) (xs : List Lexeme) : Type 0 where
+  pub sign : Lexeme
+  pub name : Lexeme
+  pub are : xs ≡ sign ∷ name ∷ []
+  pub is_dot : sign.kind ≡ kind.Delim dot
+  pub text : text_at source sign.span ≡ dot ∷ []
+  pub read : IsReadAs (text_at source name.span) name.kind
+  pub plain : is_plain (Some name.kind) ≡ true
+  pub no_digit : (rest : List ℕ) → digit_unit (text_at source name.span ++ rest) ≡ 0
+
+abbrev pub IsReadSelector : List ℕ → SelItem → Type 0
+IsReadSelector source s = IsOneToken source (tokens_in source s.piece) ⊎ IsDotName source (tokens_in source s.piece)
+
+dot-read : (cs : List ℕ) → digit_unit cs ≡ 0 → part_at (dot ∷ cs) ≡ Ok (Some (kind.Delim dot), 1)
+dot-read cs none = rule_part (dot ∷ cs) (Some (kind.Delim dot)) 1 (rw (run_none digit_unit cs none) refl) (omega arith)
+
+token-lexed : (source : List ℕ) (x : Lexeme) → IsReadAs (text_at source x.span) x.kind → is_plain (Some x.kind) ≡ true → IsReadBefore (selector_token source x ∷ [])
+token-lexed source x read plain rest lexed e =
+    (ap (λ cs. part_at (text_at source x.span ++ cs)) e.is ∙ name-ends (text_at source x.span) x.kind read plain e.first e.more e.sign e.closed, lexed)
+
+selector-lexed : (source : List ℕ) (s : SelItem) → IsReadSelector source s → IsReadBefore (selector_shown source s)
+selector-lexed source s (inl one) rest lexed e =
+    subst (λ xs. IsLexed (parts_of (map (selector_token source) xs) ++ rest)) (sym one.are) (token-lexed source one.token one.read one.plain rest lexed e)
+selector-lexed source s (inr two) rest lexed e =
+    let name = token-lexed source two.name two.read two.plain rest lexed e in
+    let behind = text_at source two.name.span ++ text_of rest in
+    let here : part_at (text_at source two.sign.span ++ behind) ≡ Ok (Some two.sign.kind, length (text_at source two.sign.span)) =
+        ap (λ cs. part_at (cs ++ behind)) two.text ∙ dot-read behind (two.no_digit (text_of rest))
+        ∙ ap (λ k. Ok (Some k, 1)) (sym two.is_dot) ∙ ap (λ (cs : List ℕ). Ok (Some two.sign.kind, length cs)) (sym two.text) in
+    subst (λ xs. IsLexed (parts_of (map (selector_token source) xs) ++ rest)) (sym two.are) (here, name)
