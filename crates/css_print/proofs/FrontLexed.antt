@@ -11,7 +11,7 @@ use Rattle.css_model.specs.declared.token.Lexeme.{Lexeme}
 use Rattle.css_model.specs.declared.token.TokenKind.{TokenKind}
 use Rattle.css_model.specs.declared.token.TokenKind.TheVariants as kind
 use Rattle.css_model.specs.Characters.{close_curly, close_round, colon, comma, dot, exclamation_mark, is_sign, is_white, open_curly, open_round, semicolon, space}
-use Rattle.css_model.specs.Kept.{solid}
+use Rattle.css_model.specs.Kept.{is_lone, solid}
 use Rattle.css_model.specs.RuleParts.{RuleParts}
 use Rattle.css_model.specs.Source.{text_at}
 use Rattle.css_model.specs.Spelling.{lexemes_of, tokens_in}
@@ -20,18 +20,20 @@ use Rattle.css_model.specs.Tokens.{Part, text_of}
 use Rattle.css_model.specs.Units.{digit_unit, white_unit}
 use Rattle.css_tokens.specs.Lexed.{IsLexed}
 use Rattle.css_tokens.specs.Solids.{IsBehind, ends_called, is_ender, is_function, solids, solids_of}
-use Rattle.css_tokens.proofs.EndsAnywhere.{ends_sign, sign_read}
+use Rattle.css_tokens.proofs.EndsAnywhere.{ends_anywhere, ends_sign, sign_read}
+use Rattle.css_tokens.proofs.RowsAgain.{rows_again}
+use Rattle.css_tokens.specs.Alike.{EndsAlike}
 use Rattle.css_tokens.proofs.EndsLemmas.{is_plain, space_read}
 use Rattle.css_tokens.proofs.KeptParts.{kept_parts}
 use Rattle.css_tokens.proofs.RunLemmas.{run_none}
 use Rattle.css_model.specs.declared.token.Gap.TheVariants as gap
 use Rattle.css_tokens.proofs.RulesAgain.{part_again, rule_part}
-use Rattle.css_print.proofs.BackTokens.{Shown, colon_gap, declaration_shown, importance_shown, joined, rule_shown, selector_shown, selector_token, sign_shown, value_shown}
+use Rattle.css_print.proofs.BackTokens.{Shown, all_shown, inner, item_shown, kept_shown, last_of_item, sheet_shown, colon_gap, declaration_shown, importance_shown, joined, rule_shown, selector_shown, selector_token, sign_shown, value_shown}
 use Rattle.css_print.proofs.FrontChain.{gap_parts, parts_of, token_part}
 use Rattle.css_print.proofs.FrontItems.{IsPartOf}
 use Rattle.css_print.proofs.FrontLevels.{open_behind}
 use Rattle.css_print.proofs.FrontParts.{closers_after}
-use Rattle.css_print.proofs.FrontReads.{value-parts}
+use Rattle.css_print.proofs.FrontReads.{kept-parts, value-parts}
 use Rattle.css_print.proofs.FrontTexts.{IsLoneBeforeWhite, parts-append, text-append}
 
 -- kept text is read where it stands before what may stand behind it
@@ -227,3 +229,86 @@ selector-lexed source s (inr two) rest lexed e =
         ap (λ cs. part_at (cs ++ behind)) two.text ∙ dot-read behind (two.no_digit (text_of rest))
         ∙ ap (λ k. Ok (Some k, 1)) (sym two.is_dot) ∙ ap (λ (cs : List ℕ). Ok (Some two.sign.kind, length cs)) (sym two.text) in
     subst (λ xs. IsLexed (parts_of (map (selector_token source) xs) ++ rest)) (sym two.are) (here, name)
+
+-- a rule of a source, by what is read of it
+pub record IsReadRuleOf (source : List ℕ) (r : RuleParts) : Type 0 where
+  pub selectors : AllByRecursion (IsReadSelector source) r.selectors
+  pub decls : AllByRecursion (IsReadDeclaration source) r.decls
+
+rule-lexed : KeptLexed → (source : List ℕ) (ps : List Part) → IsSpelledBy source ps → (r : RuleParts) → IsReadRuleOf source r → (rest : List Part) → IsLexed rest
+    → IsLexed (parts_of (rule_shown source r) ++ rest)
+rule-lexed kept_lexed source ps s r read rest lexed =
+    let prelude = joined (sign_shown comma 0) (map (selector_shown source) r.selectors) in
+    let inside = joined (sign_shown semicolon 1) (map (declaration_shown source) r.decls) in
+    let shut : IsLexed (parts_of (sign_shown close_curly 1 ∷ []) ++ rest) = sign-part close_curly 1 refl rest lexed in
+    let body : IsLexed (parts_of inside ++ (parts_of (sign_shown close_curly 1 ∷ []) ++ rest)) =
+        joined-lexed semicolon 1 semicolon-end (map (declaration_shown source) r.decls) (decls r.decls read.decls) (parts_of (sign_shown close_curly 1 ∷ []) ++ rest) shut (sign-ends close_curly 1 close-end [] rest) in
+    let opened : IsLexed (parts_of (sign_shown open_curly 0 ∷ inside) ++ (parts_of (sign_shown close_curly 1 ∷ []) ++ rest)) =
+        (sign_read (text_of (parts_of inside ++ (parts_of (sign_shown close_curly 1 ∷ []) ++ rest))) open_curly refl, body) in
+    let whole : IsLexed (parts_of prelude ++ (parts_of (sign_shown open_curly 0 ∷ inside) ++ (parts_of (sign_shown close_curly 1 ∷ []) ++ rest))) =
+        joined-lexed comma 0 comma-end (map (selector_shown source) r.selectors) (selectors r.selectors read.selectors) (parts_of (sign_shown open_curly 0 ∷ inside) ++ (parts_of (sign_shown close_curly 1 ∷ []) ++ rest))
+          opened (sign-ends open_curly 0 open-end inside (parts_of (sign_shown close_curly 1 ∷ []) ++ rest)) in
+    subst IsLexed (sym (
+      ap (λ parts. parts ++ rest) (parts-append (prelude ++ sign_shown open_curly 0 ∷ inside) (sign_shown close_curly 1 ∷ []))
+      ∙ ap (λ parts. (parts ++ parts_of (sign_shown close_curly 1 ∷ [])) ++ rest) (parts-append prelude (sign_shown open_curly 0 ∷ inside))
+      ∙ append_assoc (parts_of prelude ++ parts_of (sign_shown open_curly 0 ∷ inside)) (parts_of (sign_shown close_curly 1 ∷ [])) rest
+      ∙ append_assoc (parts_of prelude) (parts_of (sign_shown open_curly 0 ∷ inside)) (parts_of (sign_shown close_curly 1 ∷ []) ++ rest))) whole
+  where
+    semicolon-end : IsEnd semicolon
+    semicolon-end = record { sign = refl; closed = refl; ender = refl; no_bang = refl; no_white = refl }
+    comma-end : IsEnd comma
+    comma-end = record { sign = refl; closed = refl; ender = refl; no_bang = refl; no_white = refl }
+    open-end : IsEnd open_curly
+    open-end = record { sign = refl; closed = refl; ender = refl; no_bang = refl; no_white = refl }
+    close-end : IsEnd close_curly
+    close-end = record { sign = refl; closed = refl; ender = refl; no_bang = refl; no_white = refl }
+    decls : (ds : List DeclItem) → AllByRecursion (IsReadDeclaration source) ds → AllByRecursion IsReadBefore (map (declaration_shown source) ds)
+    decls [] each = tt
+    decls (d ∷ ds) (one, later) = (declaration-lexed kept_lexed source ps s d one, decls ds later)
+    selectors : (ss : List SelItem) → AllByRecursion (IsReadSelector source) ss → AllByRecursion IsReadBefore (map (selector_shown source) ss)
+    selectors [] each = tt
+    selectors (x ∷ ss) (one, later) = (selector-lexed source x one, selectors ss later)
+
+-- a kept item of a source, by what is read of it
+pub record IsReadPiece (source : List ℕ) (xs : List Lexeme) : Type 0 where
+  pub part : IsPartOf (lexemes_of source) xs
+  pub ends : open_behind [] xs ≡ []
+  pub lone : AllByRecursion IsLoneBeforeWhite xs
+
+-- it is read before nothing
+kept-alone : KeptLexed → (source : List ℕ) (ps : List Part) → IsSpelledBy source ps → (xs : List Lexeme) → IsReadPiece source xs → IsLexed (parts_of (kept_shown source xs) ++ [])
+kept-alone kept_lexed source ps s xs read =
+    let are = part-solids source ps xs s read.part in
+    let other : ends_called (map (solid source) xs) ≡ false = not-called source [] xs (λ ds e. absurd (let n : 0 ≡ suc (length ds) = ap length (sym read.ends ∙ e) in omega (arith, n))) in
+    let here = kept_lexed false ps (length read.part.before) (length xs) s.lexed (ap ends_called (sym are) ∙ other) [] tt tt in
+    subst (λ parts. IsLexed (parts ++ [])) (ap (kept_parts false) (sym are) ∙ kept-parts source xs read.lone) here
+
+-- and before anything, where it ends with a sign
+pub record IsEndedBySign (xs : List Lexeme) : Type 0 where
+  pub front : List Lexeme
+  pub last : Lexeme
+  pub sign : ℕ
+  pub are : xs ≡ front ++ last ∷ []
+  pub is_sign : last.kind ≡ kind.Sign sign
+
+shown-last : (others last : Lexeme → Shown) (front : List Lexeme) (x : Lexeme) → all_shown others last (front ++ x ∷ []) ≡ map others front ++ last x ∷ []
+shown-last others last [] x = refl
+shown-last others last (y ∷ []) x = refl
+shown-last others last (y ∷ z ∷ front) x = ap (λ ss. others y ∷ ss) (shown-last others last (z ∷ front) x)
+
+kept-lexed : KeptLexed → (source : List ℕ) (ps : List Part) → IsSpelledBy source ps → (xs : List Lexeme) → IsReadPiece source xs → IsEndedBySign xs → (rest : List Part) → IsLexed rest
+    → IsLexed (parts_of (kept_shown source xs) ++ rest)
+kept-lexed kept_lexed source ps s xs read e rest lexed =
+    let end : Part = record { kind = Some e.last.kind; bytes = text_at source e.last.span } in
+    let front = parts_of (map (inner source) e.front) in
+    let are : parts_of (kept_shown source xs) ≡ front ++ end ∷ [] =
+        ap (λ ys. parts_of (kept_shown source ys)) e.are ∙ ap parts_of (shown-last (inner source) (last_of_item source) e.front e.last)
+        ∙ parts-append (map (inner source) e.front) (last_of_item source e.last ∷ [])
+        ∙ ap (λ gaps. front ++ end ∷ (gaps ++ [])) (no-gap e.last.kind e.is_sign) in
+    let alone : IsLexed (front ++ end ∷ []) = subst IsLexed (append-nil (parts_of (kept_shown source xs)) ∙ are) (kept-alone kept_lexed source ps s xs read) in
+    let anywhere : EndsAlike end [] (text_of rest) = subst (λ k. EndsAlike (record { kind = Some k; bytes = text_at source e.last.span }) [] (text_of rest)) (sym e.is_sign)
+        (ends_anywhere (record { kind = Some (kind.Sign e.sign); bytes = text_at source e.last.span }) [] (text_of rest) refl refl refl) in
+    subst IsLexed (sym (ap (λ parts. parts ++ rest) are ∙ append_assoc front (end ∷ []) rest)) (rows_again front end [] rest alone lexed anywhere)
+  where
+    no-gap : (k : TokenKind) → k ≡ kind.Sign e.sign → gap_parts k (cond (is_lone k) gap.White gap.Nothing) ≡ []
+    no-gap k is = ap (λ k. gap_parts k (cond (is_lone k) gap.White gap.Nothing)) is
