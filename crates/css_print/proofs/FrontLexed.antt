@@ -6,6 +6,8 @@ use Rattle.std.proofs.lemmas.Bool.{eq-eqb, false≢true, true≢false}
 use Rattle.std.proofs.lemmas.List.{append-nil, append_assoc, length-map, map-append}
 use Rattle.std.proofs.Math.Seq.{take-append_seam, drop-append_seam}
 use Rattle.css_model.specs.declared.sheet.DeclItem.{DeclItem}
+use Rattle.css_model.specs.declared.sheet.Item.{Item}
+use Rattle.css_model.specs.declared.sheet.Item.TheVariants.{Rule, KeptRule, KeptBlock}
 use Rattle.css_model.specs.declared.sheet.SelItem.{SelItem}
 use Rattle.css_model.specs.declared.token.Lexeme.{Lexeme}
 use Rattle.css_model.specs.declared.token.TokenKind.{TokenKind}
@@ -312,3 +314,39 @@ kept-lexed kept_lexed source ps s xs read e rest lexed =
   where
     no-gap : (k : TokenKind) → k ≡ kind.Sign e.sign → gap_parts k (cond (is_lone k) gap.White gap.Nothing) ≡ []
     no-gap k is = ap (λ k. gap_parts k (cond (is_lone k) gap.White gap.Nothing)) is
+
+-- items of a source, of which the last alone may end by the end of the source
+abbrev pub IsReadItem : List ℕ → Item → Type 0
+IsReadItem source (Rule r) = IsReadRuleOf source r
+IsReadItem source (KeptRule k) = IsReadPiece source (tokens_in source k.piece)
+IsReadItem source (KeptBlock piece) = IsReadPiece source (tokens_in source piece)
+
+abbrev pub IsEndedItem : List ℕ → Item → Type 0
+IsEndedItem source (Rule r) = ⊤
+IsEndedItem source (KeptRule k) = IsEndedBySign (tokens_in source k.piece)
+IsEndedItem source (KeptBlock piece) = IsEndedBySign (tokens_in source piece)
+
+abbrev pub AreReadItems : List ℕ → List Item → Type 0
+AreReadItems source [] = ⊤
+AreReadItems source (item ∷ []) = IsReadItem source item
+AreReadItems source (item ∷ next ∷ items) = IsReadItem source item × IsEndedItem source item × AreReadItems source (next ∷ items)
+
+last-lexed : KeptLexed → (source : List ℕ) (ps : List Part) → IsSpelledBy source ps → (item : Item) → IsReadItem source item → IsLexed (parts_of (item_shown source item) ++ [])
+last-lexed kept_lexed source ps s (Rule r) read = rule-lexed kept_lexed source ps s r read [] tt
+last-lexed kept_lexed source ps s (KeptRule k) read = kept-alone kept_lexed source ps s (tokens_in source k.piece) read
+last-lexed kept_lexed source ps s (KeptBlock piece) read = kept-alone kept_lexed source ps s (tokens_in source piece) read
+
+item-lexed : KeptLexed → (source : List ℕ) (ps : List Part) → IsSpelledBy source ps → (item : Item) → IsReadItem source item → IsEndedItem source item → (rest : List Part) → IsLexed rest
+    → IsLexed (parts_of (item_shown source item) ++ rest)
+item-lexed kept_lexed source ps s (Rule r) read ended rest lexed = rule-lexed kept_lexed source ps s r read rest lexed
+item-lexed kept_lexed source ps s (KeptRule k) read ended rest lexed = kept-lexed kept_lexed source ps s (tokens_in source k.piece) read ended rest lexed
+item-lexed kept_lexed source ps s (KeptBlock piece) read ended rest lexed = kept-lexed kept_lexed source ps s (tokens_in source piece) read ended rest lexed
+
+-- The parts of a printed sheet are read where they stand.
+pub sheet-lexed : KeptLexed → (source : List ℕ) (ps : List Part) → IsSpelledBy source ps → (items : List Item) → AreReadItems source items → IsLexed (parts_of (sheet_shown source items))
+sheet-lexed kept_lexed source ps s [] read = tt
+sheet-lexed kept_lexed source ps s (item ∷ []) read =
+    subst IsLexed (sym (parts-append (item_shown source item) [])) (last-lexed kept_lexed source ps s item read)
+sheet-lexed kept_lexed source ps s (item ∷ next ∷ items) (read, ended, later) =
+    subst IsLexed (sym (parts-append (item_shown source item) (sheet_shown source (next ∷ items))))
+      (item-lexed kept_lexed source ps s item read ended (parts_of (sheet_shown source (next ∷ items))) (sheet-lexed kept_lexed source ps s (next ∷ items) later))

@@ -23,6 +23,7 @@ pub mod FrontItems
 pub mod FrontLevels
 pub mod FrontLexed
 pub mod FrontParts
+pub mod FrontPrint
 pub mod FrontReads
 pub mod FrontSheet
 pub mod FrontTexts
