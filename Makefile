@@ -1,7 +1,7 @@
 # make            proves and builds the program, and puts it here as ./cssmin
 # make check      the whole gate: every proof, must-fail edit, test and program
 # make install    installs it below PREFIX (/usr/local)
-# make bench      measures it against cat on the same files
+# make bench      measures it against cat, and its tokens against wc -c, on the same files
 
 PREFIX ?= /usr/local
 RT ?= rt
@@ -22,7 +22,9 @@ install: cssmin
 	install -D -m 755 cssmin '$(DESTDIR)$(PREFIX)/bin/cssmin'
 
 bench: cssmin
+	cd crates/token_count && $(RT) run </dev/null
 	python3 bench/min.py ./cssmin examples/*.css
+	python3 bench/tokens.py crates/token_count/out/token_count
 
 clean:
 	rm -rf cssmin crates/*/out

@@ -40,10 +40,10 @@ in_map (y ∷ ss) x h = cases (Contains-cons_cases y ss x h) (in_map ss x)
 
 -- ---- What equal values are made of
 
-some-same : {A : Type 0} {x y : A} → Some x ≡ Some y → x ≡ y
+pub some-same : {A : Type 0} {x y : A} → Some x ≡ Some y → x ≡ y
 some-same h = cc
 
-rule-same : {r s : RuleParts} → Rule r ≡ Rule s → r ≡ s
+pub rule-same : {r s : RuleParts} → Rule r ≡ Rule s → r ≡ s
 rule-same h = cc
 
 -- ---- The entries of one declaration, of a rule's declarations and of a kept item
@@ -56,7 +56,7 @@ same_entry e d s p dh sh ph =
 same_place : (p : Place) (i k : ℕ) → p.item ≡ i → p.position ≡ k → p ≡ record { item = i; position = k }
 same_place p i k ih kh = ap₂ (λ (n m : ℕ). record { item = n; position = m }) ih kh
 
-one-words : (matching : List SelectorParts) (p : Place) (d : Decl) (e : Entry) → Contains (entries_of_decl matching p d) e → (s : SelectorParts) × Contains matching s × (e.decl ≡ d) × (e.specificity ≡ specificity_of s) × (e.place ≡ p)
+pub one-words : (matching : List SelectorParts) (p : Place) (d : Decl) (e : Entry) → Contains (entries_of_decl matching p d) e → (s : SelectorParts) × Contains matching s × (e.decl ≡ d) × (e.specificity ≡ specificity_of s) × (e.place ≡ p)
 one-words [] p d e h = absurd (Contains-nil e h)
 one-words (s ∷ matching) p d e h = cases (Contains-cons_cases (record { decl = d; specificity = specificity_of s; place = p }) (entries_of_decl matching p d) e h) (one-words matching p d e)
   where
@@ -68,7 +68,7 @@ one-words (s ∷ matching) p d e h = cases (Contains-cons_cases (record { decl =
         let w : (t : SelectorParts) × Contains matching t × (e.decl ≡ d) × (e.specificity ≡ specificity_of t) × (e.place ≡ p) = rest g in
         (w.0, Contains-there s matching w.0 w.1, w.2, w.3, w.4)
 
-words-one : (matching : List SelectorParts) (p : Place) (d : Decl) (e : Entry) (s : SelectorParts) → Contains matching s → e.decl ≡ d → e.specificity ≡ specificity_of s → e.place ≡ p → Contains (entries_of_decl matching p d) e
+pub words-one : (matching : List SelectorParts) (p : Place) (d : Decl) (e : Entry) (s : SelectorParts) → Contains matching s → e.decl ≡ d → e.specificity ≡ specificity_of s → e.place ≡ p → Contains (entries_of_decl matching p d) e
 words-one [] p d e s h dh sh ph = absurd (Contains-nil s h)
 words-one (t ∷ matching) p d e s h dh sh ph = cases (Contains-cons_cases t matching s h) (λ g. words-one matching p d e s g dh sh ph)
   where

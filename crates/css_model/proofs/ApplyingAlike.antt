@@ -15,7 +15,7 @@ use Rattle.css_model.specs.SelectorParts.{SelectorParts}
 use Rattle.css_model.specs.Specificity.{specificity_of}
 
 -- places do not show
-one_decl : (matching : List SelectorParts) (p q : Place) (d : Decl) → map outcome (entries_of_decl matching p d) ≡ map outcome (entries_of_decl matching q d)
+pub one_decl : (matching : List SelectorParts) (p q : Place) (d : Decl) → map outcome (entries_of_decl matching p d) ≡ map outcome (entries_of_decl matching q d)
 one_decl [] p q d = refl
 one_decl (s ∷ matching) p q d = ap (λ ws. record { name = d.name; value = d.value; important = d.important; specificity = specificity_of s } ∷ ws) (one_decl matching p q d)
 

@@ -60,7 +60,7 @@ at-before : (item position : ℕ) (d : Decl) (e f : Entry) → (e.place.item ≡
 unfolding IsAt
 at-before item position d e f i p q at = inr (inr (i ∙ sym at.0, p ∙ sym at.1, q ∙ sym at.2))
 
-decl-in_order : (matching : List SelectorParts) (item position : ℕ) (d : Decl) → InOrder (entries_of_decl matching (record { item = item; position = position }) d)
+pub decl-in_order : (matching : List SelectorParts) (item position : ℕ) (d : Decl) → InOrder (entries_of_decl matching (record { item = item; position = position }) d)
 decl-in_order [] item position d = tt
 decl-in_order (s ∷ matching) item position d =
     let e : Entry = record { decl = d; specificity = specificity_of s; place = record { item = item; position = position } } in
@@ -151,10 +151,10 @@ InOrder-filter p [] h = tt
 InOrder-filter p (x ∷ xs) h = cond_both (p x) (x ∷ filter p xs) (filter p xs) InOrder (λ _. (All-kept (Before x) p xs h.0, InOrder-filter p xs h.1)) (λ _. InOrder-filter p xs h.1)
 
 -- the best of a list without places, the last one where several are equal
-abbrev weight : Winner → List ℕ
+abbrev pub weight : Winner → List ℕ
 weight w = (if w.important then 1 else 0) ∷ w.specificity.a ∷ w.specificity.b ∷ w.specificity.c ∷ []
 
-abbrev better : Winner → Option Winner → Option Winner
+abbrev pub better : Winner → Option Winner → Option Winner
 better w None = Some w
 better w (Some v) = cond (exceeds (weight w) (weight v)) (Some w) (Some v)
 

@@ -14,7 +14,7 @@ use Rattle.css_model.specs.declared.selector.Flag.TheVariants.{Link, Visited}
 use Rattle.css_model.specs.Document.{Attribute, none, first, Document, IsText, IsLegalElement, IsLegal}
 
 -- a test of texts
-text : (numbers : List ℕ) → list_all scalar numbers ≡ true → IsText numbers
+pub text : (numbers : List ℕ) → list_all scalar numbers ≡ true → IsText numbers
 text numbers h = (Decides-by_and scalar IsScalar (list_all scalar) (λ c. (λ g. g, λ g. g)) refl (λ _ _. refl) numbers).0 h
 
 -- two members that differ
@@ -24,7 +24,7 @@ pair R x y h zero (suc zero) d l m = h
 pair R x y h zero (suc (suc j)) d l m = absurd (omega arith)
 pair R x y h (suc i) j d l m = absurd (omega arith)
 
-single : {X : Type 0} (R : X → X → Type 0) (x : X) → AllPairs R (x ∷ [])
+pub single : {X : Type 0} (R : X → X → Type 0) (x : X) → AllPairs R (x ∷ [])
 single R x i j d l m = absurd (omega arith)
 
 -- `<div id=a class=b><p id=b></p></div>`
@@ -33,7 +33,7 @@ small = document (element (codes "div") (attribute (codes "id") (codes "a") ∷ 
     (first (element (codes "p") (attribute (codes "id") (codes "b") ∷ [])) none none)
 
 -- a test of an attribute's texts
-attribute_texts : (name value : List ℕ) → list_all scalar name ≡ true → list_all scalar value ≡ true → IsText name × IsText value
+pub attribute_texts : (name value : List ℕ) → list_all scalar name ≡ true → list_all scalar value ≡ true → IsText name × IsText value
 attribute_texts name value h g = (text name h, text value g)
 
 div_is_legal : IsLegalElement small.root

@@ -6,13 +6,18 @@ pub mod CascadeWords
 mod FamilyExamples
 pub mod Greatest
 pub mod InOrder
+pub mod JoiningSets
 pub mod LegalExamples
 pub mod MatchingExamples
 pub mod MatchingWords
+pub mod Keeping
 pub mod Members
+mod OrderExamples
 mod PlainExamples
 pub mod PlainLemmas
 pub mod Ranking
 pub mod Same
+mod SheetExamples
 pub mod SliceRange
+pub mod Soundness
 mod TokenExamples

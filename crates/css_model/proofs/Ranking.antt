@@ -1,7 +1,7 @@
 -- The order of entries by their ranks: nothing outranks itself, outranking is transitive, and of
 -- entries with different ranks one outranks the other.
-use Rattle.std.proofs.Common.{◌≡◌, ◌⊎◌, ℕ, ◌<◌, true, false, List, [], ◌∷◌, length, refl, ap₂, ◌∙◌, inl, inr, arith}
-use Rattle.std.proofs.lemmas.Bool.{false≢true}
+use Rattle.std.proofs.Common.{◌≡◌, ◌⊎◌, ℕ, ◌<◌, Bool, true, false, List, [], ◌∷◌, length, refl, sym, ap, ap₂, ◌∙◌, inl, inr, arith}
+use Rattle.std.proofs.lemmas.Bool.{false≢true, false_from_ne_true}
 use Rattle.std.proofs.lemmas.Bool.Decides.{nat_tests}
 use Rattle.css_model.specs.Cascade.{exceeds}
 
@@ -43,3 +43,11 @@ exceeds-neither (x ∷ xs) (y ∷ ys) l h g =
     let h' : exceeds xs ys ≡ false = grind (arith, nat_tests) in
     let g' : exceeds ys xs ≡ false = grind (arith, nat_tests) in
     ap₂ (λ n ns. n ∷ ns) e (exceeds-neither xs ys (omega arith) h' g')
+
+-- of lists of one length, what does not exceed the second does not exceed what the second does not
+pub exceeds-not_transitive : (xs ys zs : List ℕ) → length xs ≡ length ys → exceeds xs ys ≡ false → exceeds ys zs ≡ false → exceeds xs zs ≡ false
+exceeds-not_transitive xs ys zs l h g = which (exceeds ys xs) refl
+  where
+    which : (b : Bool) → exceeds ys xs ≡ b → exceeds xs zs ≡ false
+    which true over = false_from_ne_true (exceeds xs zs) (λ far. false≢true (sym g ∙ exceeds-transitive ys xs zs over far))
+    which false under = ap (λ ns. exceeds ns zs) (exceeds-neither xs ys l h under) ∙ g

@@ -166,3 +166,12 @@ JoiningAppliesAlike = (before after : List Item) (upper lower : RuleParts) → s
 abbrev pub JoiningKeepsWinners : Type 0
 JoiningKeepsWinners = (before after : List Item) (upper lower : RuleParts) → selectors_of upper ≡ selectors_of lower →
     WinAlike (before ++ Rule upper ∷ Rule lower ∷ after) (before ++ Rule (joined upper lower) ∷ after)
+
+-- two rules have the same selectors, in whatever order and however often
+abbrev pub HaveSameSelectors : RuleParts → RuleParts → Type 0
+HaveSameSelectors r q = (s : SelectorParts) → Contains (selectors_of r) s ↔ Contains (selectors_of q) s
+
+-- joining two neighbours with the same set of selectors keeps every winner
+abbrev pub JoiningASetKeepsWinners : Type 0
+JoiningASetKeepsWinners = (before after : List Item) (upper lower : RuleParts) → HaveSameSelectors upper lower →
+    WinAlike (before ++ Rule upper ∷ Rule lower ∷ after) (before ++ Rule (joined upper lower) ∷ after)

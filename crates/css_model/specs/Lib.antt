@@ -12,6 +12,7 @@ pub mod Laws
 pub mod Lexemes
 pub mod Matching
 pub mod OptionHash
+pub mod Order
 pub mod Plain
 pub mod PlainPrinted
 pub mod PlainSheet

@@ -1,6 +1,6 @@
 -- What the bytes of a style sheet are read as: its items, or its fault.
 use Rattle.std.specs.Prelude.{ℕ, ◌+◌, ◌*◌, ◌==◌, nat_lt, ◌&&◌, Bool, true, false, if◌then◌else◌, List, [], ◌∷◌, map, drop, length, Option, Some, None, Result, Ok, Err, codes, slice_get}
-use Rattle.std.specs.List.{filter, find, list_any, last_or}
+use Rattle.std.specs.List.{cons_option, filter, find, list_any, last_or}
 use Rattle.std.specs.Option.{option_map}
 use Rattle.std.specs.Str.Lossy.{utf8_valid_len}
 use Rattle.css_model.specs.declared.fault.FaultKind.{FaultKind}
@@ -57,16 +57,12 @@ item_of source item =
     if is_at_rule item then Some (KeptBlock (piece_of item))
     else rule_or_block (piece_of item) (selectors source item) (declarations source item)
 
-abbrev pub onto : {A : Type 0} → Option A → List A → List A
-onto None xs = xs
-onto (Some x) xs = x ∷ xs
-
 -- The items of a sheet. What stands before an `@import` decides whether that one counts (CSS Cascading 3,
 -- section 3), so it is kept as it stands.
 abbrev pub read_items : List ℕ → List (List Lexeme) → List Item
 read_items source [] = []
 read_items source (item ∷ rest) =
-    onto (if list_any (is_import source) rest then Some (KeptBlock (piece_of item)) else item_of source item) (read_items source rest)
+    cons_option (if list_any (is_import source) rest then Some (KeptBlock (piece_of item)) else item_of source item) (read_items source rest)
 
 -- where an item begins
 abbrev pub start_of_first : List SelItem → ℕ

@@ -1,6 +1,6 @@
 -- A style sheet whose pieces are those of a source: each of its selectors, declarations and kept items
 -- is one that the source has.
-use Rattle.std.specs.Prelude.{ℕ, ◌≡◌, ◌≢◌, List, [], Some}
+use Rattle.std.specs.Prelude.{ℕ, ◌≡◌, ◌≢◌, false, List, [], Some, Ok}
 use Rattle.std.specs.List.{AllByRecursion, Contains, filter}
 use Rattle.css_model.specs.declared.sheet.DeclItem.{DeclItem}
 use Rattle.css_model.specs.declared.sheet.Item.{Item}
@@ -8,13 +8,13 @@ use Rattle.css_model.specs.declared.sheet.Item.TheVariants.{Rule, KeptRule, Kept
 use Rattle.css_model.specs.declared.sheet.Piece.{Piece}
 use Rattle.css_model.specs.declared.sheet.SelItem.{SelItem}
 use Rattle.css_model.specs.declared.token.Lexeme.{Lexeme}
-use Rattle.css_model.specs.Declarations.{declaration}
+use Rattle.css_model.specs.Declarations.{declaration, is_nested}
 use Rattle.css_model.specs.Items.{items, is_whole, selector_parts, entries}
 use Rattle.css_model.specs.KeptRuleParts.{KeptRuleParts}
 use Rattle.css_model.specs.Lexemes.{piece_of}
 use Rattle.css_model.specs.RuleParts.{RuleParts}
 use Rattle.css_model.specs.Selectors.{selector_item}
-use Rattle.css_model.specs.Sheet.{item_of}
+use Rattle.css_model.specs.Sheet.{item_of, sheet_of}
 use Rattle.css_model.specs.Spelling.{lexemes_of}
 
 -- the items of a source, by their tokens
@@ -29,12 +29,13 @@ pub record IsSoundSelector (source : List ℕ) (s : SelItem) : Type 0 where
   pub part_in : Contains (selector_parts item) part
   pub reads : selector_item source part ≡ Some s
 
--- an entry of a block of the source reads as this declaration, at this place
+-- an entry of a block of the source, which is not nested, reads as this declaration, at this place
 pub record IsSoundDeclaration (source : List ℕ) (d : DeclItem) : Type 0 where
   pub item : List Lexeme
   pub entry : List Lexeme
   pub item_in : Contains (raw_items source) item
   pub entry_in : Contains (entries item) entry
+  pub plain : is_nested source entry ≡ false
   pub reads : declaration source entry ≡ Some d
 
 -- a rule has a selector and a declaration
@@ -63,3 +64,7 @@ IsSoundItem source (KeptBlock piece) = IsSoundBlock source piece
 
 abbrev pub IsSound : List ℕ → List Item → Type 0
 IsSound source items = AllByRecursion (IsSoundItem source) items
+
+-- what a source is read as is sound for it
+abbrev pub ReadIsSound : Type 0
+ReadIsSound = (source : List ℕ) (items : List Item) → sheet_of source ≡ Ok items → IsSound source items

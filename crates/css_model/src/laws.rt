@@ -12,9 +12,11 @@ ghost use Rattle.css_model.specs.Laws.{
   AlikeBehindAnItem,
   JoiningAppliesAlike,
   JoiningKeepsWinners,
+  JoiningASetKeepsWinners,
   PiecesDoNotCount,
   AppliedIsWhatApplies,
 };
+ghost use Rattle.css_model.specs.Sound.{ReadIsSound};
 
 /// The words of Selectors 3, section 6.3, and the test of an attribute's value agree.
 pub fn passing_is_decided()
@@ -85,7 +87,18 @@ pub fn joining_keeps_winners()
     ensures { JoiningKeepsWinners }
 {}
 
+/// To join two neighbouring rules with the same set of selectors keeps every winner.
+pub fn joining_a_set_keeps_winners()
+    ensures { JoiningASetKeepsWinners }
+{}
+
 /// The same rules and kept items, read from other places of other sources, apply the same.
 pub fn pieces_do_not_count()
     ensures { PiecesDoNotCount }
+{}
+
+/// What a source is read as is sound for it: each of its selectors, declarations and kept items is one
+/// that the source has.
+pub fn read_is_sound()
+    ensures { ReadIsSound }
 {}

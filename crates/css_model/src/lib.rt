@@ -19,9 +19,9 @@ pub use family::{Family, relating_is_decided};
 pub use fault::{BRACKETS, FaultKind, ITEMS, LIMIT, PAIRS, SheetFault};
 pub use laws::{
     alike_behind_an_item, alike_wins_alike, applied_is_what_applies, greatest_is_winner,
-    joining_applies_alike, joining_keeps_winners, matching_is_decided,
+    joining_a_set_keeps_winners, joining_applies_alike, joining_keeps_winners, matching_is_decided,
     no_winner_is_none_understood, order_decides_winner, outranking_is_decided, passing_is_decided,
-    pieces_do_not_count, understanding_is_decided, winner_is_greatest,
+    pieces_do_not_count, read_is_sound, understanding_is_decided, winner_is_greatest,
 };
 pub use position::AnB;
 pub use selector::{

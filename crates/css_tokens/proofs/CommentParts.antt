@@ -15,7 +15,7 @@ use Rattle.css_tokens.proofs.CommentLemmas.{close, closes}
 use Rattle.css_tokens.proofs.PartLemmas.{Holds, if_so, rule_holds, part_rule}
 
 -- what a run of what stands inside a comment ends at is its end, where a star stands there
-star_closes : (cs : List ℕ) → begins star (drop (run comment_unit cs) cs) ≡ true → closes (drop (run comment_unit cs) cs) ≡ true
+pub star_closes : (cs : List ℕ) → begins star (drop (run comment_unit cs) cs) ≡ true → closes (drop (run comment_unit cs) cs) ≡ true
 star_closes [] starred = absurd (false≢true starred)
 star_closes (c ∷ cs) starred = which (closes (c ∷ cs)) refl (λ later. star_closes cs later)
   where

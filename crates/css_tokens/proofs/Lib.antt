@@ -45,4 +45,5 @@ pub mod StreamLemmas
 pub mod StringLemmas
 pub mod UnitsAgain
 pub mod UrlsAgain
+pub mod WholeCharacters
 pub mod WordsAgain

@@ -1,5 +1,7 @@
 -- Parts that are read where they stand.
 use Rattle.std.specs.Prelude.{◌≡◌, ⊤, List, [], ◌∷◌, ◌++◌, ℕ, length, Ok, None}
+use Rattle.std.specs.List.{AllByRecursion}
+use Rattle.std.specs.Str.{IsUtf8}
 use Rattle.css_model.specs.TokenAt.{part_at}
 use Rattle.css_model.specs.Tokens.{Part, parts, text_of}
 
@@ -15,3 +17,7 @@ PartsAreLexed = (text : List ℕ) → (parts text).flaw ≡ None → IsLexed (pa
 -- parts that are read where they stand are the parts of the text that they spell
 abbrev pub LexedAreParts : Type 0
 LexedAreParts = (ps : List Part) → IsLexed ps → parts (text_of ps) ≡ record { parts = ps; flaw = None }
+
+-- each such part of a text in UTF-8 is UTF-8 itself
+abbrev pub LexedAreUtf8 : Type 0
+LexedAreUtf8 = (ps : List Part) → IsLexed ps → IsUtf8 (text_of ps) → AllByRecursion (λ p. IsUtf8 p.bytes) ps

@@ -3,7 +3,7 @@
 ghost use Rattle.css_model.specs.Runs.{RunsAreLongest};
 ghost use Rattle.css_tokens.specs.Alike.{PartsEndAlike, RowsEndAlike};
 ghost use Rattle.css_tokens.specs.Laws.{PartsJoin, TokensCover};
-ghost use Rattle.css_tokens.specs.Lexed.{LexedAreParts, PartsAreLexed};
+ghost use Rattle.css_tokens.specs.Lexed.{LexedAreParts, LexedAreUtf8, PartsAreLexed};
 ghost use Rattle.css_tokens.specs.Open.{LastCloses, SpaceCloses, SpaceEnds};
 ghost use Rattle.css_tokens.specs.Solids.{KeptAgain, KeptIsShort, KeptReadsBack, ValueReadsBack};
 
@@ -36,6 +36,12 @@ pub fn space_behind()
     ensures ends { SpaceEnds }
     ensures closes { SpaceCloses }
     ensures last { LastCloses }
+{}
+
+/// Each part of a text in UTF-8 that is read where it stands is UTF-8 itself: no token ends inside a code
+/// point.
+pub fn parts_are_utf8()
+    ensures { LexedAreUtf8 }
 {}
 
 /// A token or a comment that ends before one rest of a text ends before any other in which nothing begins that

@@ -1,0 +1,37 @@
+//! The tokens of a style sheet, counted.
+
+ghost use Rattle.std.specs.Prelude.{◌≡◌, ◌≤◌, ◌+◌, ◌<◌, ◌^◌, length, true, None, IfOk, IfErr, Err, Some};
+ghost use Rattle.css_model.specs.Tokens.{tokens};
+ghost use Rattle.token_count.specs.Counting.{IsCount, IsRefused};
+
+use css_model::TokenFault;
+use css_tokens::{NotUtf8, Tokens};
+
+/// Why tokens were not counted.
+#[derive(Clone, Copy, Debug, PartialEq, Eq)]
+pub enum Refused {
+    /// The sheet is not UTF-8.
+    NotUtf8(NotUtf8),
+    /// A token can not be read.
+    Token(TokenFault),
+}
+
+/// How many tokens a style sheet has, the white space among them counted too.
+pub fn token_count(source: &[u8]) -> Result<usize, Refused>
+    requires { length source.now ≤ 1048576 }
+    ensures counts { IfOk result (IsCount source.now) }
+    ensures refuses { IfErr result (IsRefused source.now) }
+{
+    let mut tokens = match Tokens::new(source, true) {
+        Ok(tokens) => tokens,
+        Err(fault) => return Err(Refused::NotUtf8(fault)),
+    };
+    let mut count = 0;
+    'tokens: loop {
+        match tokens.next() {
+            Ok(Some(_)) => count += 1,
+            Ok(None) => return Ok(count),
+            Err(fault) => return Err(Refused::Token(fault)),
+        }
+    }
+}
