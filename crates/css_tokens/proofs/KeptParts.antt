@@ -34,8 +34,7 @@ last_parts s = cond (is_lone s.kind) (feed ∷ []) []
 
 -- of a kept text, or of the text of a value, where the last may be closed too
 abbrev pub last_of : Bool → Solid → Solid
-last_of true s = closed s
-last_of false s = s
+last_of value s = cond value (closed s) s
 
 abbrev pub kept_parts : Bool → List Solid → List Part
 kept_parts value [] = []
@@ -43,8 +42,7 @@ kept_parts value (s ∷ []) = part_of (last_of value s) ∷ last_parts s
 kept_parts value (s ∷ t ∷ ss) = part_of (closed s) ∷ (gap_parts s ++ kept_parts value (t ∷ ss))
 
 abbrev pub behind : Bool → Solid → List ℕ
-behind true s = behind_value s
-behind false s = behind_last s
+behind value s = cond value (behind_value s) (behind_last s)
 
 pub text_append : (ps qs : List Part) → text_of (ps ++ qs) ≡ text_of ps ++ text_of qs
 text_append [] qs = refl

@@ -9,7 +9,11 @@ pub mod EndsLemmas
 pub mod EscapeLemmas
 pub mod InsideRuns
 pub mod Keeps
+pub mod KeptBack
 pub mod KeptParts
+pub mod KeptRows
+pub mod KeptShort
+pub mod KeptTwice
 pub mod LawLemmas
 pub mod LexedLemmas
 pub mod LooksLemmas
@@ -36,6 +40,7 @@ pub mod RulesAgain
 pub mod RunLemmas
 pub mod SaidLemmas
 pub mod Shapes
+pub mod SolidFacts
 pub mod StreamLemmas
 pub mod StringLemmas
 pub mod UnitsAgain

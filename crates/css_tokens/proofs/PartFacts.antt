@@ -122,25 +122,28 @@ quote_solid (p ∷ ps) (here, lexed) quote = which (part_is p.kind p.bytes (text
     which (inr (inl comment)) = absurd (no_slash p.bytes (text_of ps) comment.first quote)
     which (inr (inr solid)) = rw (solid.kind, solid.solid) refl
 
+pub slash_first : (v rest : List ℕ) → begins slash v ≡ true → begins slash (v ++ rest) ≡ true
+slash_first [] rest first = absurd (false≢true first)
+slash_first (c ∷ cs) rest first = first
+
+pub slash_unquoted : (text : List ℕ) → begins slash text ≡ true → begins_with is_quote (after_white text) ≡ true → ⊥
+slash_unquoted [] first quote = false≢true first
+slash_unquoted (c ∷ cs) first quote =
+    let none : is_white c ≡ false = rw (eqb-true c slash first) refl in
+    let is : is_quote c ≡ true = ap (begins_with is_quote) (sym (after_white_none (c ∷ cs) none)) ∙ quote in
+    quote_is (λ (c : ℕ). (c == slash) ≡ true → ⊥) false≢true false≢true c is first
+
 -- white space in front of a quote is a gap before it
 pub quote_behind : (ps : List Part) → IsLexed ps → begins_with is_quote (after_white (text_of ps)) ≡ true → begins_with is_quote (from_solid ps) ≡ true
 quote_behind [] lexed quote = quote
 quote_behind (p ∷ ps) (here, lexed) quote = which (part_is p.kind p.bytes (text_of ps) here)
   where
-    slash_first : (v rest : List ℕ) → begins slash v ≡ true → begins_with is_quote (after_white (v ++ rest)) ≡ true → ⊥
-    slash_first [] rest first quote = false≢true first
-    slash_first (c ∷ cs) rest first quote =
-        let none : is_white c ≡ false = rw (eqb-true c slash first) refl in
-        let same : after_white (c ∷ cs ++ rest) ≡ c ∷ cs ++ rest = after_white_none (c ∷ cs ++ rest) none in
-        let is : is_quote c ≡ true = ap (begins_with is_quote) (sym same) ∙ quote in
-        quote_is (λ (c : ℕ). (c == slash) ≡ true → ⊥) false≢true false≢true c is first
-
     which : PartIs p.kind p.bytes (text_of ps) → begins_with is_quote (from_solid (p ∷ ps)) ≡ true
     which (inl white) =
         let rest : after_white (p.bytes ++ text_of ps) ≡ text_of ps = ap (λ (n : ℕ). drop n (p.bytes ++ text_of ps)) white.row ∙ drop_at p.bytes (text_of ps) (length p.bytes) refl in
         let is : begins_with is_quote (text_of ps) ≡ true = ap (begins_with is_quote) (sym rest) ∙ quote in
         rw white.kind (ap (begins_with is_quote) (quote_solid ps lexed is) ∙ is)
-    which (inr (inl comment)) = absurd (slash_first p.bytes (text_of ps) comment.first quote)
+    which (inr (inl comment)) = absurd (slash_unquoted (p.bytes ++ text_of ps) (slash_first p.bytes (text_of ps) comment.first) quote)
     which (inr (inr solid)) =
         let none : begins_with is_white (p.bytes ++ text_of ps) ≡ false = first_of is_white p.bytes (text_of ps) solid.some ∙ solid.first in
         rw (solid.kind, solid.solid) (ap (begins_with is_quote) (sym (after_white_none (p.bytes ++ text_of ps) none)) ∙ quote)

@@ -5,6 +5,7 @@ ghost use Rattle.css_tokens.specs.Alike.{PartsEndAlike, RowsEndAlike};
 ghost use Rattle.css_tokens.specs.Laws.{PartsJoin, TokensCover};
 ghost use Rattle.css_tokens.specs.Lexed.{LexedAreParts, LexedAreUtf8, PartsAreLexed};
 ghost use Rattle.css_tokens.specs.Open.{LastCloses, SpaceCloses, SpaceEnds};
+ghost use Rattle.css_tokens.specs.Solids.{KeptAgain, KeptIsShort, KeptReadsBack, ValueReadsBack};
 
 /// A run is the longest row of its units.
 pub fn runs_are_longest()
@@ -35,6 +36,7 @@ pub fn parts_are_utf8()
     ensures { LexedAreUtf8 }
 {}
 
+
 /// A white space behind a token is no part of it, except that one which ends in an open escape takes it and is
 /// open no more. A token whose last byte is neither a hex digit nor a backslash is not open.
 pub fn space_behind()
@@ -51,4 +53,14 @@ pub fn space_behind()
 pub fn parts_end_alike()
     ensures part { PartsEndAlike }
     ensures row { RowsEndAlike }
+{}
+
+/// The kept text of tokens that stand one after another in a text, and the text of a value, are read back as the
+/// same tokens, where an open one before white space has a white space of its own; also before a sign. Neither is
+/// longer than the text, and kept again each is the same.
+pub fn kept_text_is_read_back()
+    ensures kept { KeptReadsBack }
+    ensures value { ValueReadsBack }
+    ensures short { KeptIsShort }
+    ensures again { KeptAgain }
 {}
