@@ -26,6 +26,7 @@ pub mod FrontParts
 pub mod FrontPrint
 pub mod FrontReads
 pub mod FrontSheet
+pub mod FrontSource
 pub mod FrontTexts
 mod Inversions
 mod Joining
