@@ -24,6 +24,7 @@ use Rattle.css_tokens.proofs.RowsAgain.{ends_front}
 use Rattle.css_tokens.proofs.RulesAgain.{part_again, rule_part}
 use Rattle.css_tokens.proofs.RunLemmas.{run_none}
 use Rattle.css_tokens.proofs.OpenFront.{ends_before_open}
+use Rattle.css_tokens.proofs.OpenKinds.{not_lone}
 use Rattle.css_tokens.proofs.OpenTokens.{space_ends, space_closes, open_is}
 use Rattle.css_tokens.proofs.KeptParts.{part_of, feed, one_space, empty_comment, gap_part, gap_parts, last_parts, last_of}
 use Rattle.css_tokens.proofs.PartFacts.{first_of, white_none_of, after_white_none, from_solid, solid_no_white, quote_behind, slash_unquoted}
@@ -84,9 +85,6 @@ through_other k old new solid none = record { at_bang = λ _ _. none; at_white =
 lone_row : (k : TokenKind) (v : List ℕ) (ps N : List Part) → IsToken k v ps → is_lone k ≡ true → IsLexed N → white_unit (text_of N) ≡ 0 → KeptRow (token k v ∷ ps) (token k v ∷ feed ∷ N)
 lone_row k v ps N is lone lexed none =
     alike_row k v ps (feed ∷ N) is (feed_read (text_of N) none, lexed) (ends_feed (token k v) (text_of ps) (text_of N) (ap (λ (k : TokenKind). Some k) (lone_is k lone)))
-
-pub not_lone : (k : TokenKind) → is_lone k ≡ false → ◌≡◌ {A = Option TokenKind} (Some k) (Some (kind.Delim backslash)) → ⊥
-not_lone k other is = let same : k ≡ kind.Delim backslash = cc in false≢true (sym other ∙ ap is_lone same)
 
 -- an empty comment behind a token that a comment followed
 comment_row : (k : TokenKind) (v : List ℕ) (ps N : List Part) → IsToken k v ps → is_lone k ≡ false → gap_before false ps ≡ gap.Comments → IsLexed N

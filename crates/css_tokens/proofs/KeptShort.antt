@@ -1,24 +1,20 @@
 -- Kept text is never longer than the text that it is made of.
-use Rattle.std.proofs.Common.{ℕ, zero, suc, ◌+◌, ◌<◌, ◌≤◌, ◌≡◌, inl, inr, Bool, true, false, cond, ◌&&◌, List, [], ◌∷◌, ◌++◌, Some, Ok, length, take, refl, sym, ap, ◌∙◌, subst, arith}
+use Rattle.std.proofs.Common.{ℕ, zero, suc, ◌+◌, ◌<◌, ◌≤◌, ◌≡◌, inl, inr, Bool, true, false, cond, ◌&&◌, List, [], ◌∷◌, ◌++◌, Some, Ok, length, take, refl, ap, ◌∙◌, subst, arith}
 use Rattle.std.proofs.lemmas.Bool.{false≢true}
 use Rattle.std.proofs.lemmas.List.{length-append}
 use Rattle.css_model.specs.declared.token.Gap.{Gap}
 use Rattle.css_model.specs.declared.token.Gap.TheVariants as gap
 use Rattle.css_model.specs.declared.token.TokenKind.{TokenKind}
-use Rattle.css_model.specs.Characters.{space, quote, line_feed, is_white, begins_with}
+use Rattle.css_model.specs.Characters.{space, line_feed, is_white, begins_with}
 use Rattle.css_model.specs.Kept.{Solid, is_lone, is_open, is_white_gap, gap_text, between, spelled}
 use Rattle.css_model.specs.Units.{white_unit}
 use Rattle.css_model.specs.TokenAt.{part_at}
 use Rattle.css_model.specs.Tokens.{Part, text_of}
 use Rattle.css_tokens.specs.Lexed.{IsLexed}
 use Rattle.css_tokens.specs.Solids.{gap_before, solids, solids_of, KeptIsShort}
-use Rattle.css_tokens.proofs.AlikeLemmas.{alike_space}
-use Rattle.css_tokens.proofs.EndsLemmas.{looks_byte}
-use Rattle.css_tokens.proofs.RulesAgain.{part_again}
-use Rattle.css_tokens.proofs.OpenTokens.{space_closes}
-use Rattle.css_tokens.proofs.ClosedTokens.{done_len}
+use Rattle.css_tokens.proofs.OpenKinds.{open_apart}
 use Rattle.css_tokens.proofs.KeptParts.{behind}
-use Rattle.css_tokens.proofs.KeptRows.{IsToken, not_lone}
+use Rattle.css_tokens.proofs.KeptRows.{IsToken}
 use Rattle.css_tokens.proofs.KeptBack.{rest_of}
 use Rattle.css_tokens.proofs.PartFacts.{PartIs, part_is, gap_bytes, from_solid, gap_cut}
 use Rattle.css_tokens.proofs.SolidFacts.{lone_gap}
@@ -26,12 +22,7 @@ use Rattle.css_tokens.proofs.SolidFacts.{lone_gap}
 -- white space right behind an open token would belong to it
 open_no_white : (k : TokenKind) (v : List ℕ) (ps : List Part) → IsToken k v ps → is_lone k ≡ false → is_open v ≡ true → 0 < white_unit (text_of ps) → ⊥
 open_no_white k v ps is other open_end white =
-    let new = space ∷ space ∷ quote ∷ [] in
-    let still = part_again v (text_of ps) new (Some k) (λ _. alike_space (text_of ps) (space ∷ quote ∷ []) white)
-    (looks_byte (Some k) v (text_of ps) space (space ∷ quote ∷ []) refl (not_lone k other) (λ _ _ _ _ _. refl)) is.here in
-    let more = (space_closes v (text_of ps) (quote ∷ []) k (record { no_white = is.solid; no_lone = other; read = is.here }) open_end).0 in
-    let len = done_len k k (length v) (suc (length v)) (sym still ∙ more) in
-    omega (arith, len)
+    open_apart v (text_of ps) k (record { no_white = is.solid; no_lone = other; read = is.here }) open_end (λ _. white)
 
 white_some : (text : List ℕ) → begins_with is_white text ≡ true → 0 < white_unit text
 white_some [] white = absurd (false≢true white)

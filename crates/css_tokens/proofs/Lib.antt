@@ -16,6 +16,7 @@ pub mod KeptShort
 pub mod KeptTwice
 pub mod LawLemmas
 pub mod LexedLemmas
+pub mod LexemeSolids
 pub mod LooksLemmas
 pub mod NamedAgain
 pub mod NamesAgain
@@ -27,6 +28,7 @@ pub mod NumberRule
 pub mod NumbersAgain
 pub mod OneAnd
 pub mod OpenFront
+pub mod OpenKinds
 pub mod OpenRuns
 pub mod OpenTokens
 pub mod OpenUnits

@@ -7,6 +7,7 @@ use Rattle.css_model.specs.Characters.{backslash, space, begins_with}
 use Rattle.css_model.specs.Kept.{is_lone, is_open}
 use Rattle.css_model.specs.Lexemes.{is_white_kind}
 use Rattle.css_model.specs.TokenAt.{part_at, is_quote, after_white}
+use Rattle.css_tokens.specs.Alike.{ends_itself}
 
 -- these bytes are read before `old` as a token of this kind, which is no white space and no lone backslash
 pub record IsRead (v old : List ℕ) (k : TokenKind) : Type 0 where
@@ -33,3 +34,7 @@ SpaceCloses = (v old rest : List ℕ) (k : TokenKind) → IsRead v old k → is_
 abbrev pub LastCloses : Type 0
 LastCloses = (w : List ℕ) (x : ℕ) (old : List ℕ) (k : TokenKind) → IsRead (w ++ x ∷ []) old k → is_ascii_hexdigit x ≡ false → (x == backslash) ≡ false
     → is_open (w ++ x ∷ []) ≡ false
+
+-- a token that ends itself, as a string, a function or a sign, is not open
+abbrev pub SelfEndedAreShut : Type 0
+SelfEndedAreShut = (v old : List ℕ) (k : TokenKind) → IsRead v old k → ends_itself (Some k) ≡ true → is_open v ≡ false

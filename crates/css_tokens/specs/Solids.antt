@@ -1,14 +1,14 @@
 -- The tokens of parts that are no white space by themselves, each with what stands behind it, and their text
 -- read back.
-use Rattle.std.specs.Prelude.{ℕ, ◌≡◌, ◌≤◌, ◌==◌, ◌&&◌, ◌||◌, not, Bool, true, false, if◌then◌else◌, List, [], ◌∷◌, ◌++◌, take, drop, length, Option, Some, None}
+use Rattle.std.specs.Prelude.{ℕ, ◌≡◌, ◌≤◌, ◌==◌, ◌&&◌, ◌||◌, not, Bool, true, false, if◌then◌else◌, List, [], ◌∷◌, ◌++◌, map, take, drop, length, Option, Some, None}
 use Rattle.css_model.specs.declared.token.Gap.{Gap}
 use Rattle.css_model.specs.declared.token.Gap.TheVariants as gap
 use Rattle.css_model.specs.declared.token.TokenKind.{TokenKind}
 use Rattle.css_model.specs.declared.token.TokenKind.TheVariants as kind
 use Rattle.css_model.specs.Characters.{space, exclamation_mark, open_round, is_sign}
-use Rattle.css_model.specs.Kept.{Solid, is_lone, is_open, is_white_gap, kept, value_text}
-use Rattle.css_model.specs.Lexemes.{is_white_kind}
-use Rattle.css_model.specs.Tokens.{Part, text_of}
+use Rattle.css_model.specs.Kept.{Solid, solid, is_lone, is_open, is_white_gap, kept, value_text}
+use Rattle.css_model.specs.Lexemes.{is_white_kind, lexemes}
+use Rattle.css_model.specs.Tokens.{Part, parts, text_of, stream}
 use Rattle.css_tokens.specs.Alike.{begins_dashes}
 use Rattle.css_tokens.specs.Lexed.{IsLexed}
 
@@ -99,3 +99,7 @@ abbrev pub KeptAgain : Type 0
 KeptAgain = (ps : List Part) (m n : ℕ) → IsLexed ps
     → (kept (read_back last_kept (solids_of ps m n)) ≡ kept (solids_of ps m n)) × (kept (read_back last_of_value (solids_of ps m n)) ≡ value_text (solids_of ps m n))
     × (value_text (read_back last_of_value (solids_of ps m n)) ≡ value_text (solids_of ps m n))
+
+-- The tokens of a source from a place on, with their bytes and gaps, are those of its parts.
+abbrev pub SolidsAreLexemes : Type 0
+SolidsAreLexemes = (source : List ℕ) (at : ℕ) → map (solid source) (lexemes (stream at (drop at source)).tokens) ≡ solids (parts (drop at source)).parts

@@ -4,8 +4,8 @@ ghost use Rattle.css_model.specs.Runs.{RunsAreLongest};
 ghost use Rattle.css_tokens.specs.Alike.{PartsEndAlike, RowsEndAlike};
 ghost use Rattle.css_tokens.specs.Laws.{PartsJoin, TokensCover};
 ghost use Rattle.css_tokens.specs.Lexed.{LexedAreParts, LexedAreUtf8, PartsAreLexed};
-ghost use Rattle.css_tokens.specs.Open.{LastCloses, SpaceCloses, SpaceEnds};
-ghost use Rattle.css_tokens.specs.Solids.{KeptAgain, KeptIsShort, KeptReadsBack, ValueReadsBack};
+ghost use Rattle.css_tokens.specs.Open.{LastCloses, SelfEndedAreShut, SpaceCloses, SpaceEnds};
+ghost use Rattle.css_tokens.specs.Solids.{KeptAgain, KeptIsShort, KeptReadsBack, SolidsAreLexemes, ValueReadsBack};
 
 /// A run is the longest row of its units.
 pub fn runs_are_longest()
@@ -38,10 +38,12 @@ pub fn parts_are_utf8()
 
 
 /// A white space behind a token is no part of it, except that one which ends in an open escape takes it and is
-/// open no more. A token whose last byte is neither a hex digit nor a backslash is not open.
+/// open no more. A token that ends itself is not open, nor is one whose last byte is neither a hex digit nor a
+/// backslash.
 pub fn space_behind()
     ensures ends { SpaceEnds }
     ensures closes { SpaceCloses }
+    ensures kinds { SelfEndedAreShut }
     ensures last { LastCloses }
 {}
 
@@ -53,6 +55,12 @@ pub fn space_behind()
 pub fn parts_end_alike()
     ensures part { PartsEndAlike }
     ensures row { RowsEndAlike }
+{}
+
+/// The tokens of a source that are no white space, with their bytes and with what stands behind them, are those of
+/// its parts.
+pub fn solids_are_lexemes()
+    ensures { SolidsAreLexemes }
 {}
 
 /// The kept text of tokens that stand one after another in a text, and the text of a value, are read back as the
