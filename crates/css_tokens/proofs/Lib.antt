@@ -47,5 +47,6 @@ pub mod StreamLemmas
 pub mod StringLemmas
 pub mod UnitsAgain
 pub mod UrlsAgain
+pub mod Utf8Length
 pub mod WholeCharacters
 pub mod WordsAgain
