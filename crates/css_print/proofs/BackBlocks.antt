@@ -232,7 +232,7 @@ record IsEntryAgain (new old : List ℕ) (entry : List Lexeme) (d : DeclItem) : 
   plain : is_nested new entry ≡ false
   again : IsDeclarationAgain new old item d
 
-or_false : (a b : Bool) → (a || b) ≡ false → (a ≡ false) × (b ≡ false)
+pub or_false : (a b : Bool) → (a || b) ≡ false → (a ≡ false) × (b ≡ false)
 or_false false b e = (refl, e)
 or_false true b e = absurd (true≢false e)
 

@@ -117,7 +117,7 @@ at_rule_named_like word new old (y ∷ ys) [] z = absurd z
 at_rule_named_like word new old (y ∷ ys) (x ∷ xs) z =
     ap (λ k. is_at_keyword k && is_named word (drop 1 (text_at new y.span))) z.0.kind ∙ named_in x.kind word (text_at new y.span) (text_at old x.span) z.0.name
 
-not_named : (word source : List ℕ) (ys : List Lexeme) → is_at_rule ys ≡ false → is_at_rule_named word source ys ≡ false
+pub not_named : (word source : List ℕ) (ys : List Lexeme) → is_at_rule ys ≡ false → is_at_rule_named word source ys ≡ false
 not_named word source [] qualified = refl
 not_named word source (y ∷ ys) qualified = ap (λ b. b && is_named word (drop 1 (text_at source y.span))) qualified
 

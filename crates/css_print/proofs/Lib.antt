@@ -7,6 +7,7 @@ mod BackItems
 mod BackJoins
 mod BackKept
 mod BackLists
+mod BackOrigins
 mod BackParts
 mod BackNames
 mod BackPieces
