@@ -1,10 +1,8 @@
 -- Tokens that say the same: a printed one and the one that it was printed for.
-use Rattle.std.proofs.Common.{◌≡◌, ◌⊎◌, inl, inr, subst, ℕ, zero, suc, ◌+◌, ◌==◌, drop, Bool, true, false, not, List, [], ◌∷◌, ◌++◌, map, refl, sym, ◌∙◌, ap, arith}
-use Rattle.std.proofs.lemmas.Bool.{eqb-true, true≢false, false≢true}
-use Rattle.std.specs.Prelude.{◌&&◌, ◌||◌, if◌then◌else◌, codes}
+use Rattle.std.proofs.Common.{◌≡◌, ◌⊎◌, inl, inr, subst, ℕ, ◌==◌, drop, Bool, true, false, List, [], ◌∷◌, ◌++◌, refl, sym, ◌∙◌, ap}
+use Rattle.std.proofs.lemmas.Bool.{eqb-true, true≢false}
+use Rattle.std.specs.Prelude.{◌&&◌, if◌then◌else◌, codes}
 use Rattle.std.specs.List.{AllZip, AllByRecursion}
-use Rattle.css_model.specs.declared.token.Gap.{Gap}
-use Rattle.css_model.specs.declared.token.Gap.TheVariants as gap
 use Rattle.css_model.specs.declared.token.Lexeme.{Lexeme}
 use Rattle.css_model.specs.declared.token.TokenKind.{TokenKind}
 use Rattle.css_model.specs.declared.token.TokenKind.TheVariants as kind
@@ -14,8 +12,8 @@ use Rattle.css_model.specs.Document.{same_text}
 use Rattle.css_model.specs.Kept.{is_open}
 use Rattle.css_model.specs.Source.{text_at}
 use Rattle.css_model.specs.Unescaped.{unescaped}
-use Rattle.css_print.proofs.BackLists.{AllLast, zip_from_last, zip_map}
-use Rattle.css_print.proofs.BackTokens.{shown, closed, is_before_white, printed_bytes, inner, last_of_value, last_of_item}
+use Rattle.css_print.proofs.BackLists.{AllLast}
+use Rattle.css_print.proofs.BackTokens.{closed, is_before_white, printed_bytes}
 use Rattle.css_print.proofs.BackValues.{IsShut, IsInner, IsLastOfValue, IsLastOfItem, AreShut}
 
 -- the name in the bytes of a token, where it is one whose name is read

@@ -1,13 +1,11 @@
 -- The entries of a kept rule say what they say in the source.
-use Rattle.std.proofs.Common.{◌≡◌, ◌⊎◌, inl, inr, subst, ℕ, zero, suc, ◌+◌, ◌-◌, ◌==◌, Bool, true, false, not, List, [], ◌∷◌, ◌++◌, length, take, drop, map, Option, Some, None, refl, sym, ◌∙◌, ap, arith}
+use Rattle.std.proofs.Common.{◌≡◌, ℕ, ◌-◌, ◌==◌, Bool, true, false, not, List, [], ◌∷◌, length, take, drop, map, Option, Some, None, refl, sym, ◌∙◌, ap}
 use Rattle.std.proofs.lemmas.Bool.{true≢false, false≢true, and_parts}
 use Rattle.std.proofs.Math.Bool.{and_assoc}
 use Rattle.std.specs.Str.{str_eq_ignore_ascii_case}
-use Rattle.std.specs.Prelude.{⊤, ◌&&◌, ◌||◌, if◌then◌else◌, codes}
-use Rattle.std.specs.List.{AllZip, AllByRecursion, list_any, filter_map}
+use Rattle.std.specs.Prelude.{◌&&◌, ◌||◌, if◌then◌else◌, codes}
+use Rattle.std.specs.List.{AllZip, list_any}
 use Rattle.css_model.specs.declared.sheet.DeclItem.{DeclItem}
-use Rattle.css_model.specs.declared.token.Gap.{Gap}
-use Rattle.css_model.specs.declared.token.Gap.TheVariants as gap
 use Rattle.css_model.specs.declared.token.Lexeme.{Lexeme}
 use Rattle.css_model.specs.declared.token.TokenKind.{TokenKind}
 use Rattle.css_model.specs.declared.token.TokenKind.TheVariants as kind
@@ -18,9 +16,8 @@ use Rattle.css_model.specs.Kept.{solid, is_white_gap, value_text}
 use Rattle.css_model.specs.Lexemes.{is_sign_of, is_sign_at}
 use Rattle.css_model.specs.Source.{text_at}
 use Rattle.css_model.specs.Unescaped.{unescaped, decoded, code_points}
-use Rattle.css_print.proofs.BackAlike.{IsClosable, IsLike, AreClosable, name_in, like_inner}
+use Rattle.css_print.proofs.BackAlike.{IsClosable, IsLike, name_in, like_inner}
 use Rattle.css_print.proofs.BackLists.{AreBoth, zip_length, zip_drop, zip_take, zip_any, zip_map}
-use Rattle.css_print.proofs.BackTokens.{shown, inner}
 use Rattle.css_print.proofs.BackValues.{IsInner, AreShut, inner_value_same}
 
 -- a token of a source, and one that was printed for it before others

@@ -1,20 +1,18 @@
 -- The items of tokens, item by item.
-use Rattle.std.proofs.Common.{◌≡◌, ℕ, zero, suc, ◌+◌, Bool, true, false, not, List, [], ◌∷◌, ◌++◌, length, take, drop, map, Option, Some, None, refl, sym, ◌∙◌, ap, arith, append-nil}
-use Rattle.std.proofs.lemmas.Bool.{true≢false, false≢true, not-true, and_parts}
+use Rattle.std.proofs.Common.{◌≡◌, ℕ, suc, ◌+◌, Bool, true, false, not, List, [], ◌∷◌, ◌++◌, length, take, drop, refl, sym, ◌∙◌, ap, arith, append-nil}
+use Rattle.std.proofs.lemmas.Bool.{false≢true, not-true}
 use Rattle.std.proofs.Math.Seq.{take-append_seam}
 use Rattle.std.specs.Prelude.{⊤, ◌&&◌, ◌||◌, if◌then◌else◌}
-use Rattle.std.specs.List.{AllZip, AllByRecursion, position_or_len, before_first, after_first, slice_split, list_any}
+use Rattle.std.specs.List.{AllZip, position_or_len, before_first, after_first, slice_split, list_any}
 use Rattle.css_model.specs.declared.token.Lexeme.{Lexeme}
-use Rattle.css_model.specs.declared.token.TokenKind.{TokenKind}
-use Rattle.css_model.specs.declared.token.TokenKind.TheVariants as kind
 use Rattle.css_model.specs.Characters.{comma, semicolon, open_curly, close_curly}
-use Rattle.css_model.specs.Items.{is_at_keyword, is_between_items, opens_block, closes_block, ends_prelude, end_len, item_len, items_from, items, is_at_rule, is_whole, selector_parts, block, entries}
-use Rattle.css_model.specs.Lexemes.{is_sign_of, is_sign_at}
+use Rattle.css_model.specs.Items.{is_at_keyword, is_between_items, opens_block, closes_block, ends_prelude, end_len, item_len, items_from, items, is_at_rule, selector_parts, entries}
+use Rattle.css_model.specs.Lexemes.{is_sign_at}
 use Rattle.css_model.specs.Unescaped.{less_one}
 use Rattle.css_print.proofs.BackAlike.{IsLike}
 use Rattle.css_print.proofs.BackCuts.{position_here, position_later, before_some, after_some, before_stop}
 use Rattle.css_print.proofs.BackEntries.{sign_like}
-use Rattle.css_print.proofs.BackLists.{Agree, zip_length, zip_position, zip_drop}
+use Rattle.css_print.proofs.BackLists.{zip_position, zip_drop}
 
 abbrev pub is_nil : List Lexeme → Bool
 is_nil [] = true

@@ -1,8 +1,7 @@
 -- A kept item says what it says in the source.
-use Rattle.std.proofs.Common.{◌≡◌, subst, ℕ, zero, suc, ◌+◌, Bool, true, false, not, List, [], ◌∷◌, ◌++◌, length, map, Option, Some, None, refl, sym, ◌∙◌, ap, arith}
-use Rattle.std.proofs.lemmas.Bool.{true≢false, false≢true}
-use Rattle.std.specs.Prelude.{⊤, ◌&&◌, ◌||◌, if◌then◌else◌}
-use Rattle.std.specs.List.{AllZip, AllByRecursion, list_any, filter_map}
+use Rattle.std.proofs.Common.{◌≡◌, subst, ℕ, Bool, true, false, List, [], ◌∷◌, ◌++◌, map, Option, Some, None, refl, ◌∙◌, ap}
+use Rattle.std.specs.Prelude.{if◌then◌else◌}
+use Rattle.std.specs.List.{AllZip, list_any, filter_map}
 use Rattle.css_model.specs.declared.sheet.DeclItem.{DeclItem}
 use Rattle.css_model.specs.declared.sheet.Item.{Item}
 use Rattle.css_model.specs.declared.sheet.Item.TheVariants.{Rule, KeptRule, KeptBlock}
@@ -13,9 +12,9 @@ use Rattle.css_model.specs.Characters.{open_curly, close_curly}
 use Rattle.css_model.specs.Declarations.{declaration, declarations, is_nested}
 use Rattle.css_model.specs.Items.{is_at_rule, opens_block, closes_block, selector_parts, entries}
 use Rattle.css_model.specs.Lexemes.{piece_of}
-use Rattle.css_model.specs.Selectors.{all_of, selector_item, selectors}
+use Rattle.css_model.specs.Selectors.{all_of, selector_item}
 use Rattle.css_model.specs.Sheet.{rule_of, rule_or_block, item_of}
-use Rattle.css_print.proofs.BackAlike.{IsLike, AreClosable, IsClosable, like_last_of_item, item_like}
+use Rattle.css_print.proofs.BackAlike.{IsLike, AreClosable, like_last_of_item, item_like}
 use Rattle.css_print.proofs.BackEntries.{IsPrinted, SaySame, at_rule_like, sign_like, like_of}
 use Rattle.css_print.proofs.BackItems.{IsClosedRule, is_ended, closed_rule, parts_without_last, entries_without_last}
 use Rattle.css_print.proofs.BackLists.{AreBoth, AllLast, zip_any}

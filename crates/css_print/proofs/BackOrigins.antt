@@ -1,26 +1,25 @@
 -- The items of a sheet, as they are read, are those of its source.
-use Rattle.std.proofs.Common.{◌≡◌, ◌≢◌, ◌⊎◌, inl, inr, subst, ℕ, zero, suc, ◌+◌, ◌-◌, Bool, true, false, not, List, [], ◌∷◌, ◌++◌, length, take, drop, map, Option, Some, None, refl, sym, ◌∙◌, ap, arith}
-use Rattle.std.proofs.lemmas.Bool.{true≢false, false≢true, and_parts}
-use Rattle.std.specs.Prelude.{⊤, ◌&&◌, ◌||◌, if◌then◌else◌, codes}
-use Rattle.std.specs.List.{AllByRecursion, before_first, after_first, slice_split, position_or_len, list_any, filter, filter_map, cons_option}
+use Rattle.std.proofs.Common.{◌≡◌, ◌≢◌, subst, ℕ, ◌+◌, ◌-◌, Bool, true, false, List, [], ◌∷◌, length, take, map, Option, Some, None, refl, sym, ◌∙◌, ap}
+use Rattle.std.proofs.lemmas.Bool.{true≢false}
+use Rattle.std.specs.Prelude.{◌&&◌, ◌||◌, if◌then◌else◌, codes}
+use Rattle.std.specs.List.{AllByRecursion, before_first, after_first, position_or_len, list_any, filter_map, cons_option}
 use Rattle.std.specs.Option.{option_map}
 use Rattle.css_model.specs.declared.selector.Test.{Test}
 use Rattle.css_model.specs.declared.sheet.DeclItem.{DeclItem}
 use Rattle.css_model.specs.declared.sheet.Item.{Item}
 use Rattle.css_model.specs.declared.sheet.Item.TheVariants.{Rule, KeptRule, KeptBlock}
-use Rattle.css_model.specs.declared.sheet.Piece.{Piece}
 use Rattle.css_model.specs.declared.sheet.SelItem.{SelItem}
 use Rattle.css_model.specs.declared.token.Lexeme.{Lexeme}
 use Rattle.css_model.specs.Characters.{comma, colon, semicolon}
 use Rattle.css_model.specs.Declarations.{is_ident, is_custom, is_important, property_of, without_importance, piece_of_value, declared, declaration, declarations, is_nested}
-use Rattle.css_model.specs.Items.{item_len, items, is_at_rule, is_whole, opens_block, closes_block, selector_parts, block, entries}
+use Rattle.css_model.specs.Items.{item_len, is_at_rule, is_whole, opens_block, closes_block, selector_parts, block, entries}
 use Rattle.css_model.specs.Kept.{is_white_gap}
 use Rattle.css_model.specs.KeptRuleParts.{KeptRuleParts}
 use Rattle.css_model.specs.Lexemes.{is_sign_of, is_sign_at, piece_of}
 use Rattle.css_model.specs.Selectors.{of_one_test, simple_of, selector_item, before_all, all_of, selectors}
-use Rattle.css_model.specs.Sheet.{is_import, is_namespace, not_read, rule_of, rule_or_block, item_of, onto, read_items}
+use Rattle.css_model.specs.Sheet.{is_import, is_namespace, not_read, rule_or_block, item_of, onto, read_items}
 use Rattle.css_model.specs.Source.{text_at}
-use Rattle.css_model.specs.Spelling.{stands_in, lexemes_of, tokens_in}
+use Rattle.css_model.specs.Spelling.{lexemes_of, tokens_in}
 use Rattle.css_model.specs.Unescaped.{decoded}
 use Rattle.css_print.proofs.BackAlike.{IsClosable, AreClosable}
 use Rattle.css_print.proofs.BackBlocks.{IsOfDeclaration, plain_value, or_false}
@@ -31,8 +30,7 @@ use Rattle.css_print.proofs.BackLists.{cons_not_empty, some_not_none}
 use Rattle.css_print.proofs.BackParts.{IsPart, each_inside, stands_taken, stands_dropped, none_before, split_stands, split_some}
 use Rattle.css_print.proofs.BackPieces.{AreAscending, AreSpaced, stand_alone, none_in_white, none_at_end}
 use Rattle.css_print.proofs.BackPreludes.{IsOfSelector, some_same}
-use Rattle.css_print.proofs.BackRaw.{IsItemOf, IsRawItem, AreRawItems, EndBefore}
-use Rattle.css_print.proofs.BackRules.{IsOfRule}
+use Rattle.css_print.proofs.BackRaw.{IsRawItem, EndBefore}
 use Rattle.css_print.proofs.BackSheet.{not_named, IsOfItem, IsFrom, imports, ends_itself, IsBefore, EndsBefore, AreInOrder}
 
 -- the tokens of a source: they stand in order, and white space closes the escapes that they end in
@@ -236,11 +234,11 @@ dropped_no_import source xs none = which (is_at_rule xs) refl
     which false qualified = not_named (codes "import") source xs qualified
 
 -- the items that are read of those of a source
-record AreOrigins (source : List ℕ) (raw : List (List Lexeme)) (read : List Item) : Type 0 where
-  from : AllByRecursion (IsFrom source) read
-  order : AreInOrder source read
-  import : list_any (imports source) read ≡ list_any (is_import source) raw
-  some : raw ≡ [] → read ≡ []
+pub record AreOrigins (source : List ℕ) (raw : List (List Lexeme)) (read : List Item) : Type 0 where
+  pub from : AllByRecursion (IsFrom source) read
+  pub order : AreInOrder source read
+  pub import : list_any (imports source) read ≡ list_any (is_import source) raw
+  pub some : raw ≡ [] → read ≡ []
 
 -- an item before others that were read
 origin_first : (source : List ℕ) (xs : List Lexeme) (raw : List (List Lexeme)) (read : List Item) (item : Item) → EndBefore (xs ∷ raw) → AreOrigins source raw read
@@ -263,7 +261,7 @@ later_order : (xs : List Lexeme) (raw : List (List Lexeme)) → EndBefore (xs �
 later_order xs [] order = tt
 later_order xs (ys ∷ raw) order = order.1
 
-origins : (source : List ℕ) → HasGoodTokens source → (raw : List (List Lexeme)) → AllByRecursion (IsRawItem (lexemes_of source)) raw → EndBefore raw → None_of (is_namespace source) raw
+pub origins : (source : List ℕ) → HasGoodTokens source → (raw : List (List Lexeme)) → AllByRecursion (IsRawItem (lexemes_of source)) raw → EndBefore raw → None_of (is_namespace source) raw
     → AreOrigins source raw (read_items source raw)
 origins source good [] each order names = record { from = tt; order = tt; import = refl; some = λ none. refl }
 origins source good (xs ∷ raw) each order names =

@@ -1,8 +1,8 @@
 -- The parts of an item stand in it.
-use Rattle.std.proofs.Common.{◌≡◌, ◌≢◌, ◌⊎◌, inl, inr, subst, ℕ, zero, suc, ◌+◌, Bool, true, false, List, [], ◌∷◌, ◌++◌, length, take, drop, refl, sym, ◌∙◌, ap, arith, append_assoc}
+use Rattle.std.proofs.Common.{◌≡◌, ◌≢◌, subst, ℕ, Bool, true, false, List, [], ◌∷◌, ◌++◌, take, drop, refl, sym, ◌∙◌, ap, append_assoc}
 use Rattle.std.proofs.lemmas.List.{take-append-drop}
-use Rattle.std.specs.Prelude.{⊤, if◌then◌else◌}
-use Rattle.std.specs.List.{AllByRecursion, before_first, after_first, slice_split, onto_first, position_or_len}
+use Rattle.std.specs.Prelude.{if◌then◌else◌}
+use Rattle.std.specs.List.{AllByRecursion, before_first, slice_split, onto_first}
 use Rattle.css_print.proofs.BackCuts.{None_of, before_here, before_later}
 use Rattle.css_print.proofs.BackJoins.{StandsIn, stands_front, stands_behind, stands_inside}
 use Rattle.css_print.proofs.BackLists.{cons_not_empty}

@@ -1,11 +1,10 @@
 -- The selectors of a kept rule are read as in the source, or not read as there.
-use Rattle.std.proofs.Common.{◌≡◌, ℕ, zero, suc, ◌+◌, Bool, true, false, not, List, [], ◌∷◌, ◌++◌, length, drop, map, Option, Some, None, refl, sym, ◌∙◌, ap, arith}
-use Rattle.std.specs.Prelude.{⊤, ◌&&◌, ◌||◌, if◌then◌else◌, codes}
+use Rattle.std.proofs.Common.{◌≡◌, ℕ, Bool, true, false, not, List, [], ◌∷◌, Option, Some, None, refl, ◌∙◌, ap}
+use Rattle.std.specs.Prelude.{◌&&◌, if◌then◌else◌, codes}
 use Rattle.std.specs.List.{AllZip, list_any, filter_map}
 use Rattle.std.specs.Option.{option_map}
 use Rattle.css_model.specs.declared.selector.Test.{Test}
-use Rattle.css_model.specs.declared.selector.Test.TheVariants.{Kind, Id, Attr}
-use Rattle.css_model.specs.declared.sheet.DeclItem.{DeclItem}
+use Rattle.css_model.specs.declared.selector.Test.TheVariants.{Kind, Id}
 use Rattle.css_model.specs.declared.sheet.Piece.{Piece}
 use Rattle.css_model.specs.declared.sheet.SelItem.{SelItem}
 use Rattle.css_model.specs.declared.token.Lexeme.{Lexeme}
@@ -15,7 +14,7 @@ use Rattle.css_model.specs.Attribute.{begins_with}
 use Rattle.css_model.specs.Characters.{dot, comma, semicolon, open_curly, close_curly}
 use Rattle.css_model.specs.Declarations.{is_ident, is_delim_of, lower, declaration, declarations, is_nested}
 use Rattle.css_model.specs.Document.{same_text}
-use Rattle.css_model.specs.Items.{opens_block, closes_block, selector_parts, block, entries}
+use Rattle.css_model.specs.Items.{opens_block, closes_block, selector_parts, entries}
 use Rattle.css_model.specs.Kept.{is_white_gap}
 use Rattle.css_model.specs.Lexemes.{is_sign_at, piece_of}
 use Rattle.css_model.specs.Selectors.{class_test, of_one_test, type_test, test_of_one, class_of, simple_of, selector_item, before_all, all_of, selectors}

@@ -1,8 +1,8 @@
 -- Every block of a source whose brackets are closed ends.
-use Rattle.std.proofs.Common.{◌≡◌, subst, ℕ, zero, suc, ◌+◌, ◌==◌, Bool, true, false, List, [], ◌∷◌, ◌++◌, length, take, drop, Option, Some, None, refl, sym, ◌∙◌, ap, arith}
-use Rattle.std.proofs.lemmas.Bool.{true≢false, false≢true, and_parts, eqb-true}
+use Rattle.std.proofs.Common.{◌≡◌, subst, ℕ, ◌==◌, Bool, true, false, List, [], ◌∷◌, ◌++◌, length, drop, Option, Some, None, refl, sym, ◌∙◌, ap, arith}
+use Rattle.std.proofs.lemmas.Bool.{false≢true, and_parts, eqb-true}
 use Rattle.std.specs.Prelude.{⊤, ◌&&◌, ◌||◌, if◌then◌else◌}
-use Rattle.std.specs.List.{AllByRecursion, list_any, last_or}
+use Rattle.std.specs.List.{list_any, last_or}
 use Rattle.std.specs.Option.{option_map}
 use Rattle.css_model.specs.declared.token.Bracket.{Bracket}
 use Rattle.css_model.specs.declared.token.Lexeme.{Lexeme}

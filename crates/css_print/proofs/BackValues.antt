@@ -1,18 +1,16 @@
 -- The text of tokens that are printed is the text of the tokens that they were printed for.
-use Rattle.std.proofs.Common.{◌≡◌, ℕ, zero, suc, ◌+◌, Bool, true, false, not, List, [], ◌∷◌, ◌++◌, map, Option, Some, None, refl, sym, ◌∙◌, ap, arith}
-use Rattle.std.specs.Prelude.{◌&&◌, ◌||◌, if◌then◌else◌, codes}
+use Rattle.std.proofs.Common.{◌≡◌, ℕ, Bool, true, false, not, List, [], ◌∷◌, ◌++◌, map, refl, ◌∙◌, ap}
+use Rattle.std.specs.Prelude.{◌&&◌, if◌then◌else◌}
 use Rattle.std.specs.List.{AllZip, AllByRecursion}
 use Rattle.std.proofs.lemmas.List.{append_assoc}
 use Rattle.css_model.specs.declared.token.Gap.{Gap}
 use Rattle.css_model.specs.declared.token.Gap.TheVariants as gap
 use Rattle.css_model.specs.declared.token.Lexeme.{Lexeme}
-use Rattle.css_model.specs.declared.token.TokenKind.{TokenKind}
-use Rattle.css_model.specs.declared.token.TokenKind.TheVariants as kind
 use Rattle.css_model.specs.Characters.{line_feed, space}
 use Rattle.css_model.specs.Kept.{Solid, solid, is_open, is_lone, is_white_gap, gap_text, between, behind_last, behind_value, spelled, kept, value_text}
 use Rattle.css_model.specs.Source.{text_at}
 use Rattle.css_print.proofs.BackLists.{AllLast, last_from_zip}
-use Rattle.css_print.proofs.BackTokens.{Shown, shown, closed, is_before_white, printed_bytes, last_gap, inner, last_of_value, last_of_item}
+use Rattle.css_print.proofs.BackTokens.{Shown, shown, closed, inner, last_of_value, last_of_item}
 
 -- a token of which a second white space would be no part
 abbrev pub IsShut : List ℕ → Type 0

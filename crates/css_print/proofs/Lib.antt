@@ -20,6 +20,7 @@ mod BackSheet
 mod BackSource
 mod BackTokens
 mod BackValues
+mod BackWhole
 mod Inversions
 mod Joining
 mod Lengths
