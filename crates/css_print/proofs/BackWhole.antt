@@ -1,5 +1,5 @@
 -- A sheet that is read has no fault, and its items are those of its source.
-use Rattle.std.proofs.Common.{◌≡◌, ◌⊎◌, inl, inr, subst, ℕ, zero, suc, ◌≤◌, Bool, true, false, List, [], ◌∷◌, ◌++◌, length, Option, Some, None, Result, Ok, Err, refl, sym, ◌∙◌, ap, arith}
+use Rattle.std.proofs.Common.{◌≡◌, ◌≢◌, ◌⊎◌, inl, inr, subst, ℕ, zero, suc, ◌≤◌, Bool, true, false, List, [], ◌∷◌, ◌++◌, length, Option, Some, None, Result, Ok, Err, refl, sym, ◌∙◌, ap, arith}
 use Rattle.std.specs.Prelude.{⊤, ◌||◌, if◌then◌else◌, nat_lt, slice_get}
 use Rattle.std.specs.List.{AllByRecursion, find, list_any}
 use Rattle.std.specs.Option.{option_map}
@@ -15,8 +15,9 @@ use Rattle.css_model.specs.Sheet.{is_namespace, read_items, start_of, too_many_p
 use Rattle.css_model.specs.Sound.{raw_items}
 use Rattle.css_model.specs.Spelling.{lexemes_of}
 use Rattle.css_model.specs.Tokens.{tokens}
+use Rattle.css_print.proofs.BackBlocks.{IsOfDeclaration}
 use Rattle.css_print.proofs.BackFaults.{DoFit, IsPrintOf, IsSameSheet, by_tests, is_deep, find_none, sheet_reads_back}
-use Rattle.css_print.proofs.BackLists.{some_not_none}
+use Rattle.css_print.proofs.BackLists.{cons_not_empty, some_not_none}
 use Rattle.css_print.proofs.BackOrigins.{HasGoodTokens, AreOrigins, origins}
 use Rattle.css_print.proofs.BackRaw.{raw_stand}
 use Rattle.css_print.proofs.BackSheet.{IsFrom, AreInOrder, EndsBefore, imports, IsBefore}
@@ -197,6 +198,23 @@ in_order source ((Rule q) ∷ its) ((KeptBlock p) ∷ old) f order = absurd f
 in_order source ((KeptRule j) ∷ its) ((KeptBlock p) ∷ old) f order = absurd f
 in_order source ((KeptBlock o) ∷ its) ((KeptBlock p) ∷ old) f order =
     subst (λ p. AreInOrder source ((KeptBlock p) ∷ its)) (sym f.0) (first_follows source its old (KeptBlock p) f.1 (in_order source its old f.1 order.2) order.0 order.1)
+
+-- A rule stays one of a source with the declarations of another behind its own.
+pub joined_from : (source : List ℕ) (upper lower : RuleParts) → IsFrom source (Rule upper) → IsFrom source (Rule lower) → IsFrom source (Rule (record upper { decls = upper.decls ++ lower.decls }))
+joined_from source upper lower first second = record {
+  has_selectors = first.has_selectors;
+  has_declarations = λ none. some_append upper.decls lower.decls first.has_declarations none;
+  selectors = first.selectors;
+  decls = each_append (IsOfDeclaration source) upper.decls lower.decls first.decls second.decls;
+}
+  where
+    some_append : {A : Type 0} → (xs ys : List A) → xs ≢ [] → xs ++ ys ≡ [] → ⊥
+    some_append [] ys some none = absurd (some refl)
+    some_append (x ∷ xs) ys some none = cons_not_empty x (xs ++ ys) none
+
+    each_append : {A : Type 0} → (P : A → Type 0) (xs ys : List A) → AllByRecursion P xs → AllByRecursion P ys → AllByRecursion P (xs ++ ys)
+    each_append P [] ys first second = second
+    each_append P (x ∷ xs) ys first second = (first.0, each_append P xs ys first.1 second)
 
 -- A sheet of rules and kept items of a source that was read, in its order, is read back from a text whose tokens are those that are shown for it.
 pub printed_reads_back : (new old : List ℕ) (read its : List Item) → HasGoodTokens old → sheet_of old ≡ Ok read → Follows its read → AllByRecursion (IsFrom old) its → DoFit its → IsPrintOf new old its

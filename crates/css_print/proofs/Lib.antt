@@ -11,6 +11,7 @@ mod BackOrigins
 mod BackParts
 mod BackNames
 mod BackPieces
+mod BackPlaces
 mod BackPreludes
 mod BackRaw
 mod BackRules
