@@ -21,7 +21,7 @@ abbrev pub AllClosed : List Lexeme → Type 0
 AllClosed [] = ⊤
 AllClosed (x ∷ xs) = (opens_block x ≡ true → list_any closes_block xs ≡ true) × AllClosed xs
 
-white_after : (k : TokenKind) (at : ℕ) (brackets : List Bracket) → is_white_kind k ≡ true → (if closes k brackets then drop 1 brackets else opened at (closer_of k) brackets) ≡ brackets
+pub white_after : (k : TokenKind) (at : ℕ) (brackets : List Bracket) → is_white_kind k ≡ true → (if closes k brackets then drop 1 brackets else opened at (closer_of k) brackets) ≡ brackets
 white_after kind.White at [] is = refl
 white_after kind.White at (b ∷ brackets) is = refl
 white_after _ at brackets is = absurd (false≢true is)
@@ -107,7 +107,7 @@ some_last : (b : Bracket) (bs : List Bracket) → (last : Bracket) × (last_or (
 some_last b [] = (b, refl)
 some_last b (next ∷ bs) = some_last next bs
 
-none_open : (bs : List Bracket) → option_map (λ b. b.at) (last_or None bs) ≡ None → bs ≡ []
+pub none_open : (bs : List Bracket) → option_map (λ b. b.at) (last_or None bs) ≡ None → bs ≡ []
 none_open [] e = refl
 none_open (b ∷ bs) e =
     let last = some_last b bs in

@@ -6,6 +6,7 @@ mod BackFaults
 mod BackItems
 mod BackJoins
 mod BackKept
+mod BackLevels
 mod BackLists
 mod BackOrigins
 mod BackParts
