@@ -1,29 +1,28 @@
 -- The declarations of a rule are read as they were from what is printed for them.
-use Rattle.std.proofs.Common.{◌≡◌, ◌⊎◌, inl, inr, subst, ℕ, zero, suc, ◌+◌, ◌-◌, ◌==◌, Bool, true, false, not, List, [], ◌∷◌, ◌++◌, length, take, drop, map, Option, Some, None, refl, sym, ◌∙◌, ap, arith, append-nil}
-use Rattle.std.proofs.lemmas.Bool.{true≢false, false≢true, and_parts}
+use Rattle.std.proofs.Common.{◌≡◌, ◌⊎◌, inl, inr, subst, ℕ, zero, suc, ◌-◌, ◌==◌, Bool, true, false, not, List, [], ◌∷◌, ◌++◌, length, take, drop, map, Some, None, refl, sym, ◌∙◌, ap, arith, append-nil}
+use Rattle.std.proofs.lemmas.Bool.{true≢false, and_parts}
 use Rattle.std.proofs.Math.Seq.{take-append_seam, drop-append_seam}
 use Rattle.std.proofs.lemmas.List.{length-append}
-use Rattle.std.specs.Prelude.{⊤, ◌&&◌, ◌||◌, if◌then◌else◌, codes}
+use Rattle.std.specs.Prelude.{◌&&◌, ◌||◌, if◌then◌else◌, codes}
 use Rattle.std.specs.List.{AllZip, AllByRecursion, list_any, filter_map, cons_option}
 use Rattle.css_model.specs.declared.sheet.DeclItem.{DeclItem}
 use Rattle.css_model.specs.declared.token.Gap.{Gap}
 use Rattle.css_model.specs.declared.token.Gap.TheVariants as gap
 use Rattle.css_model.specs.declared.token.Lexeme.{Lexeme}
-use Rattle.css_model.specs.declared.token.TokenKind.{TokenKind}
 use Rattle.css_model.specs.declared.token.TokenKind.TheVariants as kind
 use Rattle.css_model.specs.Characters.{colon, semicolon, open_curly, close_curly, exclamation_mark, space}
 use Rattle.css_model.specs.Declarations.{is_ident, is_delim_of, is_custom, is_named, property_of, is_importance, is_important, without_importance, text_of_value, declared, declaration, declares_custom, is_nested}
-use Rattle.css_model.specs.Items.{closes_block, is_at_keyword, is_at_rule}
-use Rattle.css_model.specs.Kept.{solid, is_white_gap, value_text}
+use Rattle.css_model.specs.Items.{closes_block, is_at_keyword}
+use Rattle.css_model.specs.Kept.{is_white_gap}
 use Rattle.css_model.specs.Lexemes.{is_sign_of, is_sign_at}
 use Rattle.css_model.specs.Source.{text_at}
 use Rattle.css_model.specs.Spelling.{tokens_in}
 use Rattle.css_model.specs.Unescaped.{unescaped, decoded}
-use Rattle.css_print.proofs.BackAlike.{and_false, IsLike, IsClosable, AreClosable, all_shut, value_like}
+use Rattle.css_print.proofs.BackAlike.{and_false, IsClosable, AreClosable, all_shut, value_like}
 use Rattle.css_print.proofs.BackCuts.{None_of, none_append}
 use Rattle.css_print.proofs.BackEntries.{important_like, declared_same}
-use Rattle.css_print.proofs.BackJoins.{StandsIn, ArePartsOf, is_shown_sign, none_shown}
-use Rattle.css_print.proofs.BackLists.{AllLast, IsCut, cut_at, cons_head, cons_tail, cons_not_empty}
+use Rattle.css_print.proofs.BackJoins.{ArePartsOf, is_shown_sign, none_shown}
+use Rattle.css_print.proofs.BackLists.{AllLast, cut_at, cons_head, cons_tail}
 use Rattle.css_print.proofs.BackPreludes.{some_same}
 use Rattle.css_print.proofs.BackTokens.{Shown, shown, value_shown, colon_gap, importance_shown, declaration_shown, all_shown, inner, last_of_value, last_from_shown}
 use Rattle.css_print.proofs.BackValues.{IsInner, IsLastOfValue, AreShut, value_same}
@@ -232,7 +231,7 @@ record IsEntryAgain (new old : List ℕ) (entry : List Lexeme) (d : DeclItem) : 
   plain : is_nested new entry ≡ false
   again : IsDeclarationAgain new old item d
 
-or_false : (a b : Bool) → (a || b) ≡ false → (a ≡ false) × (b ≡ false)
+pub or_false : (a b : Bool) → (a || b) ≡ false → (a ≡ false) × (b ≡ false)
 or_false false b e = (refl, e)
 or_false true b e = absurd (true≢false e)
 

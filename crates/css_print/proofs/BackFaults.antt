@@ -1,12 +1,11 @@
 -- A printed sheet is read without a fault.
-use Rattle.std.proofs.Common.{◌≡◌, subst, ℕ, zero, suc, ◌+◌, ◌==◌, ◌<◌, ◌≤◌, Bool, true, false, List, [], ◌∷◌, ◌++◌, length, map, Option, Some, None, Result, Ok, Err, refl, sym, ◌∙◌, ap, arith}
-use Rattle.std.proofs.lemmas.Bool.{true≢false, false≢true, le-ltb}
+use Rattle.std.proofs.Common.{◌≡◌, ℕ, suc, ◌+◌, ◌==◌, ◌≤◌, Bool, true, false, List, [], ◌∷◌, ◌++◌, length, map, Option, Some, None, Result, Ok, Err, refl, sym, ◌∙◌, ap, arith}
+use Rattle.std.proofs.lemmas.Bool.{le-ltb}
 use Rattle.std.proofs.lemmas.Option.{slice_get_past}
-use Rattle.std.specs.Prelude.{⊤, ◌&&◌, if◌then◌else◌, nat_lt}
-use Rattle.std.specs.List.{AllByRecursion, filter, find, flat_map}
+use Rattle.std.specs.Prelude.{◌&&◌, if◌then◌else◌, nat_lt}
+use Rattle.std.specs.List.{AllByRecursion, filter, find}
 use Rattle.std.specs.Option.{option_map}
 use Rattle.std.specs.Str.Lossy.{utf8_valid_len}
-use Rattle.css_model.specs.declared.fault.FaultKind.{FaultKind}
 use Rattle.css_model.specs.declared.fault.FaultKind.TheVariants.{TooLong, NotUtf8, EndInside, TooDeep, Namespace, TooManyItems, TooManyPairs}
 use Rattle.css_model.specs.declared.fault.SheetFault.{SheetFault}
 use Rattle.css_model.specs.declared.fault.TheConstants.{LIMIT, BRACKETS, ITEMS, PAIRS}
@@ -17,13 +16,11 @@ use Rattle.css_model.specs.declared.sheet.Piece.{Piece}
 use Rattle.css_model.specs.declared.sheet.SelItem.{SelItem}
 use Rattle.css_model.specs.declared.token.Lexeme.{Lexeme}
 use Rattle.css_model.specs.declared.token.Token.{Token}
-use Rattle.css_model.specs.declared.token.TokenFault.{TokenFault}
 use Rattle.css_model.specs.Characters.{comma, semicolon, open_curly, close_curly}
-use Rattle.css_model.specs.Items.{items, is_whole}
-use Rattle.css_model.specs.Lexemes.{lexemes, piece_of}
+use Rattle.css_model.specs.Lexemes.{piece_of}
 use Rattle.css_model.specs.Printed.{printed}
-use Rattle.css_model.specs.RuleParts.{RuleParts}
 use Rattle.css_model.specs.Sheet.{is_namespace, read_items, start_of, pairs_of, too_many_pairs, opens, too_deep, unclosed, namespace_at, too_many_items, fault_of, unless, sheet_of_tokens, sheet_of_stream, sheet_of}
+use Rattle.css_model.specs.Sound.{raw_items}
 use Rattle.css_model.specs.Spelling.{stands_in, lexemes_of, tokens_in, all_said}
 use Rattle.css_model.specs.Tokens.{tokens}
 use Rattle.css_print.proofs.BackAlike.{and_false}
@@ -32,7 +29,7 @@ use Rattle.css_print.proofs.BackJoins.{none_joined}
 use Rattle.css_print.proofs.BackLists.{cons_head, cons_tail, cons_not_empty, some_not_none}
 use Rattle.css_print.proofs.BackSaid.{InOrder, IsReadBack, items_read_back}
 use Rattle.css_print.proofs.BackSheet.{IsFrom, AreInOrder}
-use Rattle.css_print.proofs.BackTokens.{Shown, shown, all_shown, inner, last_of_value, last_of_item, kept_shown, value_shown, joined, sign_shown, selector_token, selector_shown, importance_shown, declaration_shown, rule_shown, item_shown, sheet_shown}
+use Rattle.css_print.proofs.BackTokens.{Shown, shown, all_shown, inner, last_of_value, last_of_item, kept_shown, value_shown, joined, sign_shown, selector_token, selector_shown, importance_shown, declaration_shown, item_shown, sheet_shown}
 
 -- a token that opens a bracket too many, and one that is shown so
 abbrev pub is_deep : Lexeme → Bool
@@ -108,7 +105,7 @@ not_deep source (y ∷ ys) (s ∷ ss) e fail =
     ap (λ b. if b then Some y else find is_deep ys) (ap is_shown_deep (cons_head (shown source y) s (map (shown source) ys) ss e) ∙ fail.0)
     ∙ not_deep source ys ss (cons_tail (shown source y) s (map (shown source) ys) ss e) fail.1
 
-find_none : {A : Type 0} (p : A → Bool) (xs : List A) → find p xs ≡ None → None_of p xs
+pub find_none : {A : Type 0} (p : A → Bool) (xs : List A) → find p xs ≡ None → None_of p xs
 find_none p [] e = tt
 find_none p (x ∷ xs) e = which (p x) refl (find_none p xs)
   where
@@ -156,7 +153,7 @@ length-pairs [] = refl
 length-pairs (item ∷ its) = ap suc (length-pairs its)
 
 -- what is read, unless one of these places is that of a fault
-abbrev by_tests : Option ℕ → Option ℕ → Option ℕ → Option ℕ → Option ℕ → List Item → Result (List Item) SheetFault
+abbrev pub by_tests : Option ℕ → Option ℕ → Option ℕ → Option ℕ → Option ℕ → List Item → Result (List Item) SheetFault
 by_tests deep unclosed namespace many pairs read =
     unless (fault_of TooDeep deep ∷ fault_of EndInside unclosed ∷ fault_of Namespace namespace ∷ fault_of TooManyItems many ∷ fault_of TooManyPairs pairs ∷ []) read
 
@@ -175,10 +172,10 @@ sheet_reads_back new old its sound order fit shallow print =
     not_deep_at : too_deep (lexemes_of new) ≡ None
     not_deep_at = ap (option_map (λ x. x.span.start)) (not_deep new (lexemes_of new) (sheet_shown old its) print.shown_as (deep_sheet old (find_none is_deep (lexemes_of old) shallow) its))
 
-    names : namespace_at new (filter is_whole (items (lexemes_of new))) ≡ None
+    names : namespace_at new (raw_items new) ≡ None
     names = ap (λ raw. option_map (λ item. (piece_of item).start) (find (is_namespace new) raw)) back.is_raw ∙ ap (option_map (λ item. (piece_of item).start)) back.no_namespace
 
-    is_read : read_items new (filter is_whole (items (lexemes_of new))) ≡ back.read
+    is_read : read_items new (raw_items new) ≡ back.read
     is_read = ap (read_items new) back.is_raw ∙ back.reads
 
     number : length back.read ≡ length its
@@ -192,9 +189,9 @@ sheet_reads_back new old its sound order fit shallow print =
 
     of_tokens : sheet_of_tokens new ts ≡ Ok back.read
     of_tokens =
-        ap (λ deep. by_tests deep (unclosed ts) (namespace_at new (filter is_whole (items (lexemes ts)))) (too_many_items (read_items new (filter is_whole (items (lexemes ts))))) (too_many_pairs 0 (read_items new (filter is_whole (items (lexemes ts))))) (read_items new (filter is_whole (items (lexemes ts))))) not_deep_at
-        ∙ ap (λ closed. by_tests None closed (namespace_at new (filter is_whole (items (lexemes ts)))) (too_many_items (read_items new (filter is_whole (items (lexemes ts))))) (too_many_pairs 0 (read_items new (filter is_whole (items (lexemes ts))))) (read_items new (filter is_whole (items (lexemes ts))))) print.closed
-        ∙ ap (λ names. by_tests None None names (too_many_items (read_items new (filter is_whole (items (lexemes ts))))) (too_many_pairs 0 (read_items new (filter is_whole (items (lexemes ts))))) (read_items new (filter is_whole (items (lexemes ts))))) names
+        ap (λ deep. by_tests deep (unclosed ts) (namespace_at new (raw_items new)) (too_many_items (read_items new (raw_items new))) (too_many_pairs 0 (read_items new (raw_items new))) (read_items new (raw_items new))) not_deep_at
+        ∙ ap (λ closed. by_tests None closed (namespace_at new (raw_items new)) (too_many_items (read_items new (raw_items new))) (too_many_pairs 0 (read_items new (raw_items new))) (read_items new (raw_items new))) print.closed
+        ∙ ap (λ names. by_tests None None names (too_many_items (read_items new (raw_items new))) (too_many_pairs 0 (read_items new (raw_items new))) (read_items new (raw_items new))) names
         ∙ ap (λ read. by_tests None None None (too_many_items read) (too_many_pairs 0 read) read) is_read
         ∙ ap (λ many. by_tests None None None many (too_many_pairs 0 back.read) back.read) few_items
         ∙ ap (λ pairs. by_tests None None None None pairs back.read) few_pairs

@@ -1,11 +1,11 @@
 -- Parts with a sign between them are cut into these parts again.
-use Rattle.std.proofs.Common.{◌≡◌, subst, ℕ, zero, suc, ◌+◌, ◌==◌, Bool, true, false, List, [], ◌∷◌, ◌++◌, map, refl, sym, ◌∙◌, ap, arith, append_assoc, append-nil}
-use Rattle.std.specs.Prelude.{⊤, ◌&&◌, ◌||◌, if◌then◌else◌}
+use Rattle.std.proofs.Common.{◌≡◌, subst, ℕ, ◌==◌, Bool, true, false, List, [], ◌∷◌, ◌++◌, map, refl, sym, ◌∙◌, ap, append_assoc, append-nil}
+use Rattle.std.specs.Prelude.{◌&&◌}
 use Rattle.std.specs.List.{AllZip, AllByRecursion, slice_split}
 use Rattle.css_model.specs.declared.token.Lexeme.{Lexeme}
 use Rattle.css_model.specs.Lexemes.{is_sign_of, is_sign_at}
 use Rattle.css_print.proofs.BackCuts.{None_of, none_append, split_none, split_at}
-use Rattle.css_print.proofs.BackLists.{IsCut, cut_at, cons_head, cons_tail, cons_not_empty}
+use Rattle.css_print.proofs.BackLists.{cut_at, cons_head, cons_tail, cons_not_empty}
 use Rattle.css_print.proofs.BackTokens.{Shown, shown, joined}
 
 -- a sign of this level among tokens that are shown

@@ -1,13 +1,13 @@
 -- A white space that closes the open escape of a name changes no name.
-use Rattle.std.proofs.Common.{◌≡◌, ◌⊎◌, inl, inr, subst, ℕ, zero, suc, ◌+◌, ◌*◌, ◌==◌, ◌<◌, ◌≤◌, Bool, true, false, List, [], ◌∷◌, ◌++◌, length, take, drop, Option, Some, None, Result, Ok, Err, refl, sym, ◌∙◌, ap, arith}
-use Rattle.std.proofs.lemmas.Bool.{true≢false, false≢true, eqb-true, ne_eqb}
-use Rattle.std.specs.Prelude.{⊤, ◌&&◌, ◌||◌, if◌then◌else◌, nat_lt, encode_utf8}
+use Rattle.std.proofs.Common.{◌≡◌, ◌⊎◌, inl, inr, subst, ℕ, zero, suc, ◌+◌, ◌*◌, ◌==◌, Bool, true, false, List, [], ◌∷◌, ◌++◌, length, take, drop, Some, None, Result, Ok, Err, refl, sym, ◌∙◌, ap, arith}
+use Rattle.std.proofs.lemmas.Bool.{false≢true, eqb-true, ne_eqb}
+use Rattle.std.specs.Prelude.{⊤, ◌&&◌, if◌then◌else◌, nat_lt, encode_utf8}
 use Rattle.std.specs.Char.{is_ascii_hexdigit, digit_value}
 use Rattle.css_model.specs.declared.token.TokenKind.{TokenKind}
 use Rattle.css_model.specs.declared.token.TokenKind.TheVariants as kind
 use Rattle.css_model.specs.declared.token.TokenFlaw.{TokenFlaw}
 use Rattle.css_model.specs.declared.token.TokenFlaw.TheVariants as flaw
-use Rattle.css_model.specs.Characters.{backslash, space, line_feed, carriage_return, slash, star, dash, hash, at_sign, less_than, greater_than, percent, open_round, close_round, is_newline, is_white, is_name, is_sign, begins, begins_with}
+use Rattle.css_model.specs.Characters.{backslash, space, slash, star, dash, hash, at_sign, less_than, greater_than, percent, open_round, close_round, is_newline, is_white, is_name, is_sign, begins, begins_with}
 use Rattle.css_model.specs.declared.token.Lexeme.{Lexeme}
 use Rattle.css_model.specs.Kept.{is_open, length_of}
 use Rattle.css_model.specs.Source.{text_at}

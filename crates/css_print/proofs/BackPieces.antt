@@ -1,5 +1,5 @@
 -- The tokens of a source stand in order, so a piece has just the tokens that it was made of.
-use Rattle.std.proofs.Common.{◌≡◌, subst, ℕ, zero, suc, ◌+◌, ◌<◌, ◌≤◌, Bool, true, false, List, [], ◌∷◌, ◌++◌, refl, sym, ◌∙◌, ap, arith, append_assoc, append-nil}
+use Rattle.std.proofs.Common.{◌≡◌, subst, ℕ, ◌<◌, ◌≤◌, Bool, true, false, List, [], ◌∷◌, ◌++◌, refl, sym, ◌∙◌, ap, arith, append_assoc, append-nil}
 use Rattle.std.proofs.lemmas.Bool.{le-leb, lt-leb}
 use Rattle.std.proofs.lemmas.List.Elements.{filter-append}
 use Rattle.std.specs.Prelude.{⊤, ◌&&◌, if◌then◌else◌, nat_le}
@@ -112,3 +112,49 @@ pub stand_alone : (at : ℕ) (whole part : List Lexeme) → AreAscending at whol
 stand_alone at whole part ascending inside =
     let is : whole ≡ inside.front ++ (part ++ inside.behind) = inside.is ∙ append_assoc inside.front part inside.behind in
     ap (filter (stands_in (piece_of part))) is ∙ alone_in at inside.front part inside.behind (subst (AreAscending at) is ascending)
+
+-- tokens with the white space behind each, which stands before the next one
+abbrev pub AreSpaced : List Lexeme → Type 0
+AreSpaced [] = ⊤
+AreSpaced (x ∷ xs) = (x.span.«end» ≤ x.white.start) × (x.white.start ≤ x.white.«end») × AreAscending x.white.«end» xs × AreSpaced xs
+
+spaced_cut : (xs ys : List Lexeme) → AreSpaced (xs ++ ys) → AreSpaced ys
+spaced_cut [] ys spaced = spaced
+spaced_cut (x ∷ xs) ys spaced = spaced_cut xs ys spaced.3
+
+-- no token stands in a piece between a token and those behind it
+none_between : (at : ℕ) (front : List Lexeme) (x : Lexeme) (behind : List Lexeme) (start end : ℕ) → AreAscending at (front ++ (x ∷ behind)) → x.span.«end» ≤ start → AreAscending end behind
+    → filter (stands_in (record { start = start; «end» = end })) (front ++ (x ∷ behind)) ≡ []
+none_between at front x behind start end ascending le later =
+    ap (filter in_piece) (sym (append_assoc front (x ∷ []) behind))
+    ∙ filter-append in_piece (front ++ x ∷ []) behind
+    ∙ ap (λ zs. zs ++ filter in_piece behind) (stand_before start end at (front ++ x ∷ []) (between_from at at start (front ++ x ∷ []) (omega arith) upper (omega (arith, end_cut at front (x ∷ []), le))))
+    ∙ stand_behind start end (end_from end behind) behind (between_from end end (end_from end behind) behind (omega arith) later (omega arith))
+  where
+    in_piece : Lexeme → Bool
+    in_piece = stands_in (record { start = start; «end» = end })
+
+    upper : AreAscending at (front ++ x ∷ [])
+    upper = (ascending_cut at (front ++ x ∷ []) behind (subst (AreAscending at) (sym (append_assoc front (x ∷ []) behind)) ascending)).0
+
+in_gap : (at : ℕ) (front : List Lexeme) (x : Lexeme) (behind : List Lexeme) (piece : Piece) → AreAscending at (front ++ (x ∷ behind)) → x.span.«end» ≤ piece.start → AreAscending piece.«end» behind
+    → filter (stands_in piece) (front ++ (x ∷ behind)) ≡ []
+in_gap at front x behind piece = none_between at front x behind piece.start piece.«end»
+
+one_cut : (whole : List Lexeme) (x : Lexeme) (inside : StandsIn whole (x ∷ [])) → whole ≡ inside.front ++ (x ∷ inside.behind)
+one_cut whole x inside = inside.is ∙ append_assoc inside.front (x ∷ []) inside.behind
+
+-- No token stands in the white space behind a token, or in the empty piece at its end.
+pub none_in_white : (whole : List Lexeme) (x : Lexeme) → AreAscending 0 whole → AreSpaced whole → StandsIn whole (x ∷ []) → filter (stands_in x.white) whole ≡ []
+none_in_white whole x ascending spaced inside =
+    let is = one_cut whole x inside in
+    let here = spaced_cut inside.front (x ∷ inside.behind) (subst AreSpaced is spaced) in
+    ap (filter (stands_in x.white)) is ∙ in_gap 0 inside.front x inside.behind x.white (subst (AreAscending 0) is ascending) here.0 here.2
+
+pub none_at_end : (whole : List Lexeme) (x : Lexeme) → AreAscending 0 whole → StandsIn whole (x ∷ []) → filter (stands_in (record { start = x.span.«end»; «end» = x.span.«end» })) whole ≡ []
+none_at_end whole x ascending inside =
+    let is = one_cut whole x inside in
+    let moved = subst (AreAscending 0) is ascending in
+    let here = ascending_cut 0 inside.front (x ∷ inside.behind) moved in
+    ap (filter (stands_in (record { start = x.span.«end»; «end» = x.span.«end» }))) is
+    ∙ none_between 0 inside.front x inside.behind x.span.«end» x.span.«end» moved (omega arith) here.1.2

@@ -1,25 +1,22 @@
 -- A rule is read as it was from what is printed for it.
-use Rattle.std.proofs.Common.{◌≡◌, ◌≢◌, subst, ℕ, zero, suc, ◌+◌, Bool, true, false, not, List, [], ◌∷◌, ◌++◌, map, Option, Some, None, refl, sym, ◌∙◌, ap, arith, append_assoc}
-use Rattle.std.proofs.lemmas.Bool.{true≢false, false≢true}
-use Rattle.std.specs.Prelude.{⊤, ◌&&◌, ◌||◌, if◌then◌else◌}
-use Rattle.std.specs.List.{AllZip, AllByRecursion, before_first, after_first, slice_split, list_any, filter_map}
+use Rattle.std.proofs.Common.{◌≡◌, ◌≢◌, subst, ℕ, Bool, true, false, not, List, [], ◌∷◌, ◌++◌, map, Some, None, refl, sym, ◌∙◌, ap, append_assoc}
+use Rattle.std.proofs.lemmas.Bool.{false≢true}
+use Rattle.std.specs.Prelude.{◌||◌, if◌then◌else◌}
+use Rattle.std.specs.List.{AllZip, AllByRecursion, before_first, slice_split, list_any, filter_map}
 use Rattle.css_model.specs.declared.sheet.DeclItem.{DeclItem}
-use Rattle.css_model.specs.declared.sheet.Item.{Item}
 use Rattle.css_model.specs.declared.sheet.Item.TheVariants.{Rule, KeptBlock}
-use Rattle.css_model.specs.declared.sheet.Piece.{Piece}
 use Rattle.css_model.specs.declared.sheet.SelItem.{SelItem}
 use Rattle.css_model.specs.declared.token.Lexeme.{Lexeme}
 use Rattle.css_model.specs.Characters.{comma, semicolon, open_curly, close_curly}
 use Rattle.css_model.specs.Declarations.{declaration, is_nested}
-use Rattle.css_model.specs.Items.{is_at_keyword, is_between_items, opens_block, closes_block, is_at_rule, is_whole, selector_parts, entries}
+use Rattle.css_model.specs.Items.{opens_block, closes_block, is_at_rule, is_whole, selector_parts, entries}
 use Rattle.css_model.specs.Lexemes.{is_sign_at, piece_of}
 use Rattle.css_model.specs.RuleParts.{RuleParts}
-use Rattle.css_model.specs.Selectors.{all_of, selector_item}
 use Rattle.css_model.specs.Sheet.{item_of, rule_or_block}
 use Rattle.css_print.proofs.BackBlocks.{IsOfDeclaration, IsDeclarationAgain, AreDeclarationsAgain, declarations_again, declarations_no_semicolon, declarations_no_close}
 use Rattle.css_print.proofs.BackCuts.{None_of, before_at, after_at}
 use Rattle.css_print.proofs.BackItems.{or_true, begins_item, ends_in, ends_with_block, is_ended, is_nil}
-use Rattle.css_print.proofs.BackJoins.{StandsIn, ArePartsOf, AreCut, is_shown_sign, none_shown, none_joined, cut_joined, stands_front, wider}
+use Rattle.css_print.proofs.BackJoins.{StandsIn, AreCut, is_shown_sign, none_shown, none_joined, cut_joined, stands_front, wider}
 use Rattle.css_print.proofs.BackKept.{qualified_at}
 use Rattle.css_print.proofs.BackLists.{cut_at, cons_head, cons_tail, cons_not_empty}
 use Rattle.css_print.proofs.BackPreludes.{IsOfSelector, IsSelectorAgain, AreSelectorsAgain, selectors_again, selectors_no_sign, selectors_start, selector_no_at, starts_rule, starts_append}

@@ -1,6 +1,5 @@
 -- A sheet that is read from what was printed for another says what that one says, and is printed alike.
-use Rattle.std.proofs.Common.{◌≡◌, subst, ℕ, zero, suc, ◌+◌, ◌*◌, Bool, true, false, List, [], ◌∷◌, ◌++◌, length, map, Option, Some, None, refl, sym, ◌∙◌, ap, arith}
-use Rattle.std.specs.Prelude.{⊤, if◌then◌else◌}
+use Rattle.std.proofs.Common.{◌≡◌, ℕ, ◌*◌, List, [], ◌∷◌, ◌++◌, length, map, None, refl, ◌∙◌, ap}
 use Rattle.std.specs.List.{AllZip, AllByRecursion, flat_map, join_with_byte, filter, find}
 use Rattle.css_model.specs.declared.sheet.DeclItem.{DeclItem}
 use Rattle.css_model.specs.declared.sheet.Item.{Item}
@@ -11,21 +10,16 @@ use Rattle.css_model.specs.declared.token.Lexeme.{Lexeme}
 use Rattle.css_model.specs.Characters.{comma, colon, semicolon, open_curly, close_curly}
 use Rattle.css_model.specs.Items.{items, is_whole}
 use Rattle.css_model.specs.Kept.{solid, kept}
-use Rattle.css_model.specs.KeptRuleParts.{KeptRuleParts}
-use Rattle.css_model.specs.Lexemes.{piece_of}
-use Rattle.css_model.specs.Printed.{printed_selector, importance, printed_declaration, printed_rule, printed_item, behind_mark, printed}
-use Rattle.css_model.specs.RuleParts.{RuleParts}
-use Rattle.css_model.specs.Sheet.{is_namespace, read_items, pairs_of, too_many_pairs}
+use Rattle.css_model.specs.Printed.{printed_selector, importance, printed_declaration, printed_item, behind_mark, printed}
+use Rattle.css_model.specs.Sheet.{is_namespace, read_items, pairs_of}
 use Rattle.css_model.specs.Source.{text_at}
-use Rattle.css_model.specs.Spelling.{Said, Style, Kept, Block, said, all_said, lexemes_of, tokens_in, kept_text}
-use Rattle.css_model.specs.StyleRule.{StyleRule, selectors_of, style_rule}
+use Rattle.css_model.specs.Spelling.{Style, Kept, Block, said, all_said, lexemes_of, tokens_in, kept_text}
+use Rattle.css_model.specs.StyleRule.{selectors_of}
 use Rattle.css_print.proofs.BackBlocks.{IsDeclarationAgain}
-use Rattle.css_print.proofs.BackJoins.{StandsIn}
 use Rattle.css_print.proofs.BackLists.{zip_length}
 use Rattle.css_print.proofs.BackPieces.{AreAscending, stand_alone}
 use Rattle.css_print.proofs.BackPreludes.{IsSelectorAgain}
-use Rattle.css_print.proofs.BackRules.{IsRuleAgain}
-use Rattle.css_print.proofs.BackSheet.{IsFrom, AreInOrder, IsKeptAgain, IsAgain, IsSheetAgain, sheet_again}
+use Rattle.css_print.proofs.BackSheet.{IsFrom, AreInOrder, IsKeptAgain, IsAgain, sheet_again}
 use Rattle.css_print.proofs.BackTokens.{shown, sheet_shown}
 
 -- the tokens of a source stand in order

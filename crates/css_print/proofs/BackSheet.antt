@@ -1,8 +1,7 @@
 -- The items of a printed sheet are read as the items of the sheet.
-use Rattle.std.proofs.Common.{◌≡◌, ◌≢◌, subst, ℕ, zero, suc, ◌+◌, Bool, true, false, not, List, [], ◌∷◌, ◌++◌, length, drop, map, Option, Some, None, refl, sym, ◌∙◌, ap, arith, append_assoc, append-nil}
-use Rattle.std.proofs.lemmas.Bool.{true≢false, false≢true}
+use Rattle.std.proofs.Common.{◌≡◌, subst, ℕ, Bool, true, false, List, [], ◌∷◌, ◌++◌, length, drop, map, Option, Some, None, refl, sym, ◌∙◌, ap, arith, append-nil}
 use Rattle.std.specs.Prelude.{⊤, ◌&&◌, ◌||◌, if◌then◌else◌, codes}
-use Rattle.std.specs.List.{AllZip, AllByRecursion, cons_option, filter, find, list_any, flat_map}
+use Rattle.std.specs.List.{cons_option, AllZip, AllByRecursion, filter, find, list_any}
 use Rattle.std.specs.Str.{str_eq_ignore_ascii_case}
 use Rattle.css_model.specs.declared.sheet.Item.{Item}
 use Rattle.css_model.specs.declared.sheet.Item.TheVariants.{Rule, KeptRule, KeptBlock}
@@ -17,7 +16,6 @@ use Rattle.css_model.specs.Items.{is_at_keyword, item_len, items, is_at_rule, is
 use Rattle.css_model.specs.Kept.{solid, kept}
 use Rattle.css_model.specs.KeptRuleParts.{KeptRuleParts}
 use Rattle.css_model.specs.Lexemes.{piece_of}
-use Rattle.css_model.specs.RuleParts.{RuleParts}
 use Rattle.css_model.specs.Sheet.{is_at_rule_named, is_import, is_namespace, item_of, read_items}
 use Rattle.css_model.specs.Source.{text_at}
 use Rattle.css_model.specs.Spelling.{tokens_in, kept_text}
@@ -27,11 +25,11 @@ use Rattle.css_print.proofs.BackEntries.{at_rule_like, sign_like}
 use Rattle.css_print.proofs.BackItems.{begins_item, is_ended, ended_item_len, all_of_them, StandAsItems, items_again, ended_like, begins_like, item_len_like}
 use Rattle.css_print.proofs.BackJoins.{StandsIn, stands_whole, stands_front, stands_behind, stands_inside}
 use Rattle.css_print.proofs.BackKept.{SameAt, kept_item_same}
-use Rattle.css_print.proofs.BackLists.{AreBoth, AllLast, IsCut, cut_at, zip_length, zip_any, zip_map}
+use Rattle.css_print.proofs.BackLists.{AreBoth, cut_at, zip_length, zip_any, zip_map}
 use Rattle.css_print.proofs.BackPreludes.{IsSelectorAgain}
-use Rattle.css_print.proofs.BackRules.{IsOfRule, IsRuleAgain, IsReadRule, rule_again}
-use Rattle.css_print.proofs.BackTokens.{Shown, shown, inner, last_of_item, kept_shown, rule_shown, item_shown, sheet_shown, last_from_shown}
-use Rattle.css_print.proofs.BackValues.{IsInner, IsLastOfItem, kept_same}
+use Rattle.css_print.proofs.BackRules.{IsOfRule, IsRuleAgain, rule_again}
+use Rattle.css_print.proofs.BackTokens.{shown, inner, last_of_item, kept_shown, item_shown, sheet_shown, last_from_shown}
+use Rattle.css_print.proofs.BackValues.{kept_same}
 
 -- a kept item, by the tokens in its piece: they are an item of the source
 pub record IsOfItem (source : List ℕ) (piece : Piece) : Type 0 where
@@ -117,7 +115,7 @@ at_rule_named_like word new old (y ∷ ys) [] z = absurd z
 at_rule_named_like word new old (y ∷ ys) (x ∷ xs) z =
     ap (λ k. is_at_keyword k && is_named word (drop 1 (text_at new y.span))) z.0.kind ∙ named_in x.kind word (text_at new y.span) (text_at old x.span) z.0.name
 
-not_named : (word source : List ℕ) (ys : List Lexeme) → is_at_rule ys ≡ false → is_at_rule_named word source ys ≡ false
+pub not_named : (word source : List ℕ) (ys : List Lexeme) → is_at_rule ys ≡ false → is_at_rule_named word source ys ≡ false
 not_named word source [] qualified = refl
 not_named word source (y ∷ ys) qualified = ap (λ b. b && is_named word (drop 1 (text_at source y.span))) qualified
 

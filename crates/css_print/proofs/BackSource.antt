@@ -1,8 +1,8 @@
 -- Every block of a source whose brackets are closed ends.
-use Rattle.std.proofs.Common.{◌≡◌, subst, ℕ, zero, suc, ◌+◌, ◌==◌, Bool, true, false, List, [], ◌∷◌, ◌++◌, length, take, drop, Option, Some, None, refl, sym, ◌∙◌, ap, arith}
-use Rattle.std.proofs.lemmas.Bool.{true≢false, false≢true, and_parts, eqb-true}
+use Rattle.std.proofs.Common.{◌≡◌, subst, ℕ, ◌==◌, Bool, true, false, List, [], ◌∷◌, ◌++◌, length, drop, Option, Some, None, refl, sym, ◌∙◌, ap, arith}
+use Rattle.std.proofs.lemmas.Bool.{false≢true, and_parts, eqb-true}
 use Rattle.std.specs.Prelude.{⊤, ◌&&◌, ◌||◌, if◌then◌else◌}
-use Rattle.std.specs.List.{AllByRecursion, list_any, last_or}
+use Rattle.std.specs.List.{list_any, last_or}
 use Rattle.std.specs.Option.{option_map}
 use Rattle.css_model.specs.declared.token.Bracket.{Bracket}
 use Rattle.css_model.specs.declared.token.Lexeme.{Lexeme}
@@ -21,7 +21,7 @@ abbrev pub AllClosed : List Lexeme → Type 0
 AllClosed [] = ⊤
 AllClosed (x ∷ xs) = (opens_block x ≡ true → list_any closes_block xs ≡ true) × AllClosed xs
 
-white_after : (k : TokenKind) (at : ℕ) (brackets : List Bracket) → is_white_kind k ≡ true → (if closes k brackets then drop 1 brackets else opened at (closer_of k) brackets) ≡ brackets
+pub white_after : (k : TokenKind) (at : ℕ) (brackets : List Bracket) → is_white_kind k ≡ true → (if closes k brackets then drop 1 brackets else opened at (closer_of k) brackets) ≡ brackets
 white_after kind.White at [] is = refl
 white_after kind.White at (b ∷ brackets) is = refl
 white_after _ at brackets is = absurd (false≢true is)
@@ -107,7 +107,7 @@ some_last : (b : Bracket) (bs : List Bracket) → (last : Bracket) × (last_or (
 some_last b [] = (b, refl)
 some_last b (next ∷ bs) = some_last next bs
 
-none_open : (bs : List Bracket) → option_map (λ b. b.at) (last_or None bs) ≡ None → bs ≡ []
+pub none_open : (bs : List Bracket) → option_map (λ b. b.at) (last_or None bs) ≡ None → bs ≡ []
 none_open [] e = refl
 none_open (b ∷ bs) e =
     let last = some_last b bs in

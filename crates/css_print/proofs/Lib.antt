@@ -6,9 +6,13 @@ mod BackFaults
 mod BackItems
 mod BackJoins
 mod BackKept
+mod BackLevels
 mod BackLists
 mod BackNames
+mod BackOrigins
+mod BackParts
 mod BackPieces
+mod BackPlaces
 mod BackPreludes
 mod BackRaw
 mod BackRules
@@ -18,6 +22,7 @@ mod BackSheet
 mod BackSource
 mod BackTokens
 mod BackValues
+mod BackWhole
 pub mod FrontChain
 pub mod FrontItems
 pub mod FrontLevels
