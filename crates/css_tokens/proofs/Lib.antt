@@ -7,6 +7,7 @@ pub mod EndExamples
 pub mod EndsAnywhere
 pub mod EndsLemmas
 pub mod EscapeLemmas
+pub mod FirstBytes
 pub mod InsideRuns
 pub mod Keeps
 pub mod KeptBack
