@@ -11,6 +11,7 @@ mod BackLists
 mod BackOrigins
 mod BackParts
 mod BackNames
+mod BackNesting
 mod BackPieces
 mod BackPlaces
 mod BackPreludes
