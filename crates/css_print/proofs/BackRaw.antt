@@ -55,7 +55,7 @@ take_item a (x ∷ xs) closed some = which (take_item a xs closed.1) (opens_bloc
         ∙ again (ap (λ b. b || list_any (ends_prelude a) xs) (sym (ends_second a x false is semi)) ∙ some)
 
 -- a prelude that nothing ends takes all
-no_end : (a : Bool) (xs : List Lexeme) → list_any (ends_prelude a) xs ≡ false → len_of a xs ≡ length xs
+pub no_end : (a : Bool) (xs : List Lexeme) → list_any (ends_prelude a) xs ≡ false → len_of a xs ≡ length xs
 no_end a [] none = refl
 no_end a (x ∷ xs) none = which (no_end a xs) (ends_prelude a x) refl
   where
@@ -101,7 +101,7 @@ any_weaker a (x ∷ xs) none = which (opens_block x) refl (a && is_sign_at semic
         later false c e = e
 
 -- an item has a token
-some_len : (a : Bool) (x : Lexeme) (xs : List Lexeme) → 0 < len_of a (x ∷ xs)
+pub some_len : (a : Bool) (x : Lexeme) (xs : List Lexeme) → 0 < len_of a (x ∷ xs)
 some_len a x xs = which (ends_prelude a x) refl
   where
     some_end : (b : Bool) (n : ℕ) → 0 < (if b then 2 + n else 1)
@@ -112,7 +112,7 @@ some_len a x xs = which (ends_prelude a x) refl
     which true is = omega (arith, len_here a x xs is, some_end (opens_block x) (position_or_len closes_block xs))
     which false is = omega (arith, len_later a x xs is)
 
-suc_less : (n : ℕ) → 0 < n → n ≡ suc (less_one n)
+pub suc_less : (n : ℕ) → 0 < n → n ≡ suc (less_one n)
 suc_less zero some = absurd (omega (arith, some))
 suc_less (suc n) some = refl
 

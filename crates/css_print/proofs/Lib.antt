@@ -9,6 +9,7 @@ mod BackKept
 mod BackLevels
 mod BackLists
 mod BackNames
+mod BackNesting
 mod BackOrigins
 mod BackParts
 mod BackPieces
