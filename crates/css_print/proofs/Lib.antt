@@ -25,6 +25,7 @@ mod BackTokens
 mod BackValues
 mod BackWhole
 pub mod FrontChain
+pub mod FrontGood
 pub mod FrontItems
 pub mod FrontLevels
 pub mod FrontLexed
