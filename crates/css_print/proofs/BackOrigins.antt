@@ -39,14 +39,14 @@ pub record HasGoodTokens (source : List ℕ) : Type 0 where
   pub spaced : AreSpaced (lexemes_of source)
   pub closable : AreClosable source (lexemes_of source)
 
-stand_alone_in : (source : List ℕ) → HasGoodTokens source → (xs : List Lexeme) → StandsIn (lexemes_of source) xs → tokens_in source (piece_of xs) ≡ xs
+pub stand_alone_in : (source : List ℕ) → HasGoodTokens source → (xs : List Lexeme) → StandsIn (lexemes_of source) xs → tokens_in source (piece_of xs) ≡ xs
 stand_alone_in source good xs stands = stand_alone 0 (lexemes_of source) xs good.ascending stands
 
 closable_in : (source : List ℕ) → HasGoodTokens source → (xs : List Lexeme) → StandsIn (lexemes_of source) xs → AreClosable source xs
 closable_in source good xs stands = each_inside (IsClosable source) (lexemes_of source) xs stands good.closable
 
 -- a selector of a part that stands in the source
-selector_from : (source : List ℕ) → HasGoodTokens source → (part : List Lexeme) (s : SelItem) → StandsIn (lexemes_of source) part → selector_item source part ≡ Some s → IsOfSelector source s
+pub selector_from : (source : List ℕ) → HasGoodTokens source → (part : List Lexeme) (s : SelItem) → StandsIn (lexemes_of source) part → selector_item source part ≡ Some s → IsOfSelector source s
 selector_from source good part s stands reads =
     record { part = part; reads = reads; alone = ap (tokens_in source) (sym (by_test (simple_of source part) reads)) ∙ stand_alone_in source good part stands }
   where
@@ -106,7 +106,7 @@ value_alone source good name sign value stands =
         which true = none_in_white (lexemes_of source) sign good.ascending good.spaced in_sign
         which false = none_at_end (lexemes_of source) sign good.ascending in_sign
 
-declaration_from : (source : List ℕ) → HasGoodTokens source → (entry : List Lexeme) (d : DeclItem) → StandsIn (lexemes_of source) entry → None_of (is_sign_at semicolon 1) entry → None_of closes_block entry
+pub declaration_from : (source : List ℕ) → HasGoodTokens source → (entry : List Lexeme) (d : DeclItem) → StandsIn (lexemes_of source) entry → None_of (is_sign_at semicolon 1) entry → None_of closes_block entry
     → is_nested source entry ≡ false → declaration source entry ≡ Some d → IsOfDeclaration source d
 declaration_from source good entry d stands single inside plain reads =
     record { entry = entry; reads = reads; plain = plain; single = single; inside = inside; closable = closable_in source good entry stands; alone = by_entry entry stands reads }
@@ -143,7 +143,7 @@ record IsOrigin (source : List ℕ) (xs : List Lexeme) (item : Item) : Type 0 wh
   import : imports source item ≡ is_import source xs
   ends : is_ended xs ≡ true → ends_itself source item ≡ true
 
-kept_from : (source : List ℕ) → HasGoodTokens source → (xs : List Lexeme) → IsRawItem (lexemes_of source) xs → is_namespace source xs ≡ false → IsOfItem source (piece_of xs)
+pub kept_from : (source : List ℕ) → HasGoodTokens source → (xs : List Lexeme) → IsRawItem (lexemes_of source) xs → is_namespace source xs ≡ false → IsOfItem source (piece_of xs)
 kept_from source good xs raw name =
     let alone = stand_alone_in source good xs raw.is_item.stands in
     record {

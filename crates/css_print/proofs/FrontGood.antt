@@ -56,7 +56,7 @@ named-of v k solid_ other plain read =
     which here true open_ = inr (space_closes v [] [] k here open_).0
     which here false shut = inl (space_ends v [] (space ∷ []) k here shut (λ quoted. absurd (false≢true quoted)))
 
-closable-of : (source : List ℕ) (x : Lexeme) → is_white_kind x.kind ≡ false → IsGoodLexeme source x → IsClosable source x
+pub closable-of : (source : List ℕ) (x : Lexeme) → is_white_kind x.kind ≡ false → IsGoodLexeme source x → IsClosable source x
 closable-of source x solid_ g =
     is_closable source x (shut-of (text_at source x.span) x.kind solid_ g.good.read) (named x.kind solid_ g.good.read)
   where

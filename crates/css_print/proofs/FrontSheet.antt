@@ -92,14 +92,14 @@ pub record IsFlat (k : TokenKind) : Type 0 where
   pub solid : is_white_kind k ≡ false
   pub flat : (cs : List ℕ) → closers_after k cs ≡ cs
 
-ident-flat : IsFlat kind.Ident
+pub ident-flat : IsFlat kind.Ident
 ident-flat = record { solid = refl; flat = stays }
   where
     stays : (cs : List ℕ) → closers_after kind.Ident cs ≡ cs
     stays [] = refl
     stays (c ∷ cs) = refl
 
-delim-flat : (d : ℕ) → IsFlat (kind.Delim d)
+pub delim-flat : (d : ℕ) → IsFlat (kind.Delim d)
 delim-flat d = record { solid = refl; flat = stays }
   where
     stays : (cs : List ℕ) → closers_after (kind.Delim d) cs ≡ cs

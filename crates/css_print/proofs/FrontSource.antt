@@ -71,7 +71,7 @@ pub record Source (source : List ℕ) : Type 0 where
   pub spelled : map (solid source) (lexemes_of source) ≡ solids ps
   pub utf8 : IsUtf8 (text_of ps)
 
-clean-flaw : (at : ℕ) (f : Option TokenFlaw) → fault_behind at f ≡ None → f ≡ None
+pub clean-flaw : (at : ℕ) (f : Option TokenFlaw) → fault_behind at f ≡ None → f ≡ None
 clean-flaw at None e = refl
 clean-flaw at (Some f) e = absurd cc
 

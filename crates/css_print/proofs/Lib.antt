@@ -26,6 +26,7 @@ mod BackValues
 mod BackWhole
 pub mod FrontChain
 pub mod FrontGood
+pub mod FrontGround
 pub mod FrontItems
 pub mod FrontLevels
 pub mod FrontLexed
@@ -33,6 +34,7 @@ pub mod FrontParts
 pub mod FrontPrint
 pub mod FrontReads
 pub mod FrontSheet
+pub mod FrontSound
 pub mod FrontSource
 pub mod FrontTexts
 mod Inversions
