@@ -79,7 +79,7 @@ some_selectors source (part ∷ parts) read some reads none = which (selector_it
     which (Some s) (Some ss) e = absurd (cons_not_empty s ss (some_same (s ∷ ss) [] e))
 
 -- the value of a declaration alone stands in its piece
-value_alone : (source : List ℕ) → HasGoodTokens source → (name sign : Lexeme) (value : List Lexeme) → StandsIn (lexemes_of source) (name ∷ sign ∷ value)
+pub value_alone : (source : List ℕ) → HasGoodTokens source → (name sign : Lexeme) (value : List Lexeme) → StandsIn (lexemes_of source) (name ∷ sign ∷ value)
     → tokens_in source (declared source name sign value).value ≡ without_importance source value
 value_alone source good name sign value stands =
     by_plain (without_importance source value) (stands_inside (lexemes_of source) value (without_importance source value) in_value (plain_in value))

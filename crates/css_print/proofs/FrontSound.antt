@@ -15,7 +15,8 @@ use Rattle.css_model.specs.declared.token.TokenKind.{TokenKind}
 use Rattle.css_model.specs.declared.token.TokenKind.TheVariants as kind
 use Rattle.css_model.specs.Characters.{close_curly, colon, comma, dot, exclamation_mark, semicolon, space}
 use Rattle.css_model.specs.Document.{same_text}
-use Rattle.css_model.specs.Declarations.{declaration, declared, is_delim_of, is_ident, is_importance, is_important, property_of, is_custom, text_of_value, without_importance}
+use Rattle.css_model.specs.declared.sheet.Piece.{Piece}
+use Rattle.css_model.specs.Declarations.{is_nested, declaration, declared, is_delim_of, is_ident, is_importance, is_important, property_of, is_custom, text_of_value, without_importance}
 use Rattle.css_model.specs.Items.{block, closes_block, entries, opens_block, selector_parts}
 use Rattle.css_model.specs.Kept.{is_white_gap, solid, value_text}
 use Rattle.css_model.specs.Lexemes.{is_sign_at, is_sign_of, piece_of}
@@ -29,7 +30,7 @@ use Rattle.css_tokens.proofs.FirstBytes.{delim-text, ident-no_digit}
 use Rattle.css_print.proofs.BackBlocks.{IsOfDeclaration, plain_value}
 use Rattle.css_print.proofs.BackCuts.{None_of}
 use Rattle.css_print.proofs.BackJoins.{StandsIn, stands_behind, stands_front, stands_inside, stands_whole}
-use Rattle.css_print.proofs.BackOrigins.{HasGoodTokens, declaration_from, selector_from}
+use Rattle.css_print.proofs.BackOrigins.{HasGoodTokens, declaration_from, selector_from, value_alone}
 use Rattle.css_print.proofs.BackParts.{IsPart, each_inside, none_before, split_stands, stands_dropped, stands_taken}
 use Rattle.css_print.proofs.BackPreludes.{IsOfSelector}
 use Rattle.css_print.proofs.FrontGround.{Ground, filtered, member}
@@ -214,3 +215,68 @@ behind-colon name sign value ident colon_is e =
     let both : closers_after sign.kind (closers_after name.kind (close_curly ∷ [])) ≡ close_curly ∷ [] =
         ap (closers_after sign.kind) first ∙ ap (λ k. closers_after k (close_curly ∷ [])) colon_is in
     record { leveled = subst (λ cs. AreLeveled cs value) both e.leveled.2.2; ends = ap (λ cs. open_behind cs value) (sym both) ∙ e.ends }
+
+value-told : (source : List ℕ) (custom : Bool) (sign : Lexeme) (plain : List Lexeme) (x : Lexeme) (xs : List Lexeme) → plain ≡ x ∷ xs → text_of_value source custom sign plain ≡ value_text (map (solid source) (x ∷ xs))
+value-told source custom sign plain x xs are = ap (text_of_value source custom sign) are
+
+value-white : (source : List ℕ) (custom : Bool) (sign : Lexeme) (plain : List Lexeme) → plain ≡ [] → (text_of_value source custom sign plain ≡ []) ⊎ (text_of_value source custom sign plain ≡ space ∷ [])
+value-white source custom sign plain none = by (custom && is_white_gap sign.gap) (ap (text_of_value source custom sign) none)
+  where
+    by : (b : Bool) → text_of_value source custom sign plain ≡ cond b (space ∷ []) [] → (text_of_value source custom sign plain ≡ []) ⊎ (text_of_value source custom sign plain ≡ space ∷ [])
+    by true e = inr e
+    by false e = inl e
+
+lone-of : (source : List ℕ) (xs : List Lexeme) → AllByRecursion (IsGoodLexeme source) xs → AllByRecursion IsLoneBeforeWhite xs
+lone-of source [] each = tt
+lone-of source (x ∷ xs) (one, rest) = (one.good.lone, lone-of source xs rest)
+
+pub good-in : (source : List ℕ) → Ground source → (piece : Piece) → AllByRecursion (IsGoodLexeme source) (tokens_in source piece)
+good-in source g piece = filtered (IsGoodLexeme source) (stands_in piece) (lexemes_of source) g.each
+
+pub lone-in : (source : List ℕ) → Ground source → (piece : Piece) → AllByRecursion IsLoneBeforeWhite (tokens_in source piece)
+lone-in source g piece = lone-of source (tokens_in source piece) (good-in source g piece)
+
+plain-stands : (source : List ℕ) (value : List Lexeme) → StandsIn value (without_importance source value)
+plain-stands source value = which (is_important source value)
+  where
+    which : (b : Bool) → StandsIn value (cond b (take (length value - 2) value) value)
+    which true = stands_taken (length value - 2) value
+    which false = stands_whole value
+
+pub sound-declaration : (source : List ℕ) → Ground source → (d : DeclItem) → IsSoundDeclaration source d → SoundDeclaration source d
+sound-declaration source g d sound =
+    let item = member (IsItemOf (lexemes_of source)) (raw_items source) sound.item g.items sound.item_in in
+    let part = member (IsPart (is_sign_at semicolon 1) (block sound.item)) (entries sound.item) sound.entry (split_stands (is_sign_at semicolon 1) (block sound.item)) sound.entry_in in
+    let closed_ = member (IsEntryFrom (close_curly ∷ [])) (entries sound.item) sound.entry (entries-are sound.item item.leveled item.ends) sound.entry_in in
+    let in-item : StandsIn sound.item sound.entry = stands_inside sound.item (block sound.item) sound.entry (block-stands sound.item) part.stands in
+    let stands : StandsIn (lexemes_of source) sound.entry = stands_inside (lexemes_of source) sound.item sound.entry (item-stands item) in-item in
+    let inside : None_of closes_block sound.entry =
+        each_inside (λ x. closes_block x ≡ false) (block sound.item) sound.entry part.stands (none_before closes_block (after_first opens_block sound.item)) in
+    let of = declaration_from source g.good sound.entry d stands part.none inside sound.plain sound.reads in
+    let p = declared-of source sound.entry d sound.reads in
+    let value = behind-colon p.name p.sign p.value p.ident p.colon_is (subst (IsEntryFrom (close_curly ∷ [])) p.are closed_) in
+    let plain = without_importance source p.value in
+    let plain-closed = plain-closes source p.value value in
+    let alone : tokens_in source d.value ≡ plain =
+        ap (λ (e : DeclItem). tokens_in source e.value) (sym p.is) ∙ value_alone source g.good p.name p.sign p.value (subst (StandsIn (lexemes_of source)) p.are stands) in
+    let in-value : StandsIn (lexemes_of source) plain =
+        stands_inside (lexemes_of source) (p.name ∷ p.sign ∷ p.value) plain (subst (StandsIn (lexemes_of source)) p.are stands)
+          (stands_inside (p.name ∷ p.sign ∷ p.value) p.value plain (stands_behind (p.name ∷ p.sign ∷ []) p.value) (plain-stands source p.value)) in
+    let custom = is_custom (property_of (decoded (text_at source p.name.span))) in
+    let text : d.decl.value ≡ text_of_value source custom p.sign plain = ap (λ (e : DeclItem). e.decl.value) (sym p.is) in
+    let named : AllByRecursion (IsGoodLexeme source) (p.name ∷ p.sign ∷ p.value) = subst (AllByRecursion (IsGoodLexeme source)) p.are (each_inside (IsGoodLexeme source) (lexemes_of source) sound.entry stands g.each) in
+    record {
+      of = of;
+      flat = record { leveled = subst (AreLeveled (close_curly ∷ [])) (sym alone) plain-closed.leveled; ends = ap (open_behind (close_curly ∷ [])) alone ∙ plain-closed.ends };
+      text = record {
+        lone = lone-in source g d.value;
+        value = λ x xs are. text ∙ value-told source custom p.sign plain x xs (sym alone ∙ are);
+        white = λ none. subst (λ v. (v ≡ []) ⊎ (v ≡ space ∷ [])) (sym text) (value-white source custom p.sign plain (sym alone ∙ none))
+      };
+      read = record {
+        name = subst (λ (piece : Piece). IsReadAs (text_at source piece) kind.Ident) (ap (λ (e : DeclItem). e.name) p.is) (read-of source p.name kind.Ident p.ident named.0);
+        part = subst (IsPartOf (lexemes_of source)) (sym alone) (part-of-stands in-value);
+        ends = ap (open_behind (close_curly ∷ [])) alone ∙ plain-closed.ends;
+        lone = lone-in source g d.value
+      }
+    }

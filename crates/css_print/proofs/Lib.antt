@@ -34,6 +34,7 @@ pub mod FrontParts
 pub mod FrontPrint
 pub mod FrontReads
 pub mod FrontSheet
+pub mod FrontSheetSound
 pub mod FrontSound
 pub mod FrontSource
 pub mod FrontTexts
