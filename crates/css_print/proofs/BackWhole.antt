@@ -15,6 +15,7 @@ use Rattle.css_model.specs.Sheet.{is_namespace, read_items, start_of, too_many_p
 use Rattle.css_model.specs.Sound.{raw_items}
 use Rattle.css_model.specs.Spelling.{lexemes_of}
 use Rattle.css_model.specs.Tokens.{tokens}
+use Rattle.css_print.specs.ReadBack.{Follows}
 use Rattle.css_print.proofs.BackBlocks.{IsOfDeclaration}
 use Rattle.css_print.proofs.BackFaults.{DoFit, IsPrintOf, IsSameSheet, by_tests, is_deep, find_none, sheet_reads_back}
 use Rattle.css_print.proofs.BackLists.{cons_not_empty, some_not_none}
@@ -33,20 +34,20 @@ ok_same x y e = ap (ok_or x) e
 err_not_ok : {A E : Type 0} (f : E) (x : A) → ◌≡◌ {A = Result A E} (Err f) (Ok x) → ⊥
 err_not_ok f x e = absurd (cc)
 
-no_map : {A B : Type 0} (f : A → B) (x : Option A) → option_map f x ≡ None → x ≡ None
+pub no_map : {A B : Type 0} (f : A → B) (x : Option A) → option_map f x ≡ None → x ≡ None
 no_map f None e = refl
 no_map f (Some x) e = absurd (some_not_none (f x) e)
 
 -- a list of items whose faults were tested
-record HasNoFault (deep unclosed namespace many pairs : Option ℕ) (read its : List Item) : Type 0 where
-  no_deep : deep ≡ None
-  no_unclosed : unclosed ≡ None
-  no_namespace : namespace ≡ None
-  no_many : many ≡ None
-  no_pairs : pairs ≡ None
-  same : read ≡ its
+pub record HasNoFault (deep unclosed namespace many pairs : Option ℕ) (read its : List Item) : Type 0 where
+  pub no_deep : deep ≡ None
+  pub no_unclosed : unclosed ≡ None
+  pub no_namespace : namespace ≡ None
+  pub no_many : many ≡ None
+  pub no_pairs : pairs ≡ None
+  pub same : read ≡ its
 
-tested : (deep unclosed namespace many pairs : Option ℕ) (read its : List Item) → by_tests deep unclosed namespace many pairs read ≡ Ok its → HasNoFault deep unclosed namespace many pairs read its
+pub tested : (deep unclosed namespace many pairs : Option ℕ) (read its : List Item) → by_tests deep unclosed namespace many pairs read ≡ Ok its → HasNoFault deep unclosed namespace many pairs read its
 tested (Some at) unclosed namespace many pairs read its e = absurd (err_not_ok _ its e)
 tested None (Some at) namespace many pairs read its e = absurd (err_not_ok _ its e)
 tested None None (Some at) many pairs read its e = absurd (err_not_ok _ its e)
@@ -56,7 +57,7 @@ tested None None None None None read its e =
     record { no_deep = refl; no_unclosed = refl; no_namespace = refl; no_many = refl; no_pairs = refl; same = ok_same read its e }
 
 -- the items of a source, by the tests that were made
-tokens_tested : (source : List ℕ) (its : List Item) → sheet_of source ≡ Ok its → sheet_of_tokens source (tokens source true).tokens ≡ Ok its
+pub tokens_tested : (source : List ℕ) (its : List Item) → sheet_of source ≡ Ok its → sheet_of_tokens source (tokens source true).tokens ≡ Ok its
 tokens_tested source its e = long (nat_lt LIMIT (length source)) e
   where
     clean : (f : Option TokenFault) → sheet_of_stream source f (tokens source true).tokens ≡ Ok its → sheet_of_tokens source (tokens source true).tokens ≡ Ok its
@@ -115,23 +116,6 @@ read_from source its good e = record {
         origins source good (raw_items source) stand.each stand.order
         (find_none (is_namespace source) (raw_items source) (no_map (λ item. (piece_of item).start) (find (is_namespace source) (raw_items source)) tests.no_namespace))
 
--- items of which the kept ones are those of other items, in their order, with rules only where rules stood
-abbrev pub Follows : List Item → List Item → Type 0
-Follows [] [] = ⊤
-Follows (item ∷ its) [] = ⊥
-Follows [] ((Rule r) ∷ old) = Follows [] old
-Follows [] ((KeptRule k) ∷ old) = ⊥
-Follows [] ((KeptBlock p) ∷ old) = ⊥
-Follows ((Rule q) ∷ its) ((Rule r) ∷ old) = Follows its old ⊎ Follows ((Rule q) ∷ its) old
-Follows ((KeptRule j) ∷ its) ((Rule r) ∷ old) = Follows ((KeptRule j) ∷ its) old
-Follows ((KeptBlock o) ∷ its) ((Rule r) ∷ old) = Follows ((KeptBlock o) ∷ its) old
-Follows ((Rule q) ∷ its) ((KeptRule k) ∷ old) = ⊥
-Follows ((KeptRule j) ∷ its) ((KeptRule k) ∷ old) = (j ≡ k) × Follows its old
-Follows ((KeptBlock o) ∷ its) ((KeptRule k) ∷ old) = ⊥
-Follows ((Rule q) ∷ its) ((KeptBlock p) ∷ old) = ⊥
-Follows ((KeptRule j) ∷ its) ((KeptBlock p) ∷ old) = ⊥
-Follows ((KeptBlock o) ∷ its) ((KeptBlock p) ∷ old) = (o ≡ p) × Follows its old
-
 pub follows_itself : (its : List Item) → Follows its its
 follows_itself [] = tt
 follows_itself ((Rule r) ∷ its) = inl (follows_itself its)
@@ -170,7 +154,7 @@ ends_follow source [] old item f ends = tt
 ends_follow source (next ∷ its) [] item f ends = absurd f
 ends_follow source (next ∷ its) (o ∷ old) item f ends = ends
 
-first_follows : (source : List ℕ) (its old : List Item) (item : Item) → Follows its old → AreInOrder source its
+pub first_follows : (source : List ℕ) (its old : List Item) (item : Item) → Follows its old → AreInOrder source its
     → IsBefore source (list_any (imports source) old) item → EndsBefore source old item → AreInOrder source (item ∷ its)
 first_follows source its old item f order before ends =
     (subst (λ b. IsBefore source b item) (sym (imports_follow source its old f)) before, ends_follow source its old item f ends, order)

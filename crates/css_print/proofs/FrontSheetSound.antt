@@ -40,8 +40,10 @@ use Rattle.css_print.proofs.FrontItems.{IsItemOf, IsPartOf}
 use Rattle.css_print.proofs.FrontLexed.{AreReadItems, IsEndedBySign, IsEndedItem, IsReadItem, IsReadPiece}
 use Rattle.css_print.proofs.FrontLevels.{AreLeveled, open_behind}
 use Rattle.css_print.proofs.FrontSheet.{IsFlatItem}
-use Rattle.css_print.proofs.FrontSound.{SoundDeclaration, SoundSelector, lone-in, sound-declaration, sound-selector}
+use Rattle.css_print.proofs.FrontSound.{SoundDeclaration, SoundSelector, good-in, lone-in, sound-declaration, sound-selector}
 use Rattle.css_print.proofs.FrontTexts.{IsTextOfItem}
+use Rattle.css_print.proofs.BackTokens.{item_shown}
+use Rattle.css_print.proofs.FrontUtf8.{IsUtf8Declaration, kept-utf8, rule-utf8}
 
 -- an item of a sound sheet
 pub record SoundItem (source : List ℕ) (item : Item) : Type 0 where
@@ -49,6 +51,7 @@ pub record SoundItem (source : List ℕ) (item : Item) : Type 0 where
   pub flat : IsFlatItem source item
   pub text : IsTextOfItem source item
   pub read : IsReadItem source item
+  pub utf8 : AllByRecursion (λ s. IsUtf8 s.bytes) (item_shown source item)
 
 each-of : {A : Type 0} (P Q : A → Type 0) (xs : List A) → ((x : A) → P x → Q x) → AllByRecursion P xs → AllByRecursion Q xs
 each-of P Q [] f each = tt
@@ -66,7 +69,8 @@ sound-rule source g r sound =
       };
       flat = record { selectors = each-of (SoundSelector source) _ r.selectors (λ s h. h.flat) selectors; decls = each-of (SoundDeclaration source) _ r.decls (λ d h. h.flat) decls };
       text = each-of (SoundDeclaration source) _ r.decls (λ d h. h.text) decls;
-      read = record { selectors = each-of (SoundSelector source) _ r.selectors (λ s h. h.read) selectors; decls = each-of (SoundDeclaration source) _ r.decls (λ d h. h.read) decls }
+      read = record { selectors = each-of (SoundSelector source) _ r.selectors (λ s h. h.read) selectors; decls = each-of (SoundDeclaration source) _ r.decls (λ d h. h.read) decls };
+      utf8 = rule-utf8 source (good-in source g) r (each-of (SoundDeclaration source) (IsUtf8Declaration source) r.decls (λ d h. record { named = h.named; value = good-in source g d.value }) decls)
     }
 
 -- a kept item by its tokens
@@ -112,8 +116,8 @@ sound-item source g names (Rule r) sound = sound-rule source g r sound
 sound-item source g names (KeptRule k) sound =
     let p = sound-piece source g names sound.item k.piece sound.item_in (kept-piece source sound.item k sound.reads) in
     let both = kept-sound source g (KeptRule k) k.piece p in
-    record { from = both.0; flat = record { leveled = p.leveled; ends = p.ends }; text = lone-in source g k.piece; read = both.1 }
+    record { from = both.0; flat = record { leveled = p.leveled; ends = p.ends }; text = lone-in source g k.piece; read = both.1; utf8 = kept-utf8 source (tokens_in source k.piece) (good-in source g k.piece) }
 sound-item source g names (KeptBlock piece) sound =
     let p = sound-piece source g names sound.item piece sound.item_in sound.stands in
     let both = kept-sound source g (KeptBlock piece) piece p in
-    record { from = both.0; flat = record { leveled = p.leveled; ends = p.ends }; text = lone-in source g piece; read = both.1 }
+    record { from = both.0; flat = record { leveled = p.leveled; ends = p.ends }; text = lone-in source g piece; read = both.1; utf8 = kept-utf8 source (tokens_in source piece) (good-in source g piece) }

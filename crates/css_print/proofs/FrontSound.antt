@@ -3,6 +3,7 @@ use Rattle.std.proofs.Common.{◌≡◌, ◌≢◌, ◌⊎◌, inl, inr, ℕ, ze
 use Rattle.std.specs.Prelude.{⊤, ◌&&◌, codes}
 use Rattle.std.specs.List.{AllByRecursion, Contains, after_first, before_first, filter, position_or_len, slice_split}
 use Rattle.std.specs.Option.{option_map}
+use Rattle.std.specs.Str.{IsUtf8}
 use Rattle.std.proofs.lemmas.Bool.{false≢true, true≢false, and_parts, eqb-true}
 use Rattle.std.proofs.lemmas.List.{append-nil, append_assoc, take-append-drop}
 use Rattle.css_model.specs.declared.selector.Test.{Test}
@@ -155,6 +156,7 @@ pub record SoundDeclaration (source : List ℕ) (d : DeclItem) : Type 0 where
   pub flat : IsFlatDeclaration source d
   pub text : IsTextOf source d
   pub read : IsReadDeclaration source d
+  pub named : IsUtf8 (text_at source d.name)
 
 -- `!` and a name open and close nothing
 importance-flat : (source : List ℕ) (last : List Lexeme) → is_importance source last ≡ true → (cs : List ℕ) → open_behind cs last ≡ cs
@@ -278,5 +280,6 @@ sound-declaration source g d sound =
         part = subst (IsPartOf (lexemes_of source)) (sym alone) (part-of-stands in-value);
         ends = ap (open_behind (close_curly ∷ [])) alone ∙ plain-closed.ends;
         lone = lone-in source g d.value
-      }
+      };
+      named = subst (λ (piece : Piece). IsUtf8 (text_at source piece)) (ap (λ (e : DeclItem). e.name) p.is) named.0.good.utf8
     }

@@ -24,6 +24,7 @@ mod BackSource
 mod BackTokens
 mod BackValues
 mod BackWhole
+pub mod FrontBack
 pub mod FrontChain
 pub mod FrontGood
 pub mod FrontGround
@@ -38,6 +39,7 @@ pub mod FrontSheetSound
 pub mod FrontSound
 pub mod FrontSource
 pub mod FrontTexts
+pub mod FrontUtf8
 mod Inversions
 mod Joining
 mod Lengths
