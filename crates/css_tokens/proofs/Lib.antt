@@ -3,6 +3,7 @@ pub mod CommentParts
 pub mod LawLemmas
 pub mod LexedLemmas
 pub mod PartLemmas
+pub mod RestartLemmas
 pub mod RuleLemmas
 pub mod RunLemmas
 pub mod SaidLemmas

@@ -12,7 +12,7 @@ mod runs;
 mod strings;
 mod units;
 
-pub use laws::{parts_join, parts_read_back, runs_are_longest, tokens_cover};
+pub use laws::{parts_join, parts_read_back, runs_are_longest, tokens_cover, tokens_restart};
 pub use names::decode;
 pub use reader::{NotUtf8, Tokens};
 
