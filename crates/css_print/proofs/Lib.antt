@@ -1,7 +1,12 @@
+mod FrontLemmas
 mod Inversions
 mod Joining
 mod Lengths
+mod Members
+mod PieceLemmas
+mod PieceWords
 mod RoundTrip
 mod Sound
 mod Texts
+mod WordLemmas
 mod Words

@@ -22,6 +22,7 @@ pub mod OpenRuns
 pub mod OpenTokens
 pub mod OpenUnits
 pub mod PartLemmas
+pub mod RestartLemmas
 pub mod RowsAgain
 pub mod RuleBounds
 pub mod RuleLemmas

@@ -2,7 +2,7 @@
 
 ghost use Rattle.css_model.specs.Runs.{RunsAreLongest};
 ghost use Rattle.css_tokens.specs.Alike.{PartsEndAlike, RowsEndAlike};
-ghost use Rattle.css_tokens.specs.Laws.{PartsJoin, TokensCover};
+ghost use Rattle.css_tokens.specs.Laws.{PartsJoin, TokensCover, TokensRestart};
 ghost use Rattle.css_tokens.specs.Lexed.{LexedAreParts, LexedAreUtf8, PartsAreLexed};
 ghost use Rattle.css_tokens.specs.Open.{LastCloses, SpaceCloses, SpaceEnds};
 
@@ -20,6 +20,12 @@ pub fn parts_join()
 /// comments alone stand before it, and it tells whether there are any.
 pub fn tokens_cover()
     ensures { TokensCover }
+{}
+
+/// Each token of a source stands in it, behind the one before it, and the tokens from where it begins are
+/// that token and those behind it.
+pub fn tokens_restart()
+    ensures { TokensRestart }
 {}
 
 /// A text with nothing wrong is read back from its parts: each is the one at the front of its bytes and those

@@ -15,7 +15,8 @@ mod units;
 
 pub use escapes::ends_open;
 pub use laws::{
-    parts_are_utf8, parts_end_alike, parts_join, parts_read_back, runs_are_longest, space_behind, tokens_cover,
+    parts_are_utf8, parts_end_alike, parts_join, parts_read_back, runs_are_longest, space_behind,
+    tokens_cover, tokens_restart,
 };
 pub use names::decode;
 pub use reader::{NotUtf8, Tokens};
