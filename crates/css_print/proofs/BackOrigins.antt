@@ -18,7 +18,7 @@ use Rattle.css_model.specs.Kept.{is_white_gap}
 use Rattle.css_model.specs.KeptRuleParts.{KeptRuleParts}
 use Rattle.css_model.specs.Lexemes.{is_sign_of, is_sign_at, piece_of}
 use Rattle.css_model.specs.Selectors.{of_one_test, simple_of, selector_item, before_all, all_of, selectors}
-use Rattle.css_model.specs.Sheet.{is_import, is_namespace, not_read, rule_of, rule_or_block, item_of, onto, read_items}
+use Rattle.css_model.specs.Sheet.{is_import, is_namespace, not_read, rule_of, rule_or_block, item_of, read_items}
 use Rattle.css_model.specs.Source.{text_at}
 use Rattle.css_model.specs.Spelling.{stands_in, lexemes_of, tokens_in}
 use Rattle.css_model.specs.Unescaped.{decoded}
@@ -273,14 +273,14 @@ origins source good (xs ∷ raw) each order names =
         → AreOrigins source (xs ∷ raw) (read_items source (xs ∷ raw))
     which rest true import read is =
         let alone = stand_alone_in source good xs each.0.is_item.stands in
-        let block : onto (if list_any (is_import source) raw then Some (KeptBlock (piece_of xs)) else item_of source xs) (read_items source raw) ≡ KeptBlock (piece_of xs) ∷ read_items source raw =
-        ap (λ b. onto (if b then Some (KeptBlock (piece_of xs)) else item_of source xs) (read_items source raw)) import in
+        let block : cons_option (if list_any (is_import source) raw then Some (KeptBlock (piece_of xs)) else item_of source xs) (read_items source raw) ≡ KeptBlock (piece_of xs) ∷ read_items source raw =
+        ap (λ b. cons_option (if b then Some (KeptBlock (piece_of xs)) else item_of source xs) (read_items source raw)) import in
         subst (AreOrigins source (xs ∷ raw)) (sym block)
         (origin_first source xs raw (read_items source raw) (KeptBlock (piece_of xs)) order rest (kept_from source good xs each.0 names.0)
         (λ none. absurd (true≢false (sym (rest.import ∙ import) ∙ none))) (ap (is_import source) alone) (λ ended. ap is_ended alone ∙ ended))
     which rest false import None is =
-        let gone : onto (if list_any (is_import source) raw then Some (KeptBlock (piece_of xs)) else item_of source xs) (read_items source raw) ≡ read_items source raw =
-        ap (λ b. onto (if b then Some (KeptBlock (piece_of xs)) else item_of source xs) (read_items source raw)) import ∙ ap (λ i. onto i (read_items source raw)) is in
+        let gone : cons_option (if list_any (is_import source) raw then Some (KeptBlock (piece_of xs)) else item_of source xs) (read_items source raw) ≡ read_items source raw =
+        ap (λ b. cons_option (if b then Some (KeptBlock (piece_of xs)) else item_of source xs) (read_items source raw)) import ∙ ap (λ i. cons_option i (read_items source raw)) is in
         subst (AreOrigins source (xs ∷ raw)) (sym gone)
         (record {
           from = rest.from;
@@ -289,8 +289,8 @@ origins source good (xs ∷ raw) each order names =
           some = λ none. absurd (cons_not_empty xs raw none);
         })
     which rest false import (Some item) is =
-        let first : onto (if list_any (is_import source) raw then Some (KeptBlock (piece_of xs)) else item_of source xs) (read_items source raw) ≡ item ∷ read_items source raw =
-        ap (λ b. onto (if b then Some (KeptBlock (piece_of xs)) else item_of source xs) (read_items source raw)) import ∙ ap (λ i. onto i (read_items source raw)) is in
+        let first : cons_option (if list_any (is_import source) raw then Some (KeptBlock (piece_of xs)) else item_of source xs) (read_items source raw) ≡ item ∷ read_items source raw =
+        ap (λ b. cons_option (if b then Some (KeptBlock (piece_of xs)) else item_of source xs) (read_items source raw)) import ∙ ap (λ i. cons_option i (read_items source raw)) is in
         let origin = item_origin source good xs each.0 names.0 item is in
         subst (AreOrigins source (xs ∷ raw)) (sym first)
         (origin_first source xs raw (read_items source raw) item order rest origin.from (subst (λ b. IsBefore source b item) (sym (rest.import ∙ import)) origin.before) origin.import origin.ends)

@@ -2,7 +2,7 @@
 use Rattle.std.proofs.Common.{◌≡◌, ◌≢◌, subst, ℕ, zero, suc, ◌+◌, Bool, true, false, not, List, [], ◌∷◌, ◌++◌, length, drop, map, Option, Some, None, refl, sym, ◌∙◌, ap, arith, append_assoc, append-nil}
 use Rattle.std.proofs.lemmas.Bool.{true≢false, false≢true}
 use Rattle.std.specs.Prelude.{⊤, ◌&&◌, ◌||◌, if◌then◌else◌, codes}
-use Rattle.std.specs.List.{AllZip, AllByRecursion, filter, find, list_any, flat_map}
+use Rattle.std.specs.List.{AllZip, AllByRecursion, cons_option, filter, find, list_any, flat_map}
 use Rattle.std.specs.Str.{str_eq_ignore_ascii_case}
 use Rattle.css_model.specs.declared.sheet.Item.{Item}
 use Rattle.css_model.specs.declared.sheet.Item.TheVariants.{Rule, KeptRule, KeptBlock}
@@ -18,7 +18,7 @@ use Rattle.css_model.specs.Kept.{solid, kept}
 use Rattle.css_model.specs.KeptRuleParts.{KeptRuleParts}
 use Rattle.css_model.specs.Lexemes.{piece_of}
 use Rattle.css_model.specs.RuleParts.{RuleParts}
-use Rattle.css_model.specs.Sheet.{is_at_rule_named, is_import, is_namespace, item_of, onto, read_items}
+use Rattle.css_model.specs.Sheet.{is_at_rule_named, is_import, is_namespace, item_of, read_items}
 use Rattle.css_model.specs.Source.{text_at}
 use Rattle.css_model.specs.Spelling.{tokens_in, kept_text}
 use Rattle.css_model.specs.Unescaped.{unescaped}
@@ -317,8 +317,8 @@ read_first new old ys zs raw item its r before imported rest =
     record {
       read = here.0 ∷ rest.read;
       reads =
-          ap (λ b. onto (if b then Some (KeptBlock (piece_of zs)) else item_of new zs) (read_items new raw)) imported
-          ∙ ap (λ x. onto x (read_items new raw)) here.1
+          ap (λ b. cons_option (if b then Some (KeptBlock (piece_of zs)) else item_of new zs) (read_items new raw)) imported
+          ∙ ap (λ x. cons_option x (read_items new raw)) here.1
           ∙ ap (λ xs. here.0 ∷ xs) rest.reads;
       each = (wider_again new old ys zs r.1 here.0 item here.2, rest.each);
     }

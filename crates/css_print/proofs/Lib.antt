@@ -28,6 +28,7 @@ mod Members
 mod PieceLemmas
 mod PieceWords
 mod RoundTrip
+mod ShortTokens
 mod Sound
 mod Texts
 mod WordLemmas
