@@ -28,6 +28,7 @@ mod Members
 mod PieceLemmas
 mod PieceWords
 mod RoundTrip
+mod ShortRoom
 mod ShortTokens
 mod Sound
 mod Texts
