@@ -28,6 +28,8 @@ mod Members
 mod PieceLemmas
 mod PieceWords
 mod RoundTrip
+mod ShortNames
+mod ShortParts
 mod ShortRoom
 mod ShortTokens
 mod Sound

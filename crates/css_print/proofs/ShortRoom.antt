@@ -17,6 +17,7 @@ use Rattle.css_model.specs.Source.{text_at}
 use Rattle.css_model.specs.TokenAt.{part_at}
 use Rattle.css_model.specs.Units.{white_unit}
 use Rattle.css_tokens.specs.Laws.{AreComments, Cover, StandsIn, Restarts}
+use Rattle.css_print.proofs.Lengths.{total}
 use Rattle.css_print.proofs.ShortTokens.{white_begins, lone_newline, newline_white, comments_size, newline_no_slash, white_closes}
 
 -- how many bytes are printed behind a token at most
@@ -24,12 +25,12 @@ unfoldable pub cost : List ℕ → Lexeme → ℕ
 cost source x = length (between (solid source x))
 
 -- the same by what it hangs on
-abbrev gap_cost : Bool → Gap → ℕ
+abbrev pub gap_cost : Bool → Gap → ℕ
 gap_cost open_end gap.Nothing = 0
 gap_cost open_end gap.Comments = 4
 gap_cost open_end gap.White = if open_end then 2 else 1
 
-abbrev cost_by : Bool → Bool → Gap → ℕ
+abbrev pub cost_by : Bool → Bool → Gap → ℕ
 cost_by lone open_end g = if lone then 1 else gap_cost open_end g
 
 gap_len : (bytes : List ℕ) (g : Gap) → length (gap_text bytes g) ≡ gap_cost (is_open bytes) g
@@ -41,7 +42,7 @@ gap_len bytes gap.White = which (is_open bytes)
     which true = refl
     which false = refl
 
-cost_is : (source : List ℕ) (x : Lexeme) → cost source x ≡ cost_by (is_lone x.kind) (is_open (text_at source x.span)) x.gap
+pub cost_is : (source : List ℕ) (x : Lexeme) → cost source x ≡ cost_by (is_lone x.kind) (is_open (text_at source x.span)) x.gap
 unfolding cost
 cost_is source x = which (is_lone x.kind)
   where
@@ -53,16 +54,12 @@ cost_is source x = which (is_lone x.kind)
 unfoldable pub weight : List ℕ → Lexeme → ℕ
 weight source x = suc (x.span.«end» - suc x.span.start) + cost source x
 
-abbrev pub weights : List ℕ → List Lexeme → ℕ
-weights source [] = 0
-weights source (x ∷ xs) = weight source x + weights source xs
-
 -- tokens in order between two places, each with room for what is printed behind it
 abbrev pub Fits : List ℕ → ℕ → List Lexeme → ℕ → Type 0
 Fits source from [] to = from ≤ to
 Fits source from (x ∷ xs) to = (from ≤ x.span.start) × (x.span.start < x.span.«end») × Fits source (x.span.«end» + cost source x) xs to
 
-pub fits_weights : (source : List ℕ) (from : ℕ) (xs : List Lexeme) (to : ℕ) → Fits source from xs to → from + weights source xs ≤ to
+pub fits_weights : (source : List ℕ) (from : ℕ) (xs : List Lexeme) (to : ℕ) → Fits source from xs to → from + total (weight source) xs ≤ to
 unfolding weight
 fits_weights source from [] to fits = omega (arith, fits)
 fits_weights source from (x ∷ xs) to (low, some, fits) = omega (arith, low, some, fits_weights source (x.span.«end» + cost source x) xs to fits)
