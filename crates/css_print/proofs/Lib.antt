@@ -28,6 +28,7 @@ mod Members
 mod PieceLemmas
 mod PieceWords
 mod RoundTrip
+mod ShortItems
 mod ShortNames
 mod ShortParts
 mod ShortRoom

@@ -51,7 +51,7 @@ entry_among source item entry item_in entry_in =
 begins : (source : List ℕ) (x : Lexeme) (xs : List Lexeme) (at : ℕ) → AllByRecursion (Among source) (x ∷ xs) → (piece_of (x ∷ xs)).start ≡ at → BeginsAt source at
 begins source x xs at all is = record { token = x; among = all.0; begins = is }
 
-selector_piece : (o : Option Test) (piece : Piece) (s : SelItem) → option_map (λ test. record { selector = of_one_test test; piece = piece }) o ≡ Some s → piece ≡ s.piece
+pub selector_piece : (o : Option Test) (piece : Piece) (s : SelItem) → option_map (λ test. record { selector = of_one_test test; piece = piece }) o ≡ Some s → piece ≡ s.piece
 selector_piece None piece s is = absurd (cc)
 selector_piece (Some test) piece s is = cc
 
