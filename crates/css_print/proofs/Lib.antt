@@ -29,9 +29,11 @@ mod PieceLemmas
 mod PieceWords
 mod RoundTrip
 mod ShortItems
+mod ShortMark
 mod ShortNames
 mod ShortParts
 mod ShortRoom
+mod ShortSheet
 mod ShortTokens
 mod Sound
 mod Texts

@@ -162,7 +162,7 @@ found_all source from brackets (t ∷ ts) (low, stands, again, all) = which (is_
         rw other (here, all_with (Found source t.span.«end» (after t brackets) ts) (Found source from brackets (t ∷ ts)) (solid_more other) (lexemes_in (after t brackets) ts) (later (after t brackets)))
 
 -- a byte order mark has three bytes
-mark_len : (source : List ℕ) → starts_with nat_eq source byte_order_mark ≡ true → 3 ≤ length source
+pub mark_len : (source : List ℕ) → starts_with nat_eq source byte_order_mark ≡ true → 3 ≤ length source
 mark_len [] is = absurd (cc)
 mark_len (a ∷ []) is = absurd (two (nat_eq 0xEF a) is)
   where
