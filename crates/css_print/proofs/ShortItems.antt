@@ -1,8 +1,8 @@
 -- What is printed for the items of a sheet fits in the room of their tokens, and begins with the first of them.
-use Rattle.std.proofs.Common.{ℕ, zero, suc, ◌+◌, ◌-◌, ◌<◌, ◌≤◌, ◌≡◌, Bool, true, false, cond, List, [], ◌∷◌, ◌++◌, Option, Some, None, length, map, drop, take, refl, sym, ap, ◌∙◌, subst, arith, append_assoc}
-use Rattle.std.specs.Prelude.{⊤, ◌&&◌, ◌||◌, if◌then◌else◌}
+use Rattle.std.proofs.Common.{ℕ, zero, suc, ◌+◌, ◌<◌, ◌≤◌, ◌≡◌, Bool, true, false, cond, List, [], ◌∷◌, ◌++◌, Option, Some, None, length, map, drop, take, refl, sym, ap, ◌∙◌, subst, arith, append_assoc}
+use Rattle.std.specs.Prelude.{⊤, ◌||◌, if◌then◌else◌}
 use Rattle.std.specs.List.{AllByRecursion, before_first, after_first, position_or_len, slice_split, onto_first, list_any, filter, filter_map, flat_map, join_with_byte}
-use Rattle.std.proofs.lemmas.Bool.{false≢true, cond-true, cond-false}
+use Rattle.std.proofs.lemmas.Bool.{cond-true, cond-false}
 use Rattle.std.proofs.lemmas.List.{length-append, take-append-drop}
 use Rattle.std.proofs.lemmas.List.Folds.{list_any-append}
 use Rattle.css_model.specs.declared.sheet.DeclItem.{DeclItem}
@@ -12,14 +12,13 @@ use Rattle.css_model.specs.declared.sheet.Piece.{Piece}
 use Rattle.css_model.specs.declared.sheet.SelItem.{SelItem}
 use Rattle.css_model.specs.declared.token.Lexeme.{Lexeme}
 use Rattle.css_model.specs.Characters.{comma, semicolon, open_curly, close_curly}
-use Rattle.css_model.specs.Declarations.{declaration, declarations, is_nested}
+use Rattle.css_model.specs.Declarations.{declaration, is_nested}
 use Rattle.css_model.specs.Items.{is_at_rule, is_between_items, item_len, items_from, opens_block, closes_block, selector_parts, block, entries}
 use Rattle.css_model.specs.Kept.{Solid, solid, spelled, behind_last}
 use Rattle.css_model.specs.Lexemes.{is_sign_at, piece_of}
 use Rattle.css_model.specs.Printed.{printed_selector, printed_declaration, printed_rule, printed_item}
-use Rattle.css_model.specs.RuleParts.{RuleParts}
 use Rattle.css_model.specs.Selectors.{all_of, before_all, selector_item, selectors, simple_of}
-use Rattle.css_model.specs.Sheet.{item_of, rule_of, rule_or_block, read_items, is_import}
+use Rattle.css_model.specs.Sheet.{item_of, rule_of, rule_or_block}
 use Rattle.css_model.specs.Source.{text_at}
 use Rattle.css_model.specs.Spelling.{lexemes_of, tokens_in, kept_text}
 use Rattle.css_model.specs.Unescaped.{less_one}

@@ -1,18 +1,17 @@
 -- A text that begins with the bytes of a source's first token begins with a byte order mark only where the source does.
-use Rattle.std.proofs.Common.{ℕ, zero, suc, ◌-◌, ◌<◌, ◌≤◌, ◌≡◌, Bool, true, false, cond, List, [], ◌∷◌, ◌++◌, Some, Ok, length, drop, take, refl, sym, ap, ◌∙◌, subst, arith}
-use Rattle.std.specs.Prelude.{⊤, ◌&&◌, if◌then◌else◌, nat_eq}
+use Rattle.std.proofs.Common.{ℕ, zero, suc, ◌-◌, ◌<◌, ◌≤◌, ◌≡◌, Bool, true, false, List, [], ◌∷◌, ◌++◌, Some, Ok, length, drop, take, refl, sym, ap, ◌∙◌, subst, arith}
+use Rattle.std.specs.Prelude.{⊤, if◌then◌else◌, nat_eq}
 use Rattle.std.specs.List.{starts_with}
 use Rattle.std.specs.Str.{IsUtf8, is_utf8, chars}
 use Rattle.std.specs.Str.Lossy.{utf8_valid_len, valid_len_up_to}
 use Rattle.std.proofs.lemmas.Bool.{and_parts, eqb-true, false≢true}
-use Rattle.std.proofs.lemmas.List.{length-drop, length-take-le, take-append-drop}
+use Rattle.std.proofs.lemmas.List.{length-take-le, take-append-drop}
 use Rattle.std.proofs.lemmas.Str.{IsUtf8-nil, IsUtf8-from_is_utf8, is_utf8-from_IsUtf8, IsUtf8-take}
 use Rattle.std.proofs.Math.Seq.{take-length}
 use Rattle.css_model.specs.declared.token.Bracket.{Bracket}
 use Rattle.css_model.specs.declared.token.Lexeme.{Lexeme}
 use Rattle.css_model.specs.declared.token.Token.{Token}
 use Rattle.css_model.specs.Lexemes.{is_white_kind, lexeme, lexemes_in, after}
-use Rattle.css_model.specs.Source.{text_at}
 use Rattle.css_model.specs.TokenAt.{part_at}
 use Rattle.css_model.specs.Tokens.{byte_order_mark}
 use Rattle.css_tokens.specs.Laws.{Restarts}

@@ -5,7 +5,6 @@ use Rattle.std.specs.Char.{encode_utf8, is_ascii_hexdigit}
 use Rattle.std.specs.Str.{IsAscii, str_eq_ignore_ascii_case}
 use Rattle.std.proofs.lemmas.Bool.{and_parts, false≢true, ltb-false}
 use Rattle.std.proofs.lemmas.Str.Ascii.{IsAscii-from_all}
-use Rattle.std.proofs.lemmas.List.Elements.{All-cons, All-nil}
 use Rattle.css_model.specs.Characters.{backslash, is_newline}
 use Rattle.css_model.specs.Declarations.{is_named}
 use Rattle.css_model.specs.Unescaped.{replacement, escaped_code, hex_value, byte_text, after_backslash_text, first_len, first_text, less_one, unescaped_from}

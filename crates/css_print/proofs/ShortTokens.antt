@@ -1,22 +1,21 @@
 -- What white space, a lone backslash and comments are read from, and what stands behind an open token.
-use Rattle.std.proofs.Common.{ℕ, zero, suc, ◌+◌, ◌<◌, ◌≤◌, ◌≡◌, Bool, true, false, cond, ltb, ◌==◌, List, [], ◌∷◌, ◌++◌, Result, Option, Ok, Err, Some, None, length, drop, take, refl, sym, ap, ◌∙◌, subst, arith}
+use Rattle.std.proofs.Common.{ℕ, suc, ◌+◌, ◌<◌, ◌≤◌, ◌≡◌, Bool, true, false, cond, ltb, ◌==◌, List, [], ◌∷◌, ◌++◌, Result, Option, Ok, Err, Some, None, length, drop, take, refl, sym, ap, ◌∙◌, subst, arith}
 use Rattle.std.specs.Prelude.{⊤, ◌||◌, ◌&&◌}
 use Rattle.std.specs.Char.{is_ascii_hexdigit}
 use Rattle.std.specs.List.{flat_map}
-use Rattle.std.proofs.lemmas.Bool.{eqb-true, false≢true, true≢false, ltb-false, or_cases}
+use Rattle.std.proofs.lemmas.Bool.{eqb-true, false≢true, true≢false, ltb-false}
 use Rattle.std.proofs.lemmas.List.{length-append}
 use Rattle.css_model.specs.declared.token.TokenKind.{TokenKind}
 use Rattle.css_model.specs.declared.token.TokenKind.TheVariants as kind
 use Rattle.css_model.specs.declared.token.TokenFlaw.{TokenFlaw}
-use Rattle.css_model.specs.Characters.{dash, slash, star, hash, percent, less_than, greater_than, at_sign, backslash, open_round, close_round, space, is_white, is_newline, is_sign, begins, begins_with}
-use Rattle.css_model.specs.Kept.{is_lone, is_open, length_of}
+use Rattle.css_model.specs.Characters.{dash, slash, star, hash, percent, less_than, greater_than, at_sign, backslash, open_round, close_round, is_white, is_newline, is_sign, begins, begins_with}
+use Rattle.css_model.specs.Kept.{is_lone, is_open}
 use Rattle.css_model.specs.Lexemes.{is_white_kind}
 use Rattle.css_model.specs.Runs.{run}
 use Rattle.css_model.specs.TokenAt.{Shape, rule_at, part_at, slash_shape, comment_shape, string_shape, hash_shape, number_shape, less_shape, at_shape, url_shape, url_end, opened_shape, named_shape, word_at, symbol_at, done, is_quote, after_white}
 use Rattle.css_model.specs.Units.{white_unit, comment_unit, url_unit, string_unit, escape_after, hex_rest, name_unit, name_start, name_len, number_len, signed_decimal}
 use Rattle.css_model.specs.Unescaped.{is_url}
 use Rattle.css_tokens.specs.Laws.{AreComments, comment_of}
-use Rattle.css_tokens.specs.Open.{IsRead}
 use Rattle.css_tokens.proofs.AlikeLemmas.{alike_space}
 use Rattle.css_tokens.proofs.EndsLemmas.{looks_byte}
 use Rattle.css_tokens.proofs.OpenTokens.{space_closes}
