@@ -1,5 +1,5 @@
 -- What white space, a lone backslash and comments are read from, and what stands behind an open token.
-use Rattle.std.proofs.Common.{ℕ, suc, ◌+◌, ◌<◌, ◌≤◌, ◌≡◌, Bool, true, false, cond, ltb, ◌==◌, List, [], ◌∷◌, ◌++◌, Result, Option, Ok, Err, Some, None, length, drop, take, refl, sym, ap, ◌∙◌, subst, arith}
+use Rattle.std.proofs.Common.{ℕ, suc, ◌+◌, ◌<◌, ◌≤◌, ◌≡◌, Bool, true, false, cond, ltb, ◌==◌, List, [], ◌∷◌, ◌++◌, Option, Ok, Err, Some, None, length, drop, take, refl, sym, ap, ◌∙◌, subst, arith}
 use Rattle.std.specs.Prelude.{⊤, ◌||◌, ◌&&◌}
 use Rattle.std.specs.Char.{is_ascii_hexdigit}
 use Rattle.std.specs.List.{flat_map}
@@ -18,11 +18,12 @@ use Rattle.css_model.specs.Unescaped.{is_url}
 use Rattle.css_tokens.specs.Laws.{AreComments, comment_of}
 use Rattle.css_tokens.proofs.AlikeLemmas.{alike_space}
 use Rattle.css_tokens.proofs.EndsLemmas.{looks_byte}
+use Rattle.css_tokens.proofs.LooksLemmas.{white_rule}
 use Rattle.css_tokens.proofs.OpenTokens.{space_closes}
-use Rattle.css_tokens.proofs.PartLemmas.{Holds, part_rule}
-use Rattle.css_tokens.proofs.RuleBounds.{white_is}
+use Rattle.css_tokens.proofs.PartLemmas.{Holds, white_some, part_rule}
 use Rattle.css_tokens.proofs.RulesAgain.{part_again}
 use Rattle.css_tokens.proofs.Shapes.{shape_parts}
+use Rattle.css_tokens.proofs.WholeCharacters.{branch}
 
 -- what the kind of white space, and that of a backslash, tell of the text where they are read
 abbrev Tells : ℕ → List ℕ → TokenKind → ℕ → Type 0
@@ -36,10 +37,6 @@ KindTells c cs (Some k) n = Tells c cs k n
 
 abbrev ShapeTells : ℕ → List ℕ → Shape → Type 0
 ShapeTells c cs s = KindTells c cs s.0 s.1
-
-branch : {P : Shape → Type 0} (b : Bool) (x y : Result Shape TokenFlaw) → (b ≡ true → Holds P x) → (b ≡ false → Holds P y) → Holds P (cond b x y)
-branch true x y left right = left refl
-branch false x y left right = right refl
 
 told : (c : ℕ) (cs : List ℕ) (k : TokenKind) (n : ℕ) → Tells c cs k n → Holds (ShapeTells c cs) (done k n)
 told c cs k n tells = record { holds = tells }
@@ -137,13 +134,6 @@ module _ (c : ℕ) (cs : List ℕ) where
 part_tells : (c : ℕ) (cs : List ℕ) (k : TokenKind) (n : ℕ) → part_at (c ∷ cs) ≡ Ok (Some k, n) → Tells c cs k n
 part_tells c cs k n is = (subst (Holds (ShapeTells c cs)) (part_rule (c ∷ cs) (Some k, n) is).0 (rule_tells c cs)).holds
 
-white_some : (c : ℕ) (cs : List ℕ) → is_white c ≡ true → 0 < white_unit (c ∷ cs)
-white_some c cs = white_is (λ c. 0 < white_unit (c ∷ cs)) (omega arith) (omega arith) (omega arith) (two (begins 10 cs)) (omega arith) c
-  where
-    two : (b : Bool) → 0 < cond b 2 1
-    two true = omega arith
-    two false = omega arith
-
 -- white space is read where some begins
 pub white_begins : (text : List ℕ) (k : TokenKind) (n : ℕ) → is_white_kind k ≡ true → part_at text ≡ Ok (Some k, n) → 0 < white_unit text
 white_begins [] k n white is = absurd (cc)
@@ -180,8 +170,7 @@ newline_is_white c is = which (c == 32 || c == 9)
 pub newline_white : (text : List ℕ) (k : TokenKind) (n : ℕ) → begins_with is_newline text ≡ true → part_at text ≡ Ok (Some k, n) → is_white_kind k ≡ true
 newline_white [] k n newline is = absurd (false≢true newline)
 newline_white (c ∷ cs) k n newline is =
-    let rule : rule_at (c ∷ cs) ≡ done kind.White (run white_unit (c ∷ cs)) =
-    white_is (λ c. rule_at (c ∷ cs) ≡ done kind.White (run white_unit (c ∷ cs))) refl refl refl refl refl c (newline_is_white c newline) in
+    let rule = white_rule cs c (newline_is_white c newline) in
     let parts = shape_parts (Some kind.White) (Some k) (run white_unit (c ∷ cs)) n (sym rule ∙ (part_rule (c ∷ cs) (Some k, n) is).0) in
     let same : kind.White ≡ k = let kinds = parts.0 in cc in
     ap is_white_kind (sym same)
