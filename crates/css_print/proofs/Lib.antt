@@ -29,6 +29,7 @@ pub mod FrontChain
 pub mod FrontGood
 pub mod FrontGround
 pub mod FrontItems
+mod FrontLemmas
 pub mod FrontLevels
 pub mod FrontLexed
 pub mod FrontParts
@@ -43,7 +44,18 @@ pub mod FrontUtf8
 mod Inversions
 mod Joining
 mod Lengths
+mod Members
+mod PieceLemmas
+mod PieceWords
 mod RoundTrip
+mod ShortItems
+mod ShortMark
+mod ShortNames
+mod ShortParts
+mod ShortRoom
+mod ShortSheet
+mod ShortTokens
 mod Sound
 mod Texts
+mod WordLemmas
 mod Words

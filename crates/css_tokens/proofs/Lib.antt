@@ -36,6 +36,7 @@ pub mod OpenUnits
 pub mod PartFacts
 pub mod PartKinds
 pub mod PartLemmas
+pub mod RestartLemmas
 pub mod RowsAgain
 pub mod RuleBounds
 pub mod RuleLemmas

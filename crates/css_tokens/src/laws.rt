@@ -2,7 +2,7 @@
 
 ghost use Rattle.css_model.specs.Runs.{RunsAreLongest};
 ghost use Rattle.css_tokens.specs.Alike.{PartsEndAlike, RowsEndAlike};
-ghost use Rattle.css_tokens.specs.Laws.{PartsJoin, TokensCover};
+ghost use Rattle.css_tokens.specs.Laws.{PartsJoin, TokensCover, TokensRestart};
 ghost use Rattle.css_tokens.specs.Lexed.{LexedAreParts, LexedAreUtf8, PartsAreLexed};
 ghost use Rattle.css_tokens.specs.Open.{LastCloses, SelfEndedAreShut, SpaceCloses, SpaceEnds};
 ghost use Rattle.css_tokens.specs.Solids.{KeptAgain, KeptIsShort, KeptReadsBack, SolidsAreLexemes, ValueReadsBack};
@@ -23,6 +23,12 @@ pub fn tokens_cover()
     ensures { TokensCover }
 {}
 
+/// Each token of a source stands in it, behind the one before it, and the tokens from where it begins are
+/// that token and those behind it.
+pub fn tokens_restart()
+    ensures { TokensRestart }
+{}
+
 /// A text with nothing wrong is read back from its parts: each is the one at the front of its bytes and those
 /// behind it, and any parts of which that holds are the parts of the text that they spell.
 pub fn parts_read_back()
@@ -35,7 +41,6 @@ pub fn parts_read_back()
 pub fn parts_are_utf8()
     ensures { LexedAreUtf8 }
 {}
-
 
 /// A white space behind a token is no part of it, except that one which ends in an open escape takes it and is
 /// open no more. A token that ends itself is not open, nor is one whose last byte is neither a hex digit nor a
