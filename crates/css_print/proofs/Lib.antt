@@ -7,6 +7,7 @@ mod PieceLemmas
 mod PieceWords
 mod RoundTrip
 mod Sound
+mod SoundExamples
 mod Texts
 mod WordLemmas
 mod Words
