@@ -56,6 +56,7 @@ mod ShortRoom
 mod ShortSheet
 mod ShortTokens
 mod Sound
+mod SoundExamples
 mod Texts
 mod WordLemmas
 mod Words

@@ -19,6 +19,7 @@ use Rattle.css_model.specs.Sheet.{rule_or_block}
 use Rattle.css_model.specs.Sound.{raw_items, IsSoundSelector, IsSoundDeclaration, IsSoundKeptRule, IsSoundBlock}
 use Rattle.css_model.specs.Source.{IsWithin}
 use Rattle.css_model.specs.Spelling.{lexemes_of}
+use Rattle.css_tokens.specs.Laws.{TokensRestart}
 use Rattle.css_print.specs.Places.{BeginsAt}
 use Rattle.css_print.proofs.Members.{member, all_in, all_take, all_drop, all_filter, all_split, all_items}
 use Rattle.css_print.proofs.PieceWords.{lexeme_within}
@@ -66,14 +67,14 @@ declared_name : (b : Bool) (d e : DeclItem) → cond b (Some d) None ≡ Some e 
 declared_name true d e is = cc
 declared_name false d e is = absurd (cc)
 
-pub name_within : (source : List ℕ) (d : DeclItem) → IsSoundDeclaration source d → IsWithin source d.name
-name_within source d h = which h.entry (entry_among source h.item h.entry h.item_in h.entry_in) h.reads
+pub name_within : TokensRestart → (source : List ℕ) (d : DeclItem) → IsSoundDeclaration source d → IsWithin source d.name
+name_within law source d h = which h.entry (entry_among source h.item h.entry h.item_in h.entry_in) h.reads
   where
     which : (entry : List Lexeme) → AllByRecursion (Among source) entry → declaration source entry ≡ Some d → IsWithin source d.name
     which [] all is = absurd (cc)
     which (name ∷ []) all is = absurd (cc)
     which (name ∷ sign ∷ value) all is =
-        subst (IsWithin source) (declared_name (is_ident name.kind && is_sign_of colon sign.kind) (declared source name sign value) d is) (lexeme_within source name all.0)
+        subst (IsWithin source) (declared_name (is_ident name.kind && is_sign_of colon sign.kind) (declared source name sign value) d is) (lexeme_within law source name all.0)
 
 -- an item has a token
 item_begins : (source : List ℕ) (item : List Lexeme) (piece : Piece) → Contains (raw_items source) item → piece_of item ≡ piece → BeginsAt source piece.start

@@ -13,8 +13,7 @@ use Rattle.css_model.specs.Lexemes.{is_white_kind, gap_of, lexeme, lexemes_in, a
 use Rattle.css_model.specs.Source.{IsWithin, text_at}
 use Rattle.css_model.specs.Spelling.{stands_in, tokens_in, lexemes_of}
 use Rattle.css_model.specs.Tokens.{Stream, stream, tokens, byte_order_mark}
-use Rattle.css_tokens.specs.Laws.{StandsIn, Restarts}
-use Rattle.css_tokens.proofs.RestartLemmas.{tokens_restart}
+use Rattle.css_tokens.specs.Laws.{StandsIn, Restarts, TokensRestart}
 use Rattle.css_print.specs.Places.{BeginsAt, words_in}
 use Rattle.css_print.specs.Words.{WordTexts, up_to, solids, words}
 use Rattle.css_print.proofs.Members.{member, all_with}
@@ -182,22 +181,27 @@ record SheetTokens (source : List ℕ) (s : Stream) : Type 0 where
   from : ℕ
   restart : Restarts source from s.tokens
 
-sheet_tokens : (source : List ℕ) → SheetTokens source (tokens source true)
-sheet_tokens source = which (starts_with nat_eq source byte_order_mark) refl
+sheet_tokens : TokensRestart → (source : List ℕ) → SheetTokens source (tokens source true)
+sheet_tokens law source = which (starts_with nat_eq source byte_order_mark) refl
   where
     which : (b : Bool) → starts_with nat_eq source byte_order_mark ≡ b → SheetTokens source (cond b (stream 3 (drop 3 source)) (stream 0 source))
-    which true is = record { from = 3; restart = tokens_restart source 3 (mark_len source is) }
-    which false is = record { from = 0; restart = tokens_restart source 0 (omega arith) }
+    which true is = record { from = 3; restart = law source 3 (mark_len source is) }
+    which false is = record { from = 0; restart = law source 0 (omega arith) }
 
-all_found : (source : List ℕ) → AllByRecursion (Found source (sheet_tokens source).from [] (tokens source true).tokens) (lexemes_of source)
-all_found source = let s = sheet_tokens source in found_all source s.from [] (tokens source true).tokens s.restart
+-- what is found of a token of a sheet
+sheet_found : TokensRestart → (source : List ℕ) (x : Lexeme) → Contains (lexemes_of source) x
+    → (from : ℕ) × Found source from [] (tokens source true).tokens x
+sheet_found law source x among =
+    let s = sheet_tokens law source in
+    let F : Lexeme → Type 0 = Found source s.from [] (tokens source true).tokens in
+    (s.from, member F (lexemes_of source) x (found_all source s.from [] (tokens source true).tokens s.restart) among)
 
-pub lexeme_within : (source : List ℕ) (x : Lexeme) → Contains (lexemes_of source) x → IsWithin source x.span
-lexeme_within source x among = (member (Found source (sheet_tokens source).from [] (tokens source true).tokens) (lexemes_of source) x (all_found source) among).within
+pub lexeme_within : TokensRestart → (source : List ℕ) (x : Lexeme) → Contains (lexemes_of source) x → IsWithin source x.span
+lexeme_within law source x among = (sheet_found law source x among).1.within
 
-pub begins_inside : (source : List ℕ) (at : ℕ) → BeginsAt source at → at ≤ length source
-begins_inside source at h = let w = lexeme_within source h.token h.among in omega (arith, w.ordered, w.inside, h.begins)
+pub begins_inside : TokensRestart → (source : List ℕ) (at : ℕ) → BeginsAt source at → at ≤ length source
+begins_inside law source at h = let w = lexeme_within law source h.token h.among in omega (arith, w.ordered, w.inside, h.begins)
 
 -- The words of a piece that begins at a token are those of the sheet's tokens that stand in it.
-pub begins_words : (source : List ℕ) (piece : Piece) → BeginsAt source piece.start → words_in source piece ≡ words (map (solid source) (tokens_in source piece))
-begins_words source piece h = (member (Found source (sheet_tokens source).from [] (tokens source true).tokens) (lexemes_of source) h.token (all_found source) h.among).same piece (sym h.begins)
+pub begins_words : TokensRestart → (source : List ℕ) (piece : Piece) → BeginsAt source piece.start → words_in source piece ≡ words (map (solid source) (tokens_in source piece))
+begins_words law source piece h = (sheet_found law source h.token h.among).1.same piece (sym h.begins)

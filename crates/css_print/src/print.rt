@@ -13,7 +13,8 @@ ghost use Rattle.css_print.specs.Places.{BeginsAt};
 use crate::output::Output;
 use crate::tally::Tally;
 use crate::walk::Walk;
-use css_model::{DeclItem, Item, KeptRule, Piece, Rule, SelItem, Sheet};
+use css_model::{DeclItem, Item, Piece, Rule, SelItem, Sheet};
+use css_tokens::tokens_restart;
 use std::alloc::{AllocError, Global};
 
 fn put_kept<O: Output>(out: &mut O, piece: Piece, source: &[u8]) -> Result<(), O::Error>
@@ -21,6 +22,7 @@ fn put_kept<O: Output>(out: &mut O, piece: Piece, source: &[u8]) -> Result<(), O
     requires begins { BeginsAt source.now piece.start }
     ensures { OnOk result (O.more out.old (kept_text source.now piece) out.new) }
 {
+    tokens_restart();
     let mut walk = Walk::new(source, piece);
     'words: while let Some(word) = walk.next() {
         out.put(word.text)?;
@@ -34,6 +36,7 @@ fn put_selector<O: Output>(out: &mut O, item: &SelItem, source: &[u8]) -> Result
     requires sound { IsSoundSelector source.now item.now }
     ensures { OnOk result (O.more out.old (printed_selector source.now item.now) out.new) }
 {
+    tokens_restart();
     let mut walk = Walk::new(source, item.piece);
     'words: while let Some(word) = walk.next() {
         out.put(word.text)?;
@@ -51,6 +54,7 @@ fn put_declaration<O: Output>(out: &mut O, item: &DeclItem, source: &[u8]) -> Re
     requires { IsSoundDeclaration source.now item.now }
     ensures { OnOk result (O.more out.old (printed_declaration source.now item.now) out.new) }
 {
+    tokens_restart();
     out.put(item.name.text(source))?;
     out.put(b":")?;
     out.put(item.decl.value.bytes())?;
@@ -185,3 +189,6 @@ pub fn print_sheet(alloc: Global, sheet: &Sheet, source: &[u8]) -> Result<Vec<u8
     put_items(&mut out, items, source)?;
     Ok(out)
 }
+
+#[cfg(test)]
+mod tests;

@@ -5,7 +5,7 @@ use Rattle.css_print.proofs.PieceLemmas.{name_within}
 use Rattle.css_print.proofs.print.put_declaration.Goals as goal
 
 pub text-requires : goal.text-requires
-text-requires g c = name_within c.args.source.now c.args.item.now c.requires
+text-requires g c = name_within c.tokens_restart.ensures c.args.source.now c.args.item.now c.requires
 
 pub returns : goal.returns
 returns g c =

@@ -9,7 +9,7 @@ use Rattle.css_print.proofs.WordLemmas.{spelled, words_kept, one_more}
 use Rattle.css_print.proofs.print.put_kept.Goals as goal
 
 pub new-walk-requires-clause-start : goal.new-walk-requires-clause-start
-new-walk-requires-clause-start g c = begins_inside c.args.source.now c.args.piece.start c.requires.begins
+new-walk-requires-clause-start g c = begins_inside c.tokens_restart.ensures c.args.source.now c.args.piece.start c.requires.begins
 
 pub words-init : goal.words-init
 words-init g c =
@@ -17,7 +17,7 @@ words-init g c =
     let piece = c.args.piece in (
       [],
       g.met.O.Output.nothing c.args.out.now,
-      ap (λ (ws : List WordTexts). flat_map spelled ws) (c.new-walk.ensures.left ∙ begins_words source piece c.requires.begins) ∙ words_kept (map (solid source) (tokens_in source piece)),
+      ap (λ (ws : List WordTexts). flat_map spelled ws) (c.new-walk.ensures.left ∙ begins_words c.tokens_restart.ensures source piece c.requires.begins) ∙ words_kept (map (solid source) (tokens_in source piece)),
       c.new-walk.ensures.ready,
     )
 

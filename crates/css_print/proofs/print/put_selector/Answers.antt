@@ -10,7 +10,7 @@ use Rattle.css_print.proofs.print.put_selector.Goals as goal
 
 pub new-walk-requires-clause-start : goal.new-walk-requires-clause-start
 new-walk-requires-clause-start g c =
-    begins_inside c.args.source.now c.args.item.now.piece.start (selector_begins c.args.source.now c.args.item.now c.requires.sound)
+    begins_inside c.tokens_restart.ensures c.args.source.now c.args.item.now.piece.start (selector_begins c.args.source.now c.args.item.now c.requires.sound)
 
 pub words-init : goal.words-init
 words-init g c =
@@ -19,7 +19,7 @@ words-init g c =
     let begins = selector_begins source c.args.item.now c.requires.sound in (
       [],
       g.met.O.Output.nothing c.args.out.now,
-      ap (λ (ws : List WordTexts). flat_map bare ws) (c.new-walk.ensures.left ∙ begins_words source piece begins) ∙ words_bare source (tokens_in source piece),
+      ap (λ (ws : List WordTexts). flat_map bare ws) (c.new-walk.ensures.left ∙ begins_words c.tokens_restart.ensures source piece begins) ∙ words_bare source (tokens_in source piece),
       c.new-walk.ensures.ready,
     )
 
