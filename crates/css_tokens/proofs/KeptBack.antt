@@ -1,19 +1,21 @@
 -- The kept text of the tokens of a text, and the text of a value, are read back.
-use Rattle.std.proofs.Common.{ℕ, zero, suc, ◌≤◌, ◌≡◌, inl, inr, Bool, true, false, cond, not, ◌&&◌, List, [], ◌∷◌, ◌++◌, Option, Some, Ok, length, take, drop, refl, sym, ap, ◌∙◌, subst, arith, append_assoc}
+use Rattle.std.proofs.Common.{ℕ, zero, suc, ◌≤◌, ◌≡◌, inl, inr, Bool, true, false, cond, not, ◌&&◌, List, [], ◌∷◌, ◌++◌, Option, Some, Ok, length, take, drop, refl, sym, ap, ◌∙◌, subst, arith, append_assoc, ◌⊎◌}
 use Rattle.std.proofs.lemmas.Bool.{false≢true, eqb-true}
 use Rattle.std.proofs.lemmas.List.{length-append}
 use Rattle.css_model.specs.declared.token.Gap.{Gap}
 use Rattle.css_model.specs.declared.token.Gap.TheVariants as gap
 use Rattle.css_model.specs.declared.token.TokenKind.{TokenKind}
 use Rattle.css_model.specs.Characters.{slash, space, is_white, begins, begins_with}
+use Rattle.css_model.specs.declared.token.TokenKind.TheVariants as kind
 use Rattle.css_model.specs.Kept.{Solid, is_lone, is_open, is_white_gap}
 use Rattle.css_model.specs.Lexemes.{is_white_kind}
 use Rattle.css_model.specs.TokenAt.{part_at}
 use Rattle.css_model.specs.Tokens.{Part, text_of}
 use Rattle.css_tokens.specs.Lexed.{IsLexed}
-use Rattle.css_tokens.specs.Solids.{gap_before, solids, closed, last_kept, last_of_value, read_back, ends_called, is_ender, IsBehind, ReadsBack, solids_of, KeptReadsBack, ValueReadsBack}
+use Rattle.css_tokens.specs.Solids.{gap_before, solids, closed, last_kept, last_of_value, read_back, ends_called, is_ender, IsBehind, is_sign_kind, ends_in_sign, MayFollow, ReadsBack, solids_of, KeptReadsBack, ValueReadsBack}
+use Rattle.css_tokens.proofs.EndsAnywhere.{ends_anywhere}
 use Rattle.css_tokens.proofs.KeptParts.{part_of, feed, gap_part, gap_parts, last_parts, last_of, kept_parts, kept_spells}
-use Rattle.css_tokens.proofs.KeptRows.{KeptRow, IsToken, token, middle_row, last_row, behind_no_white}
+use Rattle.css_tokens.proofs.KeptRows.{KeptRow, IsToken, token, LastMay, may_behind, middle_row, last_row, behind_no_white}
 use Rattle.css_tokens.proofs.OpenTokens.{space_closes}
 use Rattle.css_tokens.proofs.PartFacts.{PartIs, part_is, slash_first, is_gap}
 use Rattle.css_tokens.proofs.SolidFacts.{lone_gap, take_none, nothing_first}
@@ -26,43 +28,52 @@ gap_row k v ps new is row = record {
   ends = λ solid _. absurd (false≢true (rw is at solid));
 }
 
-module _ (value : Bool) (rest : List Part) (lexed : IsLexed rest) (behind : IsBehind (text_of rest)) where
+-- the kind of the last of tokens
+abbrev pub last_kind : Solid → List Solid → TokenKind
+last_kind s [] = s.kind
+last_kind s (t ∷ ts) = last_kind t ts
+
+module _ (value : Bool) (rest : List Part) (lexed : IsLexed rest) where
   -- what is to be shown of parts
   abbrev Kept : List Part → Type 0
-  Kept ps = (n : ℕ) (t : Solid) (ts : List Solid) → take n (solids ps) ≡ t ∷ ts → ends_called (t ∷ ts) ≡ false → KeptRow ps (kept_parts value (t ∷ ts) ++ rest)
+  Kept ps = (n : ℕ) (t : Solid) (ts : List Solid) → take n (solids ps) ≡ t ∷ ts → LastMay (last_kind t ts) rest → KeptRow ps (kept_parts value (t ∷ ts) ++ rest)
+
+  abbrev LastOf : List Solid → Type 0
+  LastOf [] = Unit {0}
+  LastOf (t ∷ ts) = LastMay (last_kind t ts) rest
 
   solid_row : (k : TokenKind) (v : List ℕ) (ps : List Part) → IsToken k v ps → Kept ps → (n : ℕ) (t : Solid) (ts : List Solid)
-      → take n (record { kind = k; bytes = v; gap = gap_before false ps } ∷ solids ps) ≡ t ∷ ts → ends_called (t ∷ ts) ≡ false → KeptRow (token k v ∷ ps) (kept_parts value (t ∷ ts) ++ rest)
-  solid_row k v ps is later zero t ts some called = absurd (cc)
-  solid_row k v ps is later (suc m) t ts some called =
-      let R : List Solid → Type 0 = λ ss. ends_called ss ≡ false → KeptRow (token k v ∷ ps) (kept_parts value ss ++ rest) in
-      subst R some (which (take m (solids ps)) refl) called
+      → take n (record { kind = k; bytes = v; gap = gap_before false ps } ∷ solids ps) ≡ t ∷ ts → LastMay (last_kind t ts) rest → KeptRow (token k v ∷ ps) (kept_parts value (t ∷ ts) ++ rest)
+  solid_row k v ps is later zero t ts some may = absurd (cc)
+  solid_row k v ps is later (suc m) t ts some may =
+      let R : List Solid → Type 0 = λ ss. LastOf ss → KeptRow (token k v ∷ ps) (kept_parts value ss ++ rest) in
+      subst R some (which (take m (solids ps)) refl) may
     where
       s : Solid
       s = record { kind = k; bytes = v; gap = gap_before false ps }
 
-      which : (ss : List Solid) → take m (solids ps) ≡ ss → ends_called (record { kind = k; bytes = v; gap = gap_before false ps } ∷ take m (solids ps)) ≡ false
+      which : (ss : List Solid) → take m (solids ps) ≡ ss → LastMay (last_kind (record { kind = k; bytes = v; gap = gap_before false ps }) (take m (solids ps))) rest
           → KeptRow (token k v ∷ ps) (kept_parts value (record { kind = k; bytes = v; gap = gap_before false ps } ∷ take m (solids ps)) ++ rest)
-      which [] last called = rw last (last_row value k v ps rest is (rw last at called) lexed behind)
-      which (u ∷ us) next called =
-          let row = later m u us next (rw next at called) in
+      which [] last may = rw last (last_row value k v ps rest is lexed (rw last at may))
+      which (u ∷ us) next may =
+          let row = later m u us next (rw next at may) in
           let middle = middle_row k v ps (kept_parts value (u ∷ us) ++ rest) is row (λ none. nothing_first ps m u us is.later none next) in
           rw next (subst (λ (G : List Part). KeptRow (token k v ∷ ps) (part_of (closed s) ∷ G)) (sym (append_assoc (gap_parts s) (kept_parts value (u ∷ us)) rest)) middle)
 
   part_row : (k : Option TokenKind) (v : List ℕ) (ps : List Part) → part_at (v ++ text_of ps) ≡ Ok (k, length v) → IsLexed ps → Kept ps → Kept (record { kind = k; bytes = v } ∷ ps)
-  part_row k v ps here is later n t ts some called = which (part_is k v (text_of ps) here)
+  part_row k v ps here is later n t ts some may = which (part_is k v (text_of ps) here)
     where
       which : PartIs k v (text_of ps) → KeptRow (record { kind = k; bytes = v } ∷ ps) (kept_parts value (t ∷ ts) ++ rest)
-      which (inl white) = gap_row k v ps (kept_parts value (t ∷ ts) ++ rest) (rw white.kind refl) (later n t ts (rw white.kind at some) called)
-      which (inr (inl comment)) = gap_row k v ps (kept_parts value (t ∷ ts) ++ rest) (rw comment.kind refl) (later n t ts (rw comment.kind at some) called)
+      which (inl white) = gap_row k v ps (kept_parts value (t ∷ ts) ++ rest) (rw white.kind refl) (later n t ts (rw white.kind at some) may)
+      which (inr (inl comment)) = gap_row k v ps (kept_parts value (t ∷ ts) ++ rest) (rw comment.kind refl) (later n t ts (rw comment.kind at some) may)
       which (inr (inr solid)) =
           let read : part_at (v ++ text_of ps) ≡ Ok (Some solid.token, length v) = rw solid.kind at here in
-          let row = solid_row solid.token v ps (record { here = read; later = is; solid = solid.solid; some = solid.some; first = solid.first; lone = solid.lone }) later n t ts (rw (solid.kind, solid.solid) at some) called in
+          let row = solid_row solid.token v ps (record { here = read; later = is; solid = solid.solid; some = solid.some; first = solid.first; lone = solid.lone }) later n t ts (rw (solid.kind, solid.solid) at some) may in
           subst (λ (k : Option TokenKind). KeptRow (record { kind = k; bytes = v } ∷ ps) (kept_parts value (t ∷ ts) ++ rest)) (sym solid.kind) row
 
   pub kept_row : (ps : List Part) → IsLexed ps → Kept ps
-  kept_row [] is n t ts some called = absurd (take_none n t ts some)
-  kept_row (p ∷ ps) (here, is) n t ts some called = part_row p.kind p.bytes ps here is (kept_row ps is) n t ts some called
+  kept_row [] is n t ts some may = absurd (take_none n t ts some)
+  kept_row (p ∷ ps) (here, is) n t ts some may = part_row p.kind p.bytes ps here is (kept_row ps is) n t ts some may
 
 -- A token that is no white space. A lone backslash is followed by white space, and an open one is open no more
 -- with a white space.
@@ -175,17 +186,17 @@ behind_nothing (p ∷ ps) (here, is) behind = which (part_is p.kind p.bytes (tex
 abbrev pub last_back : Bool → Solid → Solid
 last_back value s = last_kept (last_of value s)
 
-last_kind : (value : Bool) (s : Solid) → (last_of value s).kind ≡ s.kind
-last_kind true s = (closed_kind s).0
-last_kind false s = refl
+same_kind : (value : Bool) (s : Solid) → (last_of value s).kind ≡ s.kind
+same_kind true s = (closed_kind s).0
+same_kind false s = refl
 
 last_again : (value : Bool) (s : Solid) (rest : List Part) → is_white_kind s.kind ≡ false → gap_before false rest ≡ gap.Nothing
     → solids (part_of (last_of value s) ∷ (last_parts s ++ rest)) ≡ last_back value s ∷ solids rest
 last_again value s rest solid nothing =
     let x = last_of value s in
-    let same : is_lone x.kind ≡ is_lone s.kind = ap is_lone (last_kind value s) in
+    let same : is_lone x.kind ≡ is_lone s.kind = ap is_lone (same_kind value s) in
     let gaps = which (is_lone s.kind) in
-    part_solid (last_kept x) (last_parts s ++ rest) (ap is_white_kind (last_kind value s) ∙ solid) (gaps.0 ∙ ap (λ (b : Bool). cond b gap.White gap.Nothing) (sym same))
+    part_solid (last_kept x) (last_parts s ++ rest) (ap is_white_kind (same_kind value s) ∙ solid) (gaps.0 ∙ ap (λ (b : Bool). cond b gap.White gap.Nothing) (sym same))
     ∙ ap (λ (ss : List Solid). last_back value s ∷ ss) gaps.1
   where
     which : (l : Bool) → (gap_before false (cond l (feed ∷ []) [] ++ rest) ≡ cond l gap.White gap.Nothing) × (solids (cond l (feed ∷ []) [] ++ rest) ≡ solids rest)
@@ -193,7 +204,7 @@ last_again value s rest solid nothing =
     which false = (nothing, refl)
 
 kept_starts : (value : Bool) (t : Solid) (ts : List Solid) (rest : List Part) → is_white_kind t.kind ≡ false → Starts (kept_parts value (t ∷ ts) ++ rest)
-kept_starts value t [] rest solid = starts (last_of value t).kind (last_of value t).bytes (last_parts t ++ rest) (ap is_white_kind (last_kind value t) ∙ solid)
+kept_starts value t [] rest solid = starts (last_of value t).kind (last_of value t).bytes (last_parts t ++ rest) (ap is_white_kind (same_kind value t) ∙ solid)
 kept_starts value t (u ∷ us) rest solid = starts (closed t).kind (closed t).bytes ((gap_parts t ++ kept_parts value (u ∷ us)) ++ rest) (ap is_white_kind (closed_kind t).0 ∙ solid)
 
 kept_again : (value : Bool) (ss : List Solid) (rest : List Part) → AreGood ss → gap_before false rest ≡ gap.Nothing → solids (kept_parts value ss ++ rest) ≡ read_back (last_back value) ss ++ solids rest
@@ -207,6 +218,39 @@ kept_again value (s ∷ t ∷ ts) rest (good, (next, others)) nothing =
     ap (λ (G : List Part). solids (part_of (closed s) ∷ G)) same ∙ part_solid (closed s) (gap_parts s ++ K) solid (gaps.0 ∙ sym (closed_kind s).1)
     ∙ ap (λ (ss : List Solid). closed s ∷ ss) (gaps.1 ∙ kept_again value (t ∷ ts) rest (next, others) nothing)
 
+-- what may follow tokens, by the last one's kind
+sign_may : (k : TokenKind) (rest : List Part) → is_sign_kind k ≡ true → LastMay k rest
+sign_may (kind.Sign c) rest sign = record {
+  ends = λ _ v old. ends_anywhere (token (kind.Sign c) v) old (text_of rest) refl refl refl;
+  white = λ lone. absurd (false≢true lone);
+}
+sign_may kind.White rest sign = absurd (false≢true sign)
+sign_may kind.Str rest sign = absurd (false≢true sign)
+sign_may kind.IdHash rest sign = absurd (false≢true sign)
+sign_may kind.Hash rest sign = absurd (false≢true sign)
+sign_may kind.Number rest sign = absurd (false≢true sign)
+sign_may kind.Percentage rest sign = absurd (false≢true sign)
+sign_may kind.Dimension rest sign = absurd (false≢true sign)
+sign_may kind.CommentOpen rest sign = absurd (false≢true sign)
+sign_may kind.CommentClose rest sign = absurd (false≢true sign)
+sign_may kind.AtKeyword rest sign = absurd (false≢true sign)
+sign_may kind.Ident rest sign = absurd (false≢true sign)
+sign_may kind.Function rest sign = absurd (false≢true sign)
+sign_may kind.Url rest sign = absurd (false≢true sign)
+sign_may (kind.Delim c) rest sign = absurd (false≢true sign)
+
+last_may : (t : Solid) (ts : List Solid) (rest : List Part) → AreGood (t ∷ ts) → ends_called (t ∷ ts) ≡ false → IsBehind (text_of rest) ⊎ (ends_in_sign (t ∷ ts) ≡ true) → LastMay (last_kind t ts) rest
+last_may t [] rest (good, others) called (inl behind) = may_behind t.kind rest good.solid called behind
+last_may t [] rest (good, others) called (inr sign) = sign_may t.kind rest sign
+last_may t (u ∷ us) rest (good, others) called may = last_may u us rest others called may
+
+-- the last token as it is read back has the same kind
+back_sign : (value : Bool) (ss : List Solid) → ends_in_sign (read_back (last_back value) ss) ≡ ends_in_sign ss
+back_sign value [] = refl
+back_sign value (s ∷ []) = ap is_sign_kind (same_kind value s)
+back_sign value (s ∷ t ∷ []) = back_sign value (t ∷ [])
+back_sign value (s ∷ t ∷ u ∷ us) = back_sign value (t ∷ u ∷ us)
+
 read_back_of : (value : Bool) (ps : List Part) (m n : ℕ) → IsLexed ps → ends_called (solids_of ps m n) ≡ false
     → ReadsBack (text_of (kept_parts value (solids_of ps m n))) (read_back (last_back value) (solids_of ps m n))
 read_back_of value ps m n is called =
@@ -214,17 +258,29 @@ read_back_of value ps m n is called =
     let R : List Solid → Type 0 = λ ss. ends_called (take n ss) ≡ false → ReadsBack (text_of (kept_parts value (take n ss))) (read_back (last_back value) (take n ss)) in
     subst R from.same (λ (called : ends_called (take n (solids from.parts)) ≡ false). of_parts from.parts from.lexed called) called
   where
-    lexed_of : (qs : List Part) → IsLexed qs → (ss : List Solid) → take n (solids qs) ≡ ss → ends_called ss ≡ false → (rest : List Part) → IsLexed rest → IsBehind (text_of rest) → IsLexed (kept_parts value ss ++ rest)
-    lexed_of qs lexed [] is called rest others behind = others
-    lexed_of qs lexed (t ∷ ts) is called rest others behind = (kept_row value rest others behind qs lexed n t ts is called).lexed
+    lexed_of : (qs : List Part) → IsLexed qs → (ss : List Solid) → take n (solids qs) ≡ ss → AreGood ss → ends_called ss ≡ false → (rest : List Part) → IsLexed rest
+        → IsBehind (text_of rest) ⊎ (ends_in_sign ss ≡ true) → IsLexed (kept_parts value ss ++ rest)
+    lexed_of qs lexed [] is good called rest others may = others
+    lexed_of qs lexed (t ∷ ts) is good called rest others may = (kept_row value rest others qs lexed n t ts is (last_may t ts rest good called may)).lexed
+
+    may_of : (ss : List Solid) (rest : List Part) → MayFollow (read_back (last_back value) ss) rest → IsBehind (text_of rest) ⊎ (ends_in_sign ss ≡ true)
+    may_of ss rest (inl behind) = inl behind
+    may_of ss rest (inr sign) = inr (sym (back_sign value ss) ∙ sign.0)
+
+    nothing_of : (ss : List Solid) (rest : List Part) → IsLexed rest → MayFollow ss rest → gap_before false rest ≡ gap.Nothing
+    nothing_of ss rest others (inl behind) = behind_nothing rest others behind
+    nothing_of ss rest others (inr sign) = sign.1
 
     of_parts : (qs : List Part) → IsLexed qs → ends_called (take n (solids qs)) ≡ false → ReadsBack (text_of (kept_parts value (take n (solids qs)))) (read_back (last_back value) (take n (solids qs)))
-    of_parts qs lexed called = record {
-      parts = kept_parts value (take n (solids qs));
-      spells = refl;
-      lexed = lexed_of qs lexed (take n (solids qs)) refl called;
-      reads = λ rest others behind. kept_again value (take n (solids qs)) rest (take_good n (solids qs) (are_good qs lexed)) (behind_nothing rest others behind);
-    }
+    of_parts qs lexed called =
+        let ss = take n (solids qs) in
+        let good : AreGood ss = take_good n (solids qs) (are_good qs lexed) in
+        record {
+          parts = kept_parts value ss;
+          spells = refl;
+          lexed = λ rest others may. lexed_of qs lexed ss refl good called rest others (may_of ss rest may);
+          reads = λ rest others may. kept_again value ss rest good (nothing_of (read_back (last_back value) ss) rest others may);
+        }
 
 pub kept_reads_back : KeptReadsBack
 kept_reads_back ps m n is called =

@@ -7,7 +7,7 @@ use Rattle.css_model.specs.declared.token.Gap.TheVariants as gap
 use Rattle.css_model.specs.declared.token.TokenKind.{TokenKind}
 use Rattle.css_model.specs.declared.token.TokenKind.TheVariants as kind
 use Rattle.css_model.specs.Characters.{backslash, slash, star, space, line_feed, exclamation_mark, open_round, is_sign, is_white, begins_with}
-use Rattle.css_model.specs.Kept.{Solid, is_lone, is_open, is_white_gap}
+use Rattle.css_model.specs.Kept.{is_lone, is_open, is_white_gap}
 use Rattle.css_model.specs.Lexemes.{is_white_kind}
 use Rattle.css_model.specs.Units.{white_unit}
 use Rattle.css_model.specs.TokenAt.{part_at, done, is_quote}
@@ -156,25 +156,33 @@ behind_no_white (c ∷ cs) (ender, bang) = which (is_sign c) (not (c == open_rou
     which false r true sign mark is = rw (eqb-true c exclamation_mark mark) refl
     which false r false sign mark is = absurd (false≢true is)
 
--- the last token
-pub last_row : (value : Bool) (k : TokenKind) (v : List ℕ) (ps rest : List Part) → IsToken k v ps → is_function k ≡ false → IsLexed rest → IsBehind (text_of rest)
-    → KeptRow (token k v ∷ ps) (part_of (last_of value (record { kind = k; bytes = v; gap = gap_before false ps })) ∷ (last_parts (record { kind = k; bytes = v; gap = gap_before false ps }) ++ rest))
-last_row value k v ps rest is called lexed behind = which value (is_lone k) refl (is_white_gap (gap_before false ps)) (is_open v) refl
-  where
-    s : Solid
-    s = record { kind = k; bytes = v; gap = gap_before false ps }
+-- a last token of this kind ends alike before these parts, and a lone backslash is not before white space
+pub record LastMay (k : TokenKind) (rest : List Part) : Type 0 where
+  pub ends : is_lone k ≡ false → (v old : List ℕ) → EndsAlike (token k v) old (text_of rest)
+  pub white : is_lone k ≡ true → white_unit (text_of rest) ≡ 0
 
+pub may_behind : (k : TokenKind) (rest : List Part) → is_white_kind k ≡ false → is_function k ≡ false → IsBehind (text_of rest) → LastMay k rest
+may_behind k rest solid called behind = record {
+  ends = λ other v old. ends_behind (token k v) old (text_of rest) (plain_of k solid called other) behind;
+  white = λ _. white_none_of (text_of rest) (behind_no_white (text_of rest) behind);
+}
+
+-- the last token
+pub last_row : (value : Bool) (k : TokenKind) (v : List ℕ) (ps rest : List Part) → IsToken k v ps → IsLexed rest → LastMay k rest
+    → KeptRow (token k v ∷ ps) (part_of (last_of value (record { kind = k; bytes = v; gap = gap_before false ps })) ∷ (last_parts (record { kind = k; bytes = v; gap = gap_before false ps }) ++ rest))
+last_row value k v ps rest is lexed may = which value (is_lone k) refl (is_white_gap (gap_before false ps)) (is_open v) refl
+  where
     plain : is_lone k ≡ false → KeptRow (token k v ∷ ps) (token k v ∷ rest)
-    plain lone = alike_row k v ps rest is lexed (ends_behind (token k v) (text_of ps) (text_of rest) (plain_of k is.solid called lone) behind)
+    plain lone = alike_row k v ps rest is lexed (may.ends lone v (text_of ps))
 
     opened : is_lone k ≡ false → is_open v ≡ true → KeptRow (token k v ∷ ps) (token k (v ++ space ∷ []) ∷ rest)
     opened lone is_o =
         let w = v ++ space ∷ [] in
-        let ends = ends_behind (token k w) (space ∷ []) (text_of rest) (plain_of k is.solid called lone) behind in
+        let ends = may.ends lone w (space ∷ []) in
         open_row k v ps rest is (is_open_end k v ps is lone is_o) lexed (part_again w (space ∷ []) (text_of rest) (Some k) ends.alike ends.looks (closed_read k v ps [] is lone is_o))
 
     lone_last : is_lone k ≡ true → KeptRow (token k v ∷ ps) (token k v ∷ feed ∷ rest)
-    lone_last lone = lone_row k v ps rest is lone lexed (white_none_of (text_of rest) (behind_no_white (text_of rest) behind))
+    lone_last lone = lone_row k v ps rest is lone lexed (may.white lone)
 
     which : (value l : Bool) → is_lone k ≡ l → (w o : Bool) → is_open v ≡ o
         → KeptRow (token k v ∷ ps) (part_of (cond value (cond (not l && (w && o)) (record { kind = k; bytes = v ++ space ∷ []; gap = gap_before false ps }) (record { kind = k; bytes = v; gap = gap_before false ps }))

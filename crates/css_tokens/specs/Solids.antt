@@ -1,6 +1,6 @@
 -- The tokens of parts that are no white space by themselves, each with what stands behind it, and their text
 -- read back.
-use Rattle.std.specs.Prelude.{ℕ, ◌≡◌, ◌≤◌, ◌==◌, ◌&&◌, ◌||◌, not, Bool, true, false, if◌then◌else◌, List, [], ◌∷◌, ◌++◌, map, take, drop, length, Option, Some, None}
+use Rattle.std.specs.Prelude.{ℕ, ◌≡◌, ◌≤◌, ◌==◌, ◌⊎◌, ◌&&◌, ◌||◌, not, Bool, true, false, if◌then◌else◌, List, [], ◌∷◌, ◌++◌, map, take, drop, length, Option, Some, None}
 use Rattle.css_model.specs.declared.token.Gap.{Gap}
 use Rattle.css_model.specs.declared.token.Gap.TheVariants as gap
 use Rattle.css_model.specs.declared.token.TokenKind.{TokenKind}
@@ -68,13 +68,27 @@ abbrev pub IsBehind : List ℕ → Type 0
 IsBehind [] = Unit {0}
 IsBehind (c ∷ cs) = (is_ender c ≡ true) × (c ≡ exclamation_mark → begins_dashes cs ≡ false)
 
+abbrev pub is_sign_kind : TokenKind → Bool
+is_sign_kind (kind.Sign c) = true
+is_sign_kind k = false
+
+abbrev pub ends_in_sign : List Solid → Bool
+ends_in_sign [] = true
+ends_in_sign (s ∷ []) = is_sign_kind s.kind
+ends_in_sign (s ∷ t ∷ ss) = ends_in_sign (t ∷ ss)
+
+-- Other parts may stand behind these tokens where they begin with such a sign, and behind a sign where they begin
+-- with any token.
+abbrev pub MayFollow : List Solid → List Part → Type 0
+MayFollow ss rest = IsBehind (text_of rest) ⊎ ((ends_in_sign ss ≡ true) × (gap_before false rest ≡ gap.Nothing))
+
 -- There are parts that spell this text, and that are read where they stand, before nothing as before others
--- that may stand behind them; and these are their tokens.
+-- that may follow; and these are their tokens.
 pub record ReadsBack (text : List ℕ) (ss : List Solid) : Type 0 where
   pub parts : List Part
   pub spells : text_of parts ≡ text
-  pub lexed : (rest : List Part) → IsLexed rest → IsBehind (text_of rest) → IsLexed (parts ++ rest)
-  pub reads : (rest : List Part) → IsLexed rest → IsBehind (text_of rest) → solids (parts ++ rest) ≡ ss ++ solids rest
+  pub lexed : (rest : List Part) → IsLexed rest → MayFollow ss rest → IsLexed (parts ++ rest)
+  pub reads : (rest : List Part) → IsLexed rest → MayFollow ss rest → solids (parts ++ rest) ≡ ss ++ solids rest
 
 -- n tokens of these parts, behind the first m
 abbrev pub solids_of : List Part → ℕ → ℕ → List Solid

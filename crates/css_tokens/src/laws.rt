@@ -69,8 +69,8 @@ pub fn solids_are_lexemes()
 {}
 
 /// The kept text of tokens that stand one after another in a text, and the text of a value, are read back as the
-/// same tokens, where an open one before white space has a white space of its own; also before a sign. Neither is
-/// longer than the text, and kept again each is the same.
+/// same tokens, where an open one before white space has a white space of its own; also before a sign, and behind
+/// a sign before any token. Neither is longer than the text, and kept again each is the same.
 pub fn kept_text_is_read_back()
     ensures kept { KeptReadsBack }
     ensures value { ValueReadsBack }
