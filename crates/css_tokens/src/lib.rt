@@ -13,7 +13,7 @@ mod strings;
 mod units;
 
 pub use laws::{parts_join, parts_read_back, runs_are_longest, tokens_cover};
-pub use names::decode;
+pub use names::{decode, is_named};
 pub use reader::{NotUtf8, Tokens};
 
 #[cfg(test)]

@@ -4,7 +4,7 @@ use Rattle.std.proofs.lemmas.List.{take_rest}
 use Rattle.css_model.specs.Unescaped.{first_len, first_text, unescaped}
 use Rattle.css_tokens.specs.Said.{said_text}
 use Rattle.css_tokens.proofs.SaidLemmas.{unescaped_more}
-use Rattle.css_tokens.proofs.names.is_url.Goals as goal
+use Rattle.css_tokens.proofs.names.is_named.Goals as goal
 
 pub names-preserved : goal.names-preserved
 names-preserved c =
@@ -18,7 +18,7 @@ names-preserved c =
     let text : said_text said ≡ first_text first (drop (i + 1) name) = c.first_said-said.ensures.text ∙ ap (first_text first) rest in
     let later = unescaped (drop (i + n) name) in
     let all : unescaped (drop i name) ≡ said_text said ++ later = unescaped_more name i n c.names-test.true len (omega arith) ∙ ap (λ (said : List ℕ). said ++ later) (sym text) in (
-      sym (c.in-Some.ensures.cases later) ∙ ap (λ (said : List ℕ). str_eq_ignore_ascii_case said c.names.word.now) (sym all) ∙ c.names.invariant.0,
+      sym (c.in-Some.ensures.cases later) ∙ ap (λ (said : List ℕ). str_eq_ignore_ascii_case said c.names.left.now) (sym all) ∙ c.names.invariant.0,
       c.in-Some.ensures.ascii,
       omega arith,
     )
