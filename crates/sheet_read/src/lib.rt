@@ -1,14 +1,8 @@
 //! Reads a style sheet from its bytes.
 #![tactic(auto)]
 
-mod characters;
 mod fault;
-mod parts;
-mod pieces;
-mod read;
+mod plain;
 
 pub use fault::SheetError;
-pub use read::read_sheet;
-
-#[cfg(test)]
-mod tests;
+pub use plain::read_plain_sheet;

@@ -1,4 +1,8 @@
-//! A style sheet from its bytes, or its fault.
+//! A style sheet of the plain form from its bytes, or its fault.
+
+mod characters;
+mod parts;
+mod pieces;
 
 ghost use Rattle.std.specs.Prelude.{IfOk};
 ghost use Rattle.css_model.specs.PlainSheet.{sheet_of};
@@ -7,7 +11,7 @@ ghost use Rattle.css_model.specs.StyleRule.{style_rules};
 ghost use Rattle.sheet_read.specs.Reading.{Answers};
 
 use crate::fault::{PartError, SheetError};
-use crate::parts::rules;
+use crate::plain::parts::rules;
 use css_model::{FaultKind, LIMIT, Sheet, SheetFault};
 use std::alloc::Global;
 
@@ -17,7 +21,7 @@ use std::alloc::Global;
 ///
 /// `Fault` is `TooLong` at 1,048,576 exactly where `source` has more bytes than that, and else
 /// `NotBuilt` at 0 exactly where it is not of the form.
-pub fn read_sheet(alloc: Global, source: &[u8]) -> Result<Sheet, SheetError>
+pub fn read_plain_sheet(alloc: Global, source: &[u8]) -> Result<Sheet, SheetError>
     ensures read { Answers (λ s. style_rules s.items) result (sheet_of source.now) }
     ensures sound { IfOk result (λ s. IsSound source.now s.items) }
 {
@@ -36,3 +40,6 @@ pub fn read_sheet(alloc: Global, source: &[u8]) -> Result<Sheet, SheetError>
         Err(PartError::NoMemory) => Err(SheetError::NoMemory),
     }
 }
+
+#[cfg(test)]
+mod tests;

@@ -1,6 +1,6 @@
 use Rattle.std.proofs.Common.{◌-◌, ◌≡◌, ◌≤◌, length, slice_range}
 use Rattle.css_model.specs.Plain.{trim_end}
-use Rattle.sheet_read.proofs.pieces.trim_end.Given as goal
+use Rattle.sheet_read.proofs.plain.pieces.trim_end.Given as goal
 
 -- what was left out so far is white space at the end
 abbrev pub invariant-loop-end : goal.invariant-loop-end

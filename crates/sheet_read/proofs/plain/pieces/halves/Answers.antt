@@ -3,7 +3,7 @@ use Rattle.std.specs.Prelude.{◌==◌}
 use Rattle.css_model.specs.Plain.{two_parts}
 use Rattle.css_model.specs.Source.{text_at}
 use Rattle.sheet_read.proofs.Cutting.{more_than_two}
-use Rattle.sheet_read.proofs.pieces.halves.Goals as goal
+use Rattle.sheet_read.proofs.plain.pieces.halves.Goals as goal
 
 pub returns-in-Some-clause-found : goal.returns-in-Some-clause-found
 returns-in-Some-clause-found c =

@@ -6,7 +6,7 @@ use Rattle.css_model.specs.Plain.{rule_of, no_rule}
 use Rattle.css_model.specs.Source.{IsSoundItem, text_at}
 use Rattle.css_model.specs.StyleRule.{style_rule, style_rules}
 use Rattle.sheet_read.proofs.Listing.{listed_step, listed_fails, all_push, style_rules_push}
-use Rattle.sheet_read.proofs.parts.rules.Goals as goal
+use Rattle.sheet_read.proofs.plain.parts.rules.Goals as goal
 
 pub returns-in_err-rule-clause-read : goal.returns-in_err-rule-clause-read
 returns-in_err-rule-clause-read c =

@@ -5,7 +5,7 @@ use Rattle.css_model.specs.Plain.{plain_of, listed, rule_of, no_rule}
 use Rattle.css_model.specs.Source.{IsWithin, IsSound, text_at}
 use Rattle.css_model.specs.StyleRule.{style_rules}
 use Rattle.sheet_read.proofs.Listing.{with_front}
-use Rattle.sheet_read.proofs.parts.rules.Given as goal
+use Rattle.sheet_read.proofs.plain.parts.rules.Given as goal
 
 -- the rules so far, and those of the rest, are those of the sheet
 abbrev pub invariant-loop-part : goal.invariant-loop-part

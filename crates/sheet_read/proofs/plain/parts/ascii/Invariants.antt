@@ -1,5 +1,5 @@
 use Rattle.std.proofs.Common.{◌≡◌, take}
-use Rattle.sheet_read.proofs.parts.ascii.Given as goal
+use Rattle.sheet_read.proofs.plain.parts.ascii.Given as goal
 
 -- the characters so far
 abbrev pub invariant-loop-b : goal.invariant-loop-b

@@ -1,6 +1,6 @@
 //! Sheets of the plain form, and others, with what each is read as.
 
-use crate::{SheetError, read_sheet};
+use crate::{SheetError, read_plain_sheet};
 use css_model::{FaultKind, Item, LIMIT, Piece, Sheet};
 use std::alloc::Global;
 use std::test::Fail;
@@ -17,7 +17,7 @@ enum Outcome {
 }
 
 fn answer(alloc: Global, text: &[u8]) -> Outcome {
-    match read_sheet(alloc, text) {
+    match read_plain_sheet(alloc, text) {
         Ok(sheet) => Outcome::Items(sheet.items.len()),
         Err(SheetError::Fault(fault)) => Outcome::Fault(fault.kind, fault.at),
         Err(SheetError::NoMemory) => Outcome::NoMemory,
@@ -99,7 +99,7 @@ fn refuses_what_is_not_plain(rt: HostRuntime) {
 
 #[test]
 fn pieces_are_ranges_of_the_source_in_bytes(rt: HostRuntime) -> Result<(), Fail> {
-    let sheet = read_sheet(rt.alloc(), b"\n.ab { top :\n12px ; left:0 }c{d:e}")?;
+    let sheet = read_plain_sheet(rt.alloc(), b"\n.ab { top :\n12px ; left:0 }c{d:e}")?;
     let pieces = first_pieces(&sheet);
     assert_eq!(rt; pieces, Some((piece(1, 4), piece(7, 10), piece(13, 17))));
     Ok(())

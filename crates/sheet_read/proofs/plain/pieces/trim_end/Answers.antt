@@ -1,6 +1,6 @@
 use Rattle.std.proofs.Common.{sym, ◌∙◌, arith}
 use Rattle.sheet_read.proofs.Trimming.{trim_end-step, trim_end-stop}
-use Rattle.sheet_read.proofs.pieces.trim_end.Goals as goal
+use Rattle.sheet_read.proofs.plain.pieces.trim_end.Goals as goal
 
 pub loop-end-preserved : goal.loop-end-preserved
 loop-end-preserved c = record {

@@ -7,9 +7,9 @@ ghost use Rattle.css_model.specs.Source.{IsWithin, IsSoundSelector, IsSoundDecla
 ghost use Rattle.css_model.specs.StyleRule.{style_rule, style_rules};
 ghost use Rattle.sheet_read.specs.Reading.{Gives};
 
-use crate::characters::{is_blank, is_name, is_property, is_value};
 use crate::fault::PartError;
-use crate::pieces::{cut, halves, trimmed};
+use crate::plain::characters::{is_blank, is_name, is_property, is_value};
+use crate::plain::pieces::{cut, halves, trimmed};
 use css_model::{
     AttrTest, Bytes, Compound, Decl, DeclItem, Item, Op, Piece, Rule, SelItem, Selector, Simple,
     Test, Text,

@@ -4,7 +4,7 @@ use Rattle.std.specs.List.{slice_split, AllByRecursion}
 use Rattle.css_model.specs.Plain.{listed, declaration_of, last_declaration}
 use Rattle.css_model.specs.Source.{IsWithin, IsSoundDeclaration, text_at}
 use Rattle.sheet_read.proofs.Listing.{with_front}
-use Rattle.sheet_read.proofs.parts.declarations.Given as goal
+use Rattle.sheet_read.proofs.plain.parts.declarations.Given as goal
 
 -- the declarations so far, and those of the rest, are those of the block
 abbrev pub invariant-loop-part : goal.invariant-loop-part

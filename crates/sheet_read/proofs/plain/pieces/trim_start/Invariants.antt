@@ -1,6 +1,6 @@
 use Rattle.std.proofs.Common.{◌-◌, ◌≡◌, ◌≤◌, slice_range}
 use Rattle.css_model.specs.Plain.{trim_start}
-use Rattle.sheet_read.proofs.pieces.trim_start.Given as goal
+use Rattle.sheet_read.proofs.plain.pieces.trim_start.Given as goal
 
 -- what was left out so far is white space at the start
 abbrev pub invariant-loop-start : goal.invariant-loop-start

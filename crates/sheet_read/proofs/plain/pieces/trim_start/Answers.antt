@@ -1,6 +1,6 @@
 use Rattle.std.proofs.Common.{sym, ◌∙◌, arith}
 use Rattle.sheet_read.proofs.Trimming.{trim_start-step, trim_start-stop}
-use Rattle.sheet_read.proofs.pieces.trim_start.Goals as goal
+use Rattle.sheet_read.proofs.plain.pieces.trim_start.Goals as goal
 
 pub loop-start-preserved : goal.loop-start-preserved
 loop-start-preserved c = record {

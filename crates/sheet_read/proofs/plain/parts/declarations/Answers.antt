@@ -4,7 +4,7 @@ use Rattle.std.proofs.lemmas.Result.{err_from_is_err_and}
 use Rattle.css_model.specs.Plain.{declaration_of, last_declaration, at_least_one}
 use Rattle.css_model.specs.Source.{IsSoundDeclaration, text_at}
 use Rattle.sheet_read.proofs.Listing.{listed_step, listed_fails, all_push, map_push}
-use Rattle.sheet_read.proofs.parts.declarations.Goals as goal
+use Rattle.sheet_read.proofs.plain.parts.declarations.Goals as goal
 
 pub returns-in_err-declaration-clause-read : goal.returns-in_err-declaration-clause-read
 returns-in_err-declaration-clause-read c =

@@ -1,6 +1,6 @@
 use Rattle.std.proofs.Common.{arith}
 use Rattle.sheet_read.proofs.Cutting.{uncut, cut_first}
-use Rattle.sheet_read.proofs.pieces.cut.Goals as goal
+use Rattle.sheet_read.proofs.plain.pieces.cut.Goals as goal
 
 pub returns-in_err-place-clause-none : goal.returns-in_err-place-clause-none
 returns-in_err-place-clause-none c =

@@ -5,7 +5,7 @@ ghost use Rattle.std.specs.List.{slice_split};
 ghost use Rattle.css_model.specs.Plain.{trim_start, trim_end, trimmed, two_parts};
 ghost use Rattle.css_model.specs.Source.{IsWithin, text_at};
 
-use crate::characters::is_space;
+use crate::plain::characters::is_space;
 use css_model::Piece;
 use memchr::memchr;
 
