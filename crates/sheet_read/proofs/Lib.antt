@@ -1,3 +1,5 @@
 mod Cutting
+mod Places
+mod Preludes
 pub mod Listing
 mod Trimming

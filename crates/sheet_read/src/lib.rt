@@ -2,7 +2,10 @@
 #![tactic(auto)]
 
 mod fault;
+mod names;
 mod plain;
+mod selectors;
+mod signs;
 
 pub use fault::SheetError;
 pub use plain::read_plain_sheet;

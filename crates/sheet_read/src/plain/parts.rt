@@ -2,7 +2,7 @@
 
 ghost use Rattle.std.specs.Prelude.{◌≡◌, ◌==◌, ◌<◌, ◌^◌, length, map, IfOk};
 ghost use Rattle.std.specs.List.{slice_split, AllByRecursion};
-ghost use Rattle.css_model.specs.Plain.{trimmed, test_of, of_one_test, selector_of, declaration_of, declarations_of, rule_of, plain_of};
+ghost use Rattle.css_model.specs.Plain.{trimmed, test_of, selector_of, declaration_of, declarations_of, rule_of, plain_of};
 ghost use Rattle.css_model.specs.Source.{IsWithin, IsSoundSelector, IsSoundDeclaration, IsSoundRule, IsSound, text_at};
 ghost use Rattle.css_model.specs.StyleRule.{style_rule, style_rules};
 ghost use Rattle.sheet_read.specs.Reading.{Gives};
@@ -10,11 +10,8 @@ ghost use Rattle.sheet_read.specs.Reading.{Gives};
 use crate::fault::PartError;
 use crate::plain::characters::{is_blank, is_name, is_property, is_value};
 use crate::plain::pieces::{cut, halves, trimmed};
-use css_model::{
-    AttrTest, Bytes, Compound, Decl, DeclItem, Item, Op, Piece, Rule, SelItem, Selector, Simple,
-    Test, Text,
-};
-use smallvec::SmallVec;
+use crate::selectors::of_one_test;
+use css_model::{AttrTest, Bytes, Decl, DeclItem, Item, Op, Piece, Rule, SelItem, Test, Text};
 use std::alloc::{AllocError, Global};
 
 /// The text of these characters, each of which is one byte.
@@ -41,23 +38,6 @@ fn test(alloc: Global, text: &[u8]) -> Result<Test, PartError>
         name if is_name(name) => Ok(Test::Kind(ascii(alloc, name)?)),
         _ => Err(PartError::NotPlain),
     }
-}
-
-fn of_one_test(alloc: Global, test: Test) -> Result<Selector, AllocError>
-    ensures { IfOk result (λ s. s ≡ of_one_test test) }
-{
-    let mut simples = SmallVec::new(alloc);
-    simples.push(Simple {
-        negated: false,
-        test,
-    })?;
-    let mut chain = Vec::new(alloc);
-    chain.push(Compound { simples })?;
-    Ok(Selector {
-        chain,
-        links: Vec::new(alloc),
-        pseudo: None,
-    })
 }
 
 fn selector(alloc: Global, source: &[u8], part: Piece) -> Result<SelItem, PartError>
