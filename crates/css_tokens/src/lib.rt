@@ -3,6 +3,7 @@
 
 mod characters;
 mod comments;
+mod escapes;
 mod laws;
 mod names;
 mod numbers;
@@ -12,7 +13,10 @@ mod runs;
 mod strings;
 mod units;
 
-pub use laws::{parts_join, parts_read_back, runs_are_longest, tokens_cover};
+pub use escapes::ends_open;
+pub use laws::{
+    parts_end_alike, parts_join, parts_read_back, runs_are_longest, space_behind, tokens_cover,
+};
 pub use names::{decode, is_named};
 pub use reader::{NotUtf8, Tokens};
 

@@ -1,0 +1,5 @@
+use Rattle.css_tokens.proofs.OpenTokens.{space_ends, space_closes, last_closes}
+use Rattle.css_tokens.proofs.laws.space_behind.Goals as goal
+
+pub returns : goal.returns
+returns c = record { ends = space_ends; closes = space_closes; last = last_closes }
