@@ -1,4 +1,5 @@
 mod Cutting
+mod Entries
 mod Places
 mod Preludes
 pub mod Listing

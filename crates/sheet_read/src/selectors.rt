@@ -1,8 +1,11 @@
 //! The selectors of a rule: of a type, a class or an id, each alone (Selectors 3, sections 6.1, 6.4 and 6.5).
 
-ghost use Rattle.std.specs.Prelude.{◌≡◌, ◌<◌, ◌≤◌, drop, length, codes, IfOk};
+ghost use Rattle.std.specs.Prelude.{◌≡◌, ◌<◌, ◌≤◌, ◌&&◌, not, drop, length, codes, IfOk};
 ghost use Rattle.std.specs.Option.{option_map};
 ghost use Rattle.css_model.specs.declared.selector.Test.TheVariants.{Id};
+ghost use Rattle.css_model.specs.Declarations.{is_delim_of, is_ident};
+ghost use Rattle.css_model.specs.Document.{same_text};
+ghost use Rattle.css_model.specs.Kept.{is_white_gap};
 ghost use Rattle.css_model.specs.Selectors as list;
 ghost use Rattle.css_model.specs.Source.{IsWithin, text_at};
 ghost use Rattle.css_model.specs.Unescaped.{decoded};
@@ -78,6 +81,24 @@ fn test_of_one(alloc: Global, source: &[u8], x: &Lexeme) -> Result<Option<Test>,
     }
 }
 
+/// Whether these are two hyphens and nothing else.
+fn is_two_hyphens(text: &[u8]) -> bool
+    ensures { result ≡ same_text text.now (codes "--") }
+{
+    matches!(text, b"--")
+}
+
+/// Whether this is a dot and a name that are read as a class.
+fn is_class(source: &[u8], sign: &Lexeme, name: &Lexeme) -> bool
+    requires { IsPlaced source.now name.now }
+    ensures { result ≡ (is_delim_of 0x2E sign.now.kind && not (is_white_gap sign.now.gap) && is_ident name.now.kind && not (same_text (text_at source.now name.now.span) (codes "--"))) }
+{
+    is_delim_of(0x2E, sign.kind)
+        && !is_white_gap(sign.gap)
+        && is_ident(name.kind)
+        && !is_two_hyphens(name.span.text(source))
+}
+
 /// The test of a class: a dot and a name.
 fn class_of(
     alloc: Global,
@@ -88,10 +109,7 @@ fn class_of(
     requires { IsPlaced source.now name.now }
     ensures { IfOk result (λ t. t ≡ list.class_of source.now sign.now name.now) }
 {
-    if !is_delim_of(0x2E, sign.kind) || is_white_gap(sign.gap) || !is_ident(name.kind) {
-        return Ok(None);
-    }
-    if matches!(name.span.text(source), b"--") {
+    if !is_class(source, sign, name) {
         return Ok(None);
     }
     Ok(Some(Test::Attr(AttrTest {
