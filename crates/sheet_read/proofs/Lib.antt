@@ -1,6 +1,13 @@
 mod Cutting
 mod Entries
+mod ItemSteps
+mod Nesting
 mod Places
+mod Placing
 mod Preludes
-pub mod Listing
+mod ReadSteps
+mod SheetSteps
+mod TokenSteps
 mod Trimming
+mod Utf8Length
+pub mod Listing

@@ -8,6 +8,7 @@ ghost use Rattle.css_model.specs.Items as items;
 ghost use Rattle.css_model.specs.Lexemes as lexemes;
 ghost use Rattle.sheet_read.specs.Placed.{IsPlaced, ArePlaced};
 
+use crate::items::is_at_rule;
 use crate::names::{is_custom, property_of};
 use crate::signs::{
     block, cut, has_sign_at, is_delim_of, is_ident, is_sign_of, is_white_gap, piece_of,
@@ -132,16 +133,6 @@ fn declares_custom(declaration: &Option<DeclItem>) -> bool
     match declaration {
         Some(d) => is_custom(d.decl.name.codes()),
         None => false,
-    }
-}
-
-/// Whether an entry begins with an at-keyword.
-fn is_at_rule(entry: &[Lexeme]) -> bool
-    ensures { result ≡ items.is_at_rule entry.now }
-{
-    match entry {
-        [x, ..] => matches!(x.kind, TokenKind::AtKeyword),
-        [] => false,
     }
 }
 
