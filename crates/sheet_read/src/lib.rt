@@ -15,3 +15,6 @@ mod values;
 pub use fault::SheetError;
 pub use plain::read_plain_sheet;
 pub use read::read_sheet;
+
+#[cfg(test)]
+mod tests;
