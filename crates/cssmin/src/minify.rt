@@ -8,7 +8,7 @@ ghost use Rattle.cssmin.specs.Minified.{IsMinified};
 use crate::join::join_neighbours;
 use css_model::{Sheet, joining_keeps_winners};
 use css_print::{plain_is_no_longer, plain_reads_back, print_plain_sheet};
-use sheet_read::{SheetError, read_sheet};
+use sheet_read::{SheetError, read_plain_sheet};
 use std::alloc::Global;
 
 /// The text of a style sheet without white space, and with neighbouring rules of equal selectors
@@ -21,7 +21,7 @@ pub(crate) fn minified(alloc: Global, source: &[u8]) -> Result<Vec<u8>, SheetErr
     joining_keeps_winners();
     plain_is_no_longer();
     plain_reads_back();
-    let sheet = read_sheet(alloc, source)?;
+    let sheet = read_plain_sheet(alloc, source)?;
     let items = join_neighbours(alloc, sheet.items)?;
     Ok(print_plain_sheet(alloc, &Sheet { items }, source)?)
 }
