@@ -20,7 +20,7 @@ use Rattle.css_model.specs.TokenAt.{part_at}
 use Rattle.css_model.specs.Tokens.{Part, Parts, Stream, byte_order_mark, fault_behind, parts, placed, stream, text_of, tokens, tokens_at}
 use Rattle.css_tokens.specs.Lexed.{IsLexed}
 use Rattle.css_tokens.specs.Solids.{IsBehind, ends_called, gap_before, solids, solids_of}
-use Rattle.css_tokens.proofs.KeptBack.{kept_row, rest_of}
+use Rattle.css_tokens.proofs.KeptBack.{AreGood, are_good, kept_row, last_may, rest_of, take_good}
 use Rattle.css_tokens.proofs.KeptParts.{kept_parts}
 use Rattle.css_tokens.proofs.LawLemmas.{parts_join}
 use Rattle.css_tokens.proofs.LexemeSolids.{solids_are_lexemes}
@@ -37,11 +37,11 @@ use Rattle.css_print.proofs.FrontReads.{shown-solids, to_solid}
 pub kept-is-lexed : KeptLexed
 kept-is-lexed value ps m n is called rest lexed behind =
     let r = rest_of m ps is in
-    which r.parts r.lexed (take n (drop m (solids ps))) (ap (take n) r.same) called
+    which r.parts r.lexed (take n (drop m (solids ps))) (ap (take n) r.same) (subst AreGood (ap (take n) r.same) (take_good n (solids r.parts) (are_good r.parts r.lexed))) called
   where
-    which : (qs : List Part) → IsLexed qs → (ss : List Solid) → take n (solids qs) ≡ ss → ends_called ss ≡ false → IsLexed (kept_parts value ss ++ rest)
-    which qs lexed_qs [] some none = lexed
-    which qs lexed_qs (t ∷ ts) some none = (kept_row value rest lexed behind qs lexed_qs n t ts some none).lexed
+    which : (qs : List Part) → IsLexed qs → (ss : List Solid) → take n (solids qs) ≡ ss → AreGood ss → ends_called ss ≡ false → IsLexed (kept_parts value ss ++ rest)
+    which qs lexed_qs [] some good none = lexed
+    which qs lexed_qs (t ∷ ts) some good none = (kept_row value rest lexed qs lexed_qs n t ts some (last_may t ts rest good none (inl behind))).lexed
 
 -- a token of parts that are read where they stand
 pub record IsGoodSolid (s : Solid) : Type 0 where

@@ -6,10 +6,8 @@ mod BackFaults
 mod BackItems
 mod BackJoins
 mod BackKept
-mod BackLevels
 mod BackLists
 mod BackNames
-mod BackNesting
 mod BackOrigins
 mod BackParts
 mod BackPieces

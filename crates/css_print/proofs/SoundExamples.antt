@@ -11,7 +11,7 @@ use Rattle.css_model.specs.declared.sheet.Piece.{Piece}
 use Rattle.css_model.specs.declared.sheet.SelItem.{SelItem}
 use Rattle.css_model.specs.declared.token.Lexeme.{Lexeme}
 use Rattle.css_model.specs.Characters.{backslash, line_feed}
-use Rattle.css_model.specs.Declarations.{declaration}
+use Rattle.css_model.specs.Declarations.{declaration, is_nested}
 use Rattle.css_model.specs.Items.{selector_parts, entries}
 use Rattle.css_model.specs.Lexemes.{piece_of}
 use Rattle.css_model.specs.Selectors.{class_test, of_one_test, selector_item}
@@ -41,12 +41,13 @@ sound_selector source i j s below inside reads = record {
 }
 
 sound_declaration : (source : List ℕ) (i j : ℕ) (d : DeclItem) → nat_lt i (length (raw_items source)) ≡ true → nat_lt j (length (entries (nth_item source i))) ≡ true
-    → declaration source (get_or (entries (nth_item source i)) j []) ≡ Some d → IsSoundDeclaration source d
-sound_declaration source i j d below inside reads = record {
+    → is_nested source (get_or (entries (nth_item source i)) j []) ≡ false → declaration source (get_or (entries (nth_item source i)) j []) ≡ Some d → IsSoundDeclaration source d
+sound_declaration source i j d below inside plain reads = record {
   item = nth_item source i;
   entry = get_or (entries (nth_item source i)) j [];
   item_in = nth_in (raw_items source) i [] below;
   entry_in = nth_in (entries (nth_item source i)) j [] inside;
+  plain = plain;
   reads = reads;
 }
 
@@ -79,14 +80,14 @@ top = record { decl = record { name = codes "top"; value = codes "0"; important 
 
 pub top_sound : IsSoundDeclaration rule top
 unfolding chars utf8_lossy utf8_valid_len is_utf8 encode_utf8
-top_sound = sound_declaration rule 0 0 top refl refl refl
+top_sound = sound_declaration rule 0 0 top refl refl refl refl
 
 abbrev left : DeclItem
 left = record { decl = record { name = codes "left"; value = codes "1px"; important = true }; name = record { start = 17; «end» = 21 }; value = record { start = 22; «end» = 25 } }
 
 pub left_sound : IsSoundDeclaration rule left
 unfolding chars utf8_lossy utf8_valid_len is_utf8 encode_utf8
-left_sound = sound_declaration rule 0 1 left refl refl refl
+left_sound = sound_declaration rule 0 1 left refl refl refl refl
 
 abbrev pub block : List ℕ
 block = codes "@m  a /* */ b/* */(c)" ++ (backslash ∷ codes "31/**/ d ") ++ (backslash ∷ line_feed ∷ codes " {e}") ++ (line_feed ∷ [])

@@ -239,7 +239,7 @@ sign_may kind.Function rest sign = absurd (false≢true sign)
 sign_may kind.Url rest sign = absurd (false≢true sign)
 sign_may (kind.Delim c) rest sign = absurd (false≢true sign)
 
-last_may : (t : Solid) (ts : List Solid) (rest : List Part) → AreGood (t ∷ ts) → ends_called (t ∷ ts) ≡ false → IsBehind (text_of rest) ⊎ (ends_in_sign (t ∷ ts) ≡ true) → LastMay (last_kind t ts) rest
+pub last_may : (t : Solid) (ts : List Solid) (rest : List Part) → AreGood (t ∷ ts) → ends_called (t ∷ ts) ≡ false → IsBehind (text_of rest) ⊎ (ends_in_sign (t ∷ ts) ≡ true) → LastMay (last_kind t ts) rest
 last_may t [] rest (good, others) called (inl behind) = may_behind t.kind rest good.solid called behind
 last_may t [] rest (good, others) called (inr sign) = sign_may t.kind rest sign
 last_may t (u ∷ us) rest (good, others) called may = last_may u us rest others called may
