@@ -1,8 +1,9 @@
 -- Texts that are joined one after the other, as a loop writes them.
 use Rattle.std.proofs.Common.{◌≡◌, ℕ, zero, suc, ◌+◌, ◌<◌, List, [], ◌∷◌, ◌++◌, length, map, take, get_or, if◌then◌else◌, false, refl, sym, ◌∙◌, ap, arith}
 use Rattle.std.specs.Prelude.{◌==◌}
-use Rattle.std.specs.List.{join_with_byte}
-use Rattle.std.proofs.lemmas.List.{append_assoc, map-append, take_more, length-map, length-take-le}
+use Rattle.std.specs.List.{flat_map, join_with_byte}
+use Rattle.std.proofs.lemmas.Grind.{flat_map-append}
+use Rattle.std.proofs.lemmas.List.{append_assoc, append-nil, map-append, take_more, length-map, length-take-le}
 
 pub join_push : (c : ℕ) (parts : List (List ℕ)) (x : List ℕ) → 0 < length parts → join_with_byte c (parts ++ x ∷ []) ≡ join_with_byte c parts ++ (c ∷ []) ++ x
 join_push c [] x some = absurd (omega arith)
@@ -36,3 +37,10 @@ join_step f c out xs i x below is =
     append_assoc (out ++ join_with_byte c parts) (if i == 0 then [] else c ∷ []) (f x)
     ∙ append_assoc out (join_with_byte c parts) ((if i == 0 then [] else c ∷ []) ++ f x)
     ∙ ap (λ text. out ++ text) (sym (append_assoc (join_with_byte c parts) (if i == 0 then [] else c ∷ []) (f x)) ∙ sym (join_more c parts (f x) i size) ∙ ap (join_with_byte c) (sym more))
+
+-- a turn of a loop that writes texts with nothing between them
+pub flat_map_step : {X : Type 0} → (f : X → List ℕ) (xs : List X) (i : ℕ) (x : X) → i < length xs → x ≡ get_or xs i x → flat_map f (take (i + 1) xs) ≡ flat_map f (take i xs) ++ f x
+flat_map_step f xs i x below is =
+    ap (flat_map f) (take_more xs i x below ∙ ap (λ (y : _). take i xs ++ y ∷ []) (sym is))
+    ∙ flat_map-append f (take i xs) (x ∷ [])
+    ∙ ap (λ text. flat_map f (take i xs) ++ text) (append-nil (f x))

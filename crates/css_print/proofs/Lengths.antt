@@ -30,7 +30,7 @@ trimmed_length : (text : List ℕ) → length (trimmed text) ≤ length text
 trimmed_length text = omega (arith, trim_end_length (trim_start text), trim_start_length text)
 
 -- the numbers of the elements, together
-abbrev total : {A : Type 0} → (A → ℕ) → List A → ℕ
+abbrev pub total : {A : Type 0} → (A → ℕ) → List A → ℕ
 total size [] = 0
 total size (x ∷ xs) = size x + total size xs
 

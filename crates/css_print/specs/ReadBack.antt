@@ -43,7 +43,7 @@ pub record ComesFrom (source : List ℕ) (old new : List Item) : Type 0 where
 abbrev pub ReadsBack : Type 0
 ReadsBack = (source : List ℕ) (old new : List Item) → sheet_of source ≡ Ok old → ComesFrom source old new → length (printed source new) ≤ LIMIT
     → (again : List Item) × (sheet_of (printed source new) ≡ Ok again) × AreSame source new (printed source new) again
-      × (printed (printed source new) again ≡ printed source new)
+    × (printed (printed source new) again ≡ printed source new)
 
 -- The printed text of a sheet as read is no longer than its source.
 abbrev pub IsNoLonger : Type 0

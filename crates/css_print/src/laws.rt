@@ -1,25 +1,14 @@
-//! What printing keeps: laws of the printed text, which no call states by itself.
+//! Laws above the definition of the printed text. They do nothing when they run.
 
-ghost use Rattle.std.specs.Prelude.{◌≡◌, ◌≤◌, List, ℕ, Some, length};
-ghost use Rattle.css_model.specs.declared.sheet.Item.{Item};
-ghost use Rattle.css_model.specs.Plain.{plain_of};
-ghost use Rattle.css_model.specs.PlainPrinted.{printed};
-ghost use Rattle.css_model.specs.Source.{IsSound};
-ghost use Rattle.css_model.specs.StyleRule.{style_rules};
+ghost use Rattle.css_print.specs.ReadBack.{IsNoLonger, ReadsBack};
 
-/// A law: the printed text of a sound sheet is of the plain form, with the rules of the sheet.
+/// The printed text of a sheet that was read, or of one that is made of its parts with its kept items in
+/// their places, is read back as that sheet up to spelling, and printed again it is the same text.
 pub fn reads_back()
-    ensures { (source : List ℕ) (items : List Item) → IsSound source items → plain_of (printed source items) ≡ Some (style_rules items) }
+    ensures { ReadsBack }
 {}
 
-/// A law: sound sheets with the same rules have the same printed text, whatever sources they stand in.
-/// So a printed text that is read and printed again stays as it is.
-pub fn prints_alike()
-    ensures { (source : List ℕ) (items : List Item) (other : List ℕ) (others : List Item) →
-        IsSound source items → IsSound other others → style_rules items ≡ style_rules others → printed source items ≡ printed other others }
-{}
-
-/// A law: the printed text of a sheet as read is no longer than its source.
+/// The printed text of a sheet as read is no longer than its source.
 pub fn is_no_longer()
-    ensures { (source : List ℕ) (items : List Item) → IsSound source items → plain_of source ≡ Some (style_rules items) → length (printed source items) ≤ length source }
+    ensures { IsNoLonger }
 {}

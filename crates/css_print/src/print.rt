@@ -1,92 +1,166 @@
-ghost use Rattle.std.specs.Prelude.{◌≡◌, ◌==◌, ◌++◌, [], ◌∷◌, if◌then◌else◌, map, IfOk, OnOk};
-ghost use Rattle.std.specs.List.{AllByRecursion, join_with_byte};
-ghost use Rattle.css_model.specs.PlainPrinted.{printed_selector, printed_declaration, printed_rule, printed_item, printed};
-ghost use Rattle.css_model.specs.Source.{IsWithin, IsSoundSelector, IsSoundDeclaration, IsSoundRule, IsSoundItem, IsSound};
+//! The printed text of a style sheet and of its parts.
 
-use css_model::{DeclItem, Item, Rule, SelItem, Sheet};
+ghost use Rattle.std.specs.Prelude.{ℕ, ◌≡◌, ◌≤◌, ◌==◌, ◌++◌, ◌^◌, ◌-◌, [], ◌∷◌, if◌then◌else◌, List, length, map, min, nat_eq, IfOk, OnOk};
+ghost use Rattle.std.specs.List.{AllByRecursion, flat_map, join_with_byte, starts_with};
+ghost use Rattle.css_model.specs.Tokens.{byte_order_mark};
+ghost use Rattle.css_model.specs.Printed.{printed_selector, printed_declaration, printed_rule, printed_item, behind_mark, printed};
+ghost use Rattle.css_model.specs.Printed as spec;
+ghost use Rattle.css_model.specs.Sound.{IsSoundSelector, IsSoundDeclaration, IsSoundRule, IsSoundItem, IsSound};
+ghost use Rattle.css_model.specs.Spelling.{kept_text};
+ghost use Rattle.css_print.specs.Fronts.{tally_of};
+ghost use Rattle.css_print.specs.Places.{BeginsAt};
+
+use crate::output::Output;
+use crate::tally::Tally;
+use crate::walk::Walk;
+use css_model::{DeclItem, Item, Piece, Rule, SelItem, Sheet};
+use css_tokens::tokens_restart;
 use std::alloc::{AllocError, Global};
 
+fn put_kept<O: Output>(out: &mut O, piece: Piece, source: &[u8]) -> Result<(), O::Error>
+    requires length { length source.now ≤ 1048576 }
+    requires begins { BeginsAt source.now piece.start }
+    ensures { OnOk result (O.more out.old (kept_text source.now piece) out.new) }
+{
+    tokens_restart();
+    let mut walk = Walk::new(source, piece);
+    'words: while let Some(word) = walk.next() {
+        out.put(word.text)?;
+        out.put(word.behind)?;
+    }
+    Ok(())
+}
+
+fn put_selector<O: Output>(out: &mut O, item: &SelItem, source: &[u8]) -> Result<(), O::Error>
+    requires length { length source.now ≤ 1048576 }
+    requires sound { IsSoundSelector source.now item.now }
+    ensures { OnOk result (O.more out.old (printed_selector source.now item.now) out.new) }
+{
+    tokens_restart();
+    let mut walk = Walk::new(source, item.piece);
+    'words: while let Some(word) = walk.next() {
+        out.put(word.text)?;
+    }
+    Ok(())
+}
+
+fn importance(important: bool) -> &'static [u8]
+    ensures { result.now ≡ spec.importance important }
+{
+    if important { b"!important" } else { b"" }
+}
+
+fn put_declaration<O: Output>(out: &mut O, item: &DeclItem, source: &[u8]) -> Result<(), O::Error>
+    requires { IsSoundDeclaration source.now item.now }
+    ensures { OnOk result (O.more out.old (printed_declaration source.now item.now) out.new) }
+{
+    tokens_restart();
+    out.put(item.name.text(source))?;
+    out.put(b":")?;
+    out.put(item.decl.value.bytes())?;
+    out.put(importance(item.decl.important))
+}
+
 /// Writes the sign that stands before each part but the first.
-fn push_separator(out: &mut Vec<u8>, part: usize, sign: u8) -> Result<(), AllocError>
-    ensures { OnOk result (out.new.items ≡ out.old.items ++ (if part == 0 then [] else sign ∷ [])) }
+fn put_separator<O: Output>(out: &mut O, part: usize, sign: &[u8]) -> Result<(), O::Error>
+    ensures { OnOk result (O.more out.old (if part == 0 then [] else sign.now) out.new) }
 {
-    if part > 0 {
-        out.push(sign)?;
-    }
-    Ok(())
+    out.put(if part > 0 { sign } else { b"" })
 }
 
-fn push_selector(out: &mut Vec<u8>, item: &SelItem, source: &[u8]) -> Result<(), AllocError>
-    requires { IsSoundSelector source.now item.now }
-    ensures { OnOk result (out.new.items ≡ out.old.items ++ printed_selector source.now item.now) }
-{
-    out.extend_from_slice(item.piece.text(source))
-}
-
-fn push_declaration(out: &mut Vec<u8>, item: &DeclItem, source: &[u8]) -> Result<(), AllocError>
-    requires name { IsWithin source.now item.now.name }
-    requires value { IsWithin source.now item.now.value }
-    ensures { OnOk result (out.new.items ≡ out.old.items ++ printed_declaration source.now item.now) }
-{
-    out.extend_from_slice(item.name.text(source))?;
-    out.push(b':')?;
-    out.extend_from_slice(item.value.text(source))?;
-    if item.decl.important {
-        out.extend_from_slice(b"!important")?;
-    }
-    Ok(())
-}
-
-fn push_selectors(out: &mut Vec<u8>, items: &[SelItem], source: &[u8]) -> Result<(), AllocError>
-    requires { AllByRecursion (IsSoundSelector source.now) items.now }
-    ensures { OnOk result (out.new.items ≡ out.old.items ++ join_with_byte 44 (map (printed_selector source.now) items.now)) }
+fn put_selectors<O: Output>(out: &mut O, items: &[SelItem], source: &[u8]) -> Result<(), O::Error>
+    requires length { length source.now ≤ 1048576 }
+    requires sound { AllByRecursion (IsSoundSelector source.now) items.now }
+    ensures { OnOk result (O.more out.old (join_with_byte 44 (map (printed_selector source.now) items.now)) out.new) }
 {
     for (i, item) in items.iter().enumerate() {
-        push_separator(out, i, b',')?;
-        push_selector(out, item, source)?;
+        put_separator(out, i, b",")?;
+        put_selector(out, item, source)?;
     }
     Ok(())
 }
 
-fn push_declarations(out: &mut Vec<u8>, items: &[DeclItem], source: &[u8]) -> Result<(), AllocError>
+fn put_declarations<O: Output>(
+    out: &mut O,
+    items: &[DeclItem],
+    source: &[u8],
+) -> Result<(), O::Error>
     requires { AllByRecursion (IsSoundDeclaration source.now) items.now }
-    ensures { OnOk result (out.new.items ≡ out.old.items ++ join_with_byte 59 (map (printed_declaration source.now) items.now)) }
+    ensures { OnOk result (O.more out.old (join_with_byte 59 (map (printed_declaration source.now) items.now)) out.new) }
 {
     for (i, item) in items.iter().enumerate() {
-        push_separator(out, i, b';')?;
-        push_declaration(out, item, source)?;
+        put_separator(out, i, b";")?;
+        put_declaration(out, item, source)?;
     }
     Ok(())
 }
 
-fn push_rule(out: &mut Vec<u8>, rule: &Rule, source: &[u8]) -> Result<(), AllocError>
-    requires { IsSoundRule source.now rule.now }
-    ensures { OnOk result (out.new.items ≡ out.old.items ++ printed_rule source.now rule.now) }
+fn put_rule<O: Output>(out: &mut O, rule: &Rule, source: &[u8]) -> Result<(), O::Error>
+    requires length { length source.now ≤ 1048576 }
+    requires sound { IsSoundRule source.now rule.now }
+    ensures { OnOk result (O.more out.old (printed_rule source.now rule.now) out.new) }
 {
-    push_selectors(out, rule.selectors.as_slice(), source)?;
-    out.push(b'{')?;
-    push_declarations(out, rule.decls.as_slice(), source)?;
-    out.push(b'}')?;
+    put_selectors(out, rule.selectors.as_slice(), source)?;
+    out.put(b"{")?;
+    put_declarations(out, rule.decls.as_slice(), source)?;
+    out.put(b"}")?;
     Ok(())
 }
 
-fn push_item(out: &mut Vec<u8>, item: &Item, source: &[u8]) -> Result<(), AllocError>
-    requires { IsSoundItem source.now item.now }
-    ensures { OnOk result (out.new.items ≡ out.old.items ++ printed_item source.now item.now) }
+fn put_item<O: Output>(out: &mut O, item: &Item, source: &[u8]) -> Result<(), O::Error>
+    requires length { length source.now ≤ 1048576 }
+    requires sound { IsSoundItem source.now item.now }
+    ensures { OnOk result (O.more out.old (printed_item source.now item.now) out.new) }
 {
     match item {
-        Item::Rule(rule) => push_rule(out, rule, source),
-        Item::KeptRule(_) | Item::KeptBlock(_) => unreachable!(),
+        Item::Rule(rule) => put_rule(out, rule, source),
+        Item::KeptRule(rule) => put_kept(out, rule.piece, source),
+        Item::KeptBlock(piece) => put_kept(out, *piece, source),
     }
 }
 
-/// The printed text of a selector: its bytes in `source`, which the item is sound for.
+fn put_items<O: Output>(out: &mut O, items: &[Item], source: &[u8]) -> Result<(), O::Error>
+    requires length { length source.now ≤ 1048576 }
+    requires sound { IsSound source.now items.now }
+    ensures { OnOk result (O.more out.old (flat_map (printed_item source.now) items.now) out.new) }
+{
+    for item in items.iter() {
+        put_item(out, item, source)?;
+    }
+    Ok(())
+}
+
+/// The tally of the items' texts, with nothing between them.
+fn tally(items: &[Item], source: &[u8]) -> Tally
+    requires length { length source.now ≤ 1048576 }
+    requires sound { IsSound source.now items.now }
+    ensures { result ≡ tally_of (flat_map (printed_item source.now) items.now) }
+{
+    let mut tally = Tally::new();
+    match put_items(&mut tally, items, source) {
+        Ok(()) => tally,
+        Err(never) => match never {},
+    }
+}
+
+/// The length of the printed text of a sheet that is sound for `source`; of a text that is longer than
+/// `u64::MAX`, that number. Takes no memory.
+pub fn print_len(sheet: &Sheet, source: &[u8]) -> u64
+    requires length { length source.now ≤ 1048576 }
+    requires sound { IsSound source.now sheet.now.items }
+    ensures { result ≡ min (length (printed source.now sheet.now.items)) (2 ^ 64 - 1) }
+{
+    tally(sheet.items.as_slice(), source).len_behind_mark()
+}
+
+/// The printed text of a selector: its tokens in `source`, which the item is sound for.
 pub fn print_selector(alloc: Global, item: &SelItem, source: &[u8]) -> Result<Vec<u8>, AllocError>
-    requires { IsSoundSelector source.now item.now }
+    requires length { length source.now ≤ 1048576 }
+    requires sound { IsSoundSelector source.now item.now }
     ensures { IfOk result (λ text. text.items ≡ printed_selector source.now item.now) }
 {
     let mut out = Vec::new(alloc);
-    push_selector(&mut out, item, source)?;
+    put_selector(&mut out, item, source)?;
     Ok(out)
 }
 
@@ -96,20 +170,23 @@ pub fn print_decl(alloc: Global, item: &DeclItem, source: &[u8]) -> Result<Vec<u
     ensures { IfOk result (λ text. text.items ≡ printed_declaration source.now item.now) }
 {
     let mut out = Vec::new(alloc);
-    push_declaration(&mut out, item, source)?;
+    put_declaration(&mut out, item, source)?;
     Ok(out)
 }
 
-/// The printed text of a sheet that is sound for `source`: its items one after the other, each rule as
-/// its selectors with `,` between them, `{`, its declarations with `;` between them, and `}`.
+/// The printed text of a sheet that is sound for `source`, in memory that is taken once.
 pub fn print_sheet(alloc: Global, sheet: &Sheet, source: &[u8]) -> Result<Vec<u8>, AllocError>
-    requires { IsSound source.now sheet.now.items }
+    requires length { length source.now ≤ 1048576 }
+    requires sound { IsSound source.now sheet.now.items }
     ensures { IfOk result (λ text. text.items ≡ printed source.now sheet.now.items) }
 {
-    let mut out = Vec::new(alloc);
-    for item in sheet.items.iter() {
-        push_item(&mut out, item, source)?;
+    let items = sheet.items.as_slice();
+    let tally = tally(items, source);
+    let mut out = Vec::with_capacity(alloc, tally.len_behind_mark() as usize)?;
+    if tally.begins_with_mark() {
+        out.put(b" ")?;
     }
+    put_items(&mut out, items, source)?;
     Ok(out)
 }
 

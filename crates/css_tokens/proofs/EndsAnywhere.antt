@@ -94,7 +94,7 @@ looks_called name old new other = record {
 }
 
 -- what holds of each sign holds of this one
-sign_each : (P : ℕ → Type 0) → P 58 → P 59 → P 44 → P 91 → P 93 → P open_round → P close_round → P 123 → P 125 → (c : ℕ) → is_sign c ≡ true → P c
+pub sign_each : (P : ℕ → Type 0) → P 58 → P 59 → P 44 → P 91 → P 93 → P open_round → P close_round → P 123 → P 125 → (c : ℕ) → is_sign c ≡ true → P c
 sign_each P colon semicolon comma open_square close_square opener closer open_curly close_curly c = ninth
   where
     or_else : (rest : Bool) (b : ℕ) → P b → (rest ≡ true → P c) → (rest || c == b) ≡ true → P c

@@ -20,7 +20,7 @@ use Rattle.css_tokens.proofs.AlikeLemmas.{Bounds, part_bounds, escape_first, dig
 use Rattle.css_tokens.proofs.OneAnd.{one_and_fits, none_one_and}
 
 -- white space is read as such
-white_rule : (cs : List ℕ) (c : ℕ) → is_white c ≡ true → rule_at (c ∷ cs) ≡ done kind.White (run white_unit (c ∷ cs))
+pub white_rule : (cs : List ℕ) (c : ℕ) → is_white c ≡ true → rule_at (c ∷ cs) ≡ done kind.White (run white_unit (c ∷ cs))
 white_rule cs = white_is (λ c. rule_at (c ∷ cs) ≡ done kind.White (run white_unit (c ∷ cs))) refl refl refl refl refl
 
 -- a part that begins with white space

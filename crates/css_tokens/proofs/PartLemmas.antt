@@ -23,7 +23,7 @@ cond_positive : (b : Bool) (m n : ℕ) → 0 < m → 0 < n → 0 < cond b m n
 cond_positive true m n left right = left
 cond_positive false m n left right = right
 
-white_some : (c : ℕ) (cs : List ℕ) → is_white c ≡ true → 0 < white_unit (c ∷ cs)
+pub white_some : (c : ℕ) (cs : List ℕ) → is_white c ≡ true → 0 < white_unit (c ∷ cs)
 white_some c cs white = rw white (search (arith, cond_positive))
 
 start_name : (c : ℕ) (cs : List ℕ) → 0 < start_unit (c ∷ cs) → 0 < name_unit (c ∷ cs)

@@ -22,7 +22,7 @@ use Rattle.css_tokens.proofs.CommentParts.{star_closes}
 use Rattle.css_tokens.proofs.PartLemmas.{Holds, part_rule}
 use Rattle.css_tokens.proofs.RunLemmas.{run_none, run_unit}
 
-branch : {P : Shape → Type 0} (b : Bool) (x y : Result Shape TokenFlaw) → (b ≡ true → Holds P x) → (b ≡ false → Holds P y) → Holds P (cond b x y)
+pub branch : {P : Shape → Type 0} (b : Bool) (x y : Result Shape TokenFlaw) → (b ≡ true → Holds P x) → (b ≡ false → Holds P y) → Holds P (cond b x y)
 branch true x y left right = left refl
 branch false x y left right = right refl
 

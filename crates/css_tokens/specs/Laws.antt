@@ -1,11 +1,12 @@
 -- What the parts and the tokens of a text say of the text as a whole.
-use Rattle.std.specs.Prelude.{ℕ, ◌<◌, ◌≤◌, ◌≡◌, ◌↔◌, IsTrue, List, [], ◌∷◌, ◌++◌, Option, Some, None, length, slice_range, drop}
+use Rattle.std.specs.Prelude.{ℕ, ◌-◌, ◌<◌, ◌≤◌, ◌≡◌, ◌↔◌, ⊤, IsTrue, false, List, [], ◌∷◌, ◌++◌, Option, Some, None, Ok, length, slice_range, drop}
 use Rattle.std.specs.List.{flat_map, AllByRecursion}
 use Rattle.css_model.specs.declared.token.Token.{Token}
 use Rattle.css_model.specs.declared.token.TokenFault.{TokenFault}
 use Rattle.css_model.specs.declared.token.TokenFault.TheVariants as fault
 use Rattle.css_model.specs.Characters.{slash, star}
 use Rattle.css_model.specs.Runs.{run}
+use Rattle.css_model.specs.TokenAt.{part_at}
 use Rattle.css_model.specs.Units.{comment_unit}
 use Rattle.css_model.specs.Tokens.{parts, text_of, stream}
 
@@ -45,3 +46,21 @@ place_of (Some (fault.EndInside at)) to = at
 abbrev pub TokensCover : Type 0
 TokensCover = (source : List ℕ) (from : ℕ) → from ≤ length source
     → Cover source from (stream from (drop from source)).tokens (place_of (stream from (drop from source)).fault (length source))
+
+-- a token is what is read at its place, and lies in the source
+pub record StandsIn (source : List ℕ) (t : Token) : Type 0 where
+  pub ordered : t.span.start < t.span.«end»
+  pub inside : t.span.«end» ≤ length source
+  pub reads : part_at (drop t.span.start source) ≡ Ok (Some t.kind, t.span.«end» - t.span.start)
+
+-- The tokens from a place on stand in the source in order, and those from where one of them begins are that
+-- one, which has no comment before it then, and those behind it.
+abbrev pub Restarts : List ℕ → ℕ → List Token → Type 0
+Restarts source from [] = ⊤
+Restarts source from (t ∷ ts) =
+    (from ≤ t.span.start) × StandsIn source t
+    × ((stream t.span.start (drop t.span.start source)).tokens ≡ record { kind = t.kind; span = t.span; comment_before = false } ∷ ts)
+    × Restarts source t.span.«end» ts
+
+abbrev pub TokensRestart : Type 0
+TokensRestart = (source : List ℕ) (from : ℕ) → from ≤ length source → Restarts source from (stream from (drop from source)).tokens

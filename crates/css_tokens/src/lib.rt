@@ -3,6 +3,7 @@
 
 mod characters;
 mod comments;
+mod escapes;
 mod laws;
 mod names;
 mod numbers;
@@ -12,10 +13,11 @@ mod runs;
 mod strings;
 mod units;
 
+pub use escapes::ends_open;
 pub use laws::{
-    parts_are_utf8, parts_end_alike, parts_join, parts_read_back, runs_are_longest, tokens_cover,
+    kept_text_is_read_back, parts_are_utf8, parts_end_alike, parts_join, parts_read_back, runs_are_longest, solids_are_lexemes, space_behind, tokens_cover, tokens_restart,
 };
-pub use names::decode;
+pub use names::{decode, is_named};
 pub use reader::{NotUtf8, Tokens};
 
 #[cfg(test)]

@@ -3,6 +3,7 @@
 ghost use Rattle.std.specs.Prelude.{◌≡◌, ◌≤◌, ◌+◌, ◌++◌, ◌<◌, ◌^◌, ◌*◌, List, ℕ, length, encode_utf8, false, true, MatchOption, IfSome, IfOk, OnOk};
 ghost use Rattle.std.specs.Char.{digit_value, is_ascii_hexdigit};
 ghost use Rattle.std.specs.Str.{IsAscii, chars, str_eq_ignore_ascii_case};
+ghost use Rattle.css_model.specs.Declarations as declarations;
 ghost use Rattle.css_model.specs.Source.{IsWithin, text_at};
 ghost use Rattle.css_model.specs.Unescaped as escapes;
 ghost use Rattle.css_tokens.specs.Said.{said_text, IsWide};
@@ -156,21 +157,29 @@ fn spelled<'a>(said: Said, word: &'a [u8]) -> Option<&'a [u8]>
     }
 }
 
-/// Whether a name is `url` without ASCII case.
-pub(crate) fn is_url(name: &[u8]) -> bool
-    ensures { result ≡ escapes.is_url name.now }
+/// Whether a name is this word of ASCII without ASCII case, once its escapes are read. Takes no memory.
+pub fn is_named(name: &[u8], word: &[u8]) -> bool
+    requires { IsAscii word.now }
+    ensures { result ≡ declarations.is_named word.now name.now }
 {
-    let mut word: &[u8] = b"url";
+    let mut left = word;
     let mut i = 0;
     'names: while i < name.len() {
         let (said, len) = first_said(name[i], &name[i + 1..]);
-        match spelled(said, word) {
-            Some(left) => word = left,
+        match spelled(said, left) {
+            Some(more) => left = more,
             None => return false,
         }
         i += len;
     }
-    word.is_empty()
+    left.is_empty()
+}
+
+/// Whether a name is `url` without ASCII case.
+pub(crate) fn is_url(name: &[u8]) -> bool
+    ensures { result ≡ escapes.is_url name.now }
+{
+    is_named(name, b"url")
 }
 
 fn push_said(out: &mut Vec<u8>, said: Said) -> Result<(), AllocError>

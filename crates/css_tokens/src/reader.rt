@@ -1,6 +1,6 @@
 //! The tokens of a text, read one at a time.
 
-ghost use Rattle.std.specs.Prelude.{◌≡◌, ◌≤◌, ◌<◌, ◌^◌, ◌↔◌, length, IsOk, IfOk, IfErr};
+ghost use Rattle.std.specs.Prelude.{◌≡◌, ◌≤◌, ◌<◌, ◌^◌, ◌↔◌, drop, length, IsOk, IfOk, IfErr};
 ghost use Rattle.css_model.specs.Tokens as stream;
 
 use crate::rules::part_at;
@@ -65,6 +65,16 @@ impl<'a> Tokens<'a> {
                 at: error.valid_up_to() as u32,
             }),
         }
+    }
+
+    /// The tokens of a source from a place on: a byte order mark is an ident code point there. Takes no
+    /// memory.
+    pub fn from_place(source: &'a [u8], at: usize) -> Tokens<'a>
+        requires length { length source.now ≤ 1048576 }
+        requires at { at ≤ length source.now }
+        ensures { left result ≡ stream.stream at (drop at source.now) }
+    {
+        Tokens { source, at }
     }
 
     /// The next token; `None` exactly at the end. After a fault the same fault is answered again. Takes no

@@ -349,3 +349,16 @@ fn escapes_are_read_on_both_sides_of_each_limit(rt: HostRuntime) -> Result<(), F
     says(&rt, alloc, b"", &[])?;
     Ok(())
 }
+
+#[test]
+fn open_escapes_are_told(rt: HostRuntime) {
+    assert!(rt; ends_open(b"\\31"));
+    assert!(rt; ends_open(b"a\\abcdef"));
+    assert!(rt; ends_open(b"#\\\\\\a"));
+    assert!(rt; !ends_open(b"a"));
+    assert!(rt; !ends_open(b"\\31 "));
+    assert!(rt; !ends_open(b"\\\\31"));
+    assert!(rt; !ends_open(b"\\abcdef0"));
+    assert!(rt; !ends_open(b"\\31g"));
+    assert!(rt; !ends_open(b"\"\\31\""));
+}

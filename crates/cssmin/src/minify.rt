@@ -7,8 +7,8 @@ ghost use Rattle.cssmin.specs.Minified.{IsMinified};
 
 use crate::join::join_neighbours;
 use css_model::{Sheet, joining_a_set_keeps_winners};
-use css_print::{is_no_longer, print_sheet, reads_back};
-use sheet_read::{SheetError, read_sheet};
+use css_print::{plain_is_no_longer, plain_reads_back, print_plain_sheet};
+use sheet_read::{SheetError, read_plain_sheet};
 use std::alloc::Global;
 
 /// The text of a style sheet without white space, and with neighbouring rules of equal selectors
@@ -19,9 +19,9 @@ pub(crate) fn minified(alloc: Global, source: &[u8]) -> Result<Vec<u8>, SheetErr
 {
     // Laws that the contract stands on; they do nothing.
     joining_a_set_keeps_winners();
-    is_no_longer();
-    reads_back();
-    let sheet = read_sheet(alloc, source)?;
+    plain_is_no_longer();
+    plain_reads_back();
+    let sheet = read_plain_sheet(alloc, source)?;
     let items = join_neighbours(alloc, sheet.items)?;
-    Ok(print_sheet(alloc, &Sheet { items }, source)?)
+    Ok(print_plain_sheet(alloc, &Sheet { items }, source)?)
 }

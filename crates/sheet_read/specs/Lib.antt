@@ -1,1 +1,3 @@
+pub mod Placed
 pub mod Reading
+pub mod Steps

@@ -25,6 +25,26 @@ impl From<AllocError> for SheetError {
     }
 }
 
+impl From<SheetFault> for SheetError {
+    ghost use Rattle.sheet_read.specs.declared.fault.SheetError.TheVariants.{Fault};
+
+    ghost from_gives = { λ fault e. e ≡ Fault fault };
+
+    fn from(fault: SheetFault) -> SheetError {
+        SheetError::Fault(fault)
+    }
+}
+
+impl<T: Drop> From<AllocFailed<T>> for SheetError {
+    ghost use Rattle.sheet_read.specs.declared.fault.SheetError.TheVariants.{NoMemory};
+
+    ghost from_gives = { λ _ e. e ≡ NoMemory };
+
+    fn from(_: AllocFailed<T>) -> SheetError {
+        SheetError::NoMemory
+    }
+}
+
 /// Why a part of a sheet was not read.
 #[derive(Debug, Drop)]
 pub(crate) enum PartError {

@@ -1,13 +1,19 @@
 //! Reads a style sheet from its bytes.
 #![tactic(auto)]
 
-mod characters;
+mod declarations;
 mod fault;
-mod parts;
-mod pieces;
+mod items;
+mod lexing;
+mod names;
+mod plain;
 mod read;
+mod selectors;
+mod signs;
+mod values;
 
 pub use fault::SheetError;
+pub use plain::read_plain_sheet;
 pub use read::read_sheet;
 
 #[cfg(test)]

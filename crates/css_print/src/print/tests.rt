@@ -1,29 +1,37 @@
-//! Printed texts of a sheet whose source has white space between its parts.
+//! Printed texts of sheets that are made by hand, and their lengths.
 
 ghost use Rattle.std.specs.Prelude.{◌≡◌, ◌∷◌, [], IfOk};
-ghost use Rattle.css_model.specs.Plain.{of_one_test};
-ghost use Rattle.css_model.specs.Source.{IsSoundSelector, IsSoundDeclaration, IsSoundRule, IsSound};
+ghost use Rattle.css_model.specs.Selectors.{of_one_test, class_test};
+ghost use Rattle.css_model.specs.Sound.{IsSoundSelector, IsSoundDeclaration, IsSoundRule, IsSoundItem, IsSound};
 
-use super::{print_decl, print_selector, print_sheet, push_declaration};
+use super::{print_decl, print_len, print_selector, print_sheet};
 use css_model::{
-    Bytes, Compound, Decl, DeclItem, Item, Piece, Rule, SelItem, Selector, Sheet, Simple, Test,
-    Text,
+    AttrTest, Bytes, Compound, Decl, DeclItem, Item, Op, Piece, Rule, SelItem, Selector, Sheet,
+    Simple, Test, Text,
 };
 use smallvec::SmallVec;
 use std::alloc::{AllocError, Global};
+use std::rt::Env;
 use std::test::Fail;
 
-const SOURCE: &[u8] = b" a { top : 0 ;\nleft : 1px }\n";
+/// A style rule with white space and a comment between its parts.
+const RULE: &[u8] = b"a,./**/b{top : 0;left:1px! important}";
 
-/// The type selector `a`.
-fn type_selector(alloc: Global) -> Result<Selector, AllocError>
-    ensures { IfOk result (λ s. s ≡ of_one_test (Test.Kind (97 ∷ []))) }
+/// An at-rule with each kind of space between two tokens: none, comments, and white space; behind a token
+/// that ends in an open escape; and behind a backslash that begins no escape.
+const BLOCK: &[u8] = b"@m  a /* */ b/* */(c)\\31/**/ d \\\n {e}\n";
+
+/// A byte order mark, and a selector that begins with one more.
+const MARKED: &[u8] = b"\xEF\xBB\xBF\xEF\xBB\xBF{}";
+
+/// The selector of one simple selector.
+fn selector(alloc: Global, test: Test) -> Result<Selector, AllocError>
+    ensures { IfOk result (λ s. s ≡ of_one_test test) }
 {
-    let name = Text::new(Vec::from_slice(alloc, &['a'])?);
     let mut simples = SmallVec::new(alloc);
     simples.push(Simple {
         negated: false,
-        test: Test::Kind(name),
+        test,
     })?;
     let mut chain = Vec::new(alloc);
     chain.push(Compound { simples })?;
@@ -34,12 +42,41 @@ fn type_selector(alloc: Global) -> Result<Selector, AllocError>
     })
 }
 
-fn selector_item(alloc: Global) -> Result<SelItem, AllocError>
-    ensures { IfOk result (IsSoundSelector SOURCE.now) }
+fn type_selector(alloc: Global) -> Result<Selector, AllocError>
+    ensures { IfOk result (λ s. s ≡ of_one_test (Test.Kind (97 ∷ []))) }
+{
+    let name = Text::new(Vec::from_slice(alloc, &['a'])?);
+    selector(alloc, Test::Kind(name))
+}
+
+fn class_selector(alloc: Global) -> Result<Selector, AllocError>
+    ensures { IfOk result (λ s. s ≡ of_one_test (class_test (98 ∷ []))) }
+{
+    let class = AttrTest {
+        name: Text::new(Vec::from_slice(alloc, &['c', 'l', 'a', 's', 's'])?),
+        op: Op::Word,
+        value: Text::new(Vec::from_slice(alloc, &['b'])?),
+    };
+    selector(alloc, Test::Attr(class))
+}
+
+/// The type selector `a`.
+fn type_item(alloc: Global) -> Result<SelItem, AllocError>
+    ensures { IfOk result (IsSoundSelector RULE.now) }
 {
     Ok(SelItem {
         selector: type_selector(alloc)?,
-        piece: Piece { start: 1, end: 2 },
+        piece: Piece { start: 0, end: 1 },
+    })
+}
+
+/// The class selector `.b`.
+fn class_item(alloc: Global) -> Result<SelItem, AllocError>
+    ensures { IfOk result (IsSoundSelector RULE.now) }
+{
+    Ok(SelItem {
+        selector: class_selector(alloc)?,
+        piece: Piece { start: 2, end: 8 },
     })
 }
 
@@ -54,30 +91,31 @@ fn decl(alloc: Global, name: &[char], value: &[u8], important: bool) -> Result<D
 }
 
 fn top(alloc: Global) -> Result<DeclItem, AllocError>
-    ensures { IfOk result (IsSoundDeclaration SOURCE.now) }
+    ensures { IfOk result (IsSoundDeclaration RULE.now) }
 {
     Ok(DeclItem {
         decl: decl(alloc, &['t', 'o', 'p'], b"0", false)?,
-        name: Piece { start: 5, end: 8 },
-        value: Piece { start: 11, end: 12 },
+        name: Piece { start: 9, end: 12 },
+        value: Piece { start: 15, end: 16 },
     })
 }
 
 fn left(alloc: Global) -> Result<DeclItem, AllocError>
-    ensures { IfOk result (IsSoundDeclaration SOURCE.now) }
+    ensures { IfOk result (IsSoundDeclaration RULE.now) }
 {
     Ok(DeclItem {
-        decl: decl(alloc, &['l', 'e', 'f', 't'], b"1px", false)?,
-        name: Piece { start: 15, end: 19 },
+        decl: decl(alloc, &['l', 'e', 'f', 't'], b"1px", true)?,
+        name: Piece { start: 17, end: 21 },
         value: Piece { start: 22, end: 25 },
     })
 }
 
 fn rule(alloc: Global) -> Result<Rule, AllocError>
-    ensures { IfOk result (IsSoundRule SOURCE.now) }
+    ensures { IfOk result (IsSoundRule RULE.now) }
 {
     let mut selectors = Vec::new(alloc);
-    selectors.push(selector_item(alloc)?)?;
+    selectors.push(type_item(alloc)?)?;
+    selectors.push(class_item(alloc)?)?;
     let mut decls = Vec::new(alloc);
     decls.push(top(alloc)?)?;
     decls.push(left(alloc)?)?;
@@ -85,8 +123,8 @@ fn rule(alloc: Global) -> Result<Rule, AllocError>
 }
 
 /// The rule, twice.
-fn sheet(alloc: Global) -> Result<Sheet, AllocError>
-    ensures { IfOk result (λ s. IsSound SOURCE.now s.items) }
+fn rules(alloc: Global) -> Result<Sheet, AllocError>
+    ensures { IfOk result (λ s. IsSound RULE.now s.items) }
 {
     let mut items = Vec::new(alloc);
     items.push(Item::Rule(rule(alloc)?))?;
@@ -94,42 +132,87 @@ fn sheet(alloc: Global) -> Result<Sheet, AllocError>
     Ok(Sheet { items })
 }
 
+fn block() -> Item
+    ensures { IsSoundItem BLOCK.now result }
+{
+    Item::KeptBlock(Piece { start: 0, end: 37 })
+}
+
+fn marked() -> Item
+    ensures { IsSoundItem MARKED.now result }
+{
+    Item::KeptBlock(Piece { start: 3, end: 8 })
+}
+
+fn sheet_of(alloc: Global, item: Item, source: &[u8]) -> Result<Sheet, AllocError>
+    requires { IsSoundItem source.now item }
+    ensures { IfOk result (λ s. IsSound source.now s.items) }
+{
+    let _source = source;
+    let mut items = Vec::new(alloc);
+    items.push(item)?;
+    Ok(Sheet { items })
+}
+
 #[test]
-fn prints_a_selector(rt: HostRuntime) -> Result<(), Fail> {
-    let item = selector_item(rt.alloc())?;
-    let text = print_selector(rt.alloc(), &item, SOURCE)?;
+fn prints_selectors(rt: HostRuntime) -> Result<(), Fail> {
+    let item = type_item(rt.alloc())?;
+    let text = print_selector(rt.alloc(), &item, RULE)?;
     assert_eq!(rt; text.as_slice(), b"a".as_slice());
+    let item = class_item(rt.alloc())?;
+    let text = print_selector(rt.alloc(), &item, RULE)?;
+    assert_eq!(rt; text.as_slice(), b".b".as_slice());
     Ok(())
 }
 
 #[test]
-fn prints_a_declaration(rt: HostRuntime) -> Result<(), Fail> {
+fn prints_declarations(rt: HostRuntime) -> Result<(), Fail> {
+    let item = top(rt.alloc())?;
+    let text = print_decl(rt.alloc(), &item, RULE)?;
+    assert_eq!(rt; text.as_slice(), b"top:0".as_slice());
     let item = left(rt.alloc())?;
-    let text = print_decl(rt.alloc(), &item, SOURCE)?;
-    assert_eq!(rt; text.as_slice(), b"left:1px".as_slice());
+    let text = print_decl(rt.alloc(), &item, RULE)?;
+    assert_eq!(rt; text.as_slice(), b"left:1px!important".as_slice());
     Ok(())
 }
 
 #[test]
-fn prints_importance(rt: HostRuntime) -> Result<(), Fail> {
-    let item = DeclItem {
-        decl: decl(rt.alloc(), &['t', 'o', 'p'], b"0", true)?,
-        name: Piece { start: 5, end: 8 },
-        value: Piece { start: 11, end: 12 },
-    };
-    let mut text = Vec::new(rt.alloc());
-    push_declaration(&mut text, &item, SOURCE)?;
-    assert_eq!(rt; text.as_slice(), b"top:0!important".as_slice());
-    Ok(())
-}
-
-#[test]
-fn prints_a_sheet(rt: HostRuntime) -> Result<(), Fail> {
-    let read = sheet(rt.alloc())?;
-    let text = print_sheet(rt.alloc(), &read, SOURCE)?;
+fn prints_rules(rt: HostRuntime) -> Result<(), Fail> {
+    let sheet = rules(rt.alloc())?;
+    let text = print_sheet(rt.alloc(), &sheet, RULE)?;
     assert_eq!(rt;
         text.as_slice(),
-        b"a{top:0;left:1px}a{top:0;left:1px}".as_slice()
+        b"a,.b{top:0;left:1px!important}a,.b{top:0;left:1px!important}".as_slice()
     );
+    assert_eq!(rt; print_len(&sheet, RULE), 60);
+    Ok(())
+}
+
+#[test]
+fn keeps_what_stands_between_tokens(rt: HostRuntime) -> Result<(), Fail> {
+    let sheet = sheet_of(rt.alloc(), block(), BLOCK)?;
+    let text = print_sheet(rt.alloc(), &sheet, BLOCK)?;
+    assert_eq!(rt; text.as_slice(), b"@m a b/**/(c)\\31  d \\\n{e}".as_slice());
+    assert_eq!(rt; print_len(&sheet, BLOCK), 25);
+    Ok(())
+}
+
+#[test]
+fn keeps_a_mark_from_the_front(rt: HostRuntime) -> Result<(), Fail> {
+    let sheet = sheet_of(rt.alloc(), marked(), MARKED)?;
+    let text = print_sheet(rt.alloc(), &sheet, MARKED)?;
+    assert_eq!(rt; text.as_slice(), b" \xEF\xBB\xBF{}".as_slice());
+    assert_eq!(rt; print_len(&sheet, MARKED), 6);
+    Ok(())
+}
+
+#[test]
+fn the_empty_sheet_is_the_empty_text(rt: HostRuntime) -> Result<(), Fail> {
+    let sheet = Sheet {
+        items: Vec::new(rt.alloc()),
+    };
+    let text = print_sheet(rt.alloc(), &sheet, b"/**/")?;
+    assert_eq!(rt; text.as_slice(), b"".as_slice());
+    assert_eq!(rt; print_len(&sheet, b"/**/"), 0);
     Ok(())
 }

@@ -1,5 +1,5 @@
-use Rattle.css_print.proofs.Sound.{sheet_no_longer}
+use Rattle.css_print.proofs.ShortSheet.{no-longer}
 use Rattle.css_print.proofs.laws.is_no_longer.Goals as goal
 
 pub returns : goal.returns
-returns c = sheet_no_longer
+returns c = no-longer

@@ -1,5 +1,5 @@
-use Rattle.css_print.proofs.Sound.{sheet_reads_back}
+use Rattle.css_print.proofs.FrontBack.{reads-back}
 use Rattle.css_print.proofs.laws.reads_back.Goals as goal
 
 pub returns : goal.returns
-returns c = sheet_reads_back
+returns c = reads-back

@@ -1,0 +1,67 @@
+-- The tokens of a source stand in order, and white space behind them closes their escapes.
+use Rattle.std.proofs.Common.{◌≡◌, ◌≢◌, ◌⊎◌, inl, inr, ℕ, zero, suc, ◌+◌, ◌<◌, ◌≤◌, ◌==◌, Bool, true, false, not, cond, nat_eq, List, [], ◌∷◌, ◌++◌, map, length, take, drop, Option, Some, None, Result, Ok, refl, sym, ◌∙◌, ap, subst, arith}
+use Rattle.std.specs.Prelude.{⊤}
+use Rattle.std.specs.List.{AllByRecursion, starts_with}
+use Rattle.std.proofs.lemmas.Bool.{false≢true, true≢false}
+use Rattle.std.proofs.lemmas.List.{append-nil}
+use Rattle.css_model.specs.declared.token.Lexeme.{Lexeme}
+use Rattle.css_model.specs.declared.token.TokenKind.{TokenKind}
+use Rattle.css_model.specs.declared.token.TokenKind.TheVariants as kind
+use Rattle.css_model.specs.Characters.{backslash, space}
+use Rattle.css_model.specs.Kept.{is_lone, is_open, solid}
+use Rattle.css_model.specs.Lexemes.{is_white_kind}
+use Rattle.css_model.specs.Source.{text_at}
+use Rattle.css_model.specs.Spelling.{lexemes_of}
+use Rattle.css_model.specs.TokenAt.{part_at}
+use Rattle.css_model.specs.Tokens.{Part, byte_order_mark, parts, text_of}
+use Rattle.css_tokens.specs.Lexed.{IsLexed}
+use Rattle.css_tokens.specs.Open.{IsRead}
+use Rattle.css_tokens.proofs.EndsLemmas.{ends_nil, is_plain}
+use Rattle.css_tokens.proofs.FirstBytes.{delim-text}
+use Rattle.css_tokens.proofs.OpenTokens.{space_closes, space_ends}
+use Rattle.css_tokens.proofs.PartLemmas.{part_len}
+use Rattle.css_tokens.proofs.RulesAgain.{part_again}
+use Rattle.css_tokens.proofs.SolidFacts.{lone_is}
+use Rattle.css_print.proofs.BackAlike.{AreClosable, IsClosable}
+use Rattle.css_print.proofs.BackNames.{IsNamed, has_name, is_closable}
+use Rattle.css_print.proofs.BackOrigins.{HasGoodTokens}
+use Rattle.css_print.proofs.BackPlaces.{HaveBytes, parts_of_sheet, places_in_order}
+use Rattle.css_print.proofs.BackValues.{IsShut}
+use Rattle.css_print.proofs.FrontLexed.{IsReadAs}
+use Rattle.css_print.proofs.FrontSource.{IsGoodLexeme, Source, good-lexemes}
+
+lone-shut : IsShut (backslash ∷ [])
+lone-shut open_ = refl
+
+shut-of : (v : List ℕ) (k : TokenKind) → is_white_kind k ≡ false → IsReadAs v k → IsShut v
+shut-of v k solid_ read = which (is_lone k) refl
+  where
+    which : (b : Bool) → is_lone k ≡ b → IsShut v
+    which false other open_ = (space_closes v read.old [] k (record { no_white = solid_; no_lone = other; read = read.read }) open_).1
+    which true lone open_ =
+        let alone : v ≡ backslash ∷ [] = delim-text v read.old backslash (subst (λ k. part_at (v ++ read.old) ≡ Ok (Some k, length v)) (lone_is k lone) read.read) in
+        subst IsShut (sym alone) lone-shut open_
+
+named-of : (v : List ℕ) (k : TokenKind) → is_white_kind k ≡ false → is_lone k ≡ false → is_plain (Some k) ≡ true → IsReadAs v k → IsNamed k v
+named-of v k solid_ other plain read =
+    let e = ends_nil (record { kind = Some k; bytes = v }) read.old plain in
+    let alone : part_at (v ++ []) ≡ Ok (Some k, length v) = part_again v read.old [] (Some k) e.alike e.looks read.read in
+    let here : IsRead v [] k = record { no_white = solid_; no_lone = other; read = alone } in
+    record {
+      alone = sym (ap part_at (append-nil v)) ∙ alone;
+      near = which here (is_open v) refl
+    }
+  where
+    which : IsRead v [] k → (b : Bool) → is_open v ≡ b → (part_at (v ++ space ∷ space ∷ []) ≡ Ok (Some k, length v)) ⊎ (part_at (v ++ space ∷ space ∷ []) ≡ Ok (Some k, suc (length v)))
+    which here true open_ = inr (space_closes v [] [] k here open_).0
+    which here false shut = inl (space_ends v [] (space ∷ []) k here shut (λ quoted. absurd (false≢true quoted)))
+
+pub closable-of : (source : List ℕ) (x : Lexeme) → is_white_kind x.kind ≡ false → IsGoodLexeme source x → IsClosable source x
+closable-of source x solid_ g =
+    is_closable source x (shut-of (text_at source x.span) x.kind solid_ g.good.read) (named x.kind solid_ g.good.read)
+  where
+    named : (k : TokenKind) → is_white_kind k ≡ false → IsReadAs (text_at source x.span) k → has_name k ≡ true → IsNamed k (text_at source x.span)
+    named kind.Ident solid_ read is = named-of (text_at source x.span) kind.Ident refl refl refl read
+    named kind.AtKeyword solid_ read is = named-of (text_at source x.span) kind.AtKeyword refl refl refl read
+    named kind.IdHash solid_ read is = named-of (text_at source x.span) kind.IdHash refl refl refl read
+    named _ solid_ read is = absurd (false≢true is)

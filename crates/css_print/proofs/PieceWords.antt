@@ -1,0 +1,207 @@
+-- The words of a piece are those of the sheet's tokens that stand in it.
+use Rattle.std.proofs.Common.{ℕ, ◌≤◌, ◌<◌, ◌≡◌, Bool, true, false, ◌&&◌, cond, List, [], ◌∷◌, length, map, drop, refl, sym, ap, ◌∙◌, arith}
+use Rattle.std.specs.Prelude.{nat_le, nat_eq}
+use Rattle.std.specs.List.{AllByRecursion, Contains, filter, starts_with}
+use Rattle.css_model.specs.declared.sheet.Piece.{Piece}
+use Rattle.css_model.specs.declared.token.Bracket.{Bracket}
+use Rattle.css_model.specs.declared.token.Gap.{Gap}
+use Rattle.css_model.specs.declared.token.Lexeme.{Lexeme}
+use Rattle.css_model.specs.declared.token.Token.{Token}
+use Rattle.css_model.specs.declared.token.TokenKind.{TokenKind}
+use Rattle.css_model.specs.Kept.{Solid, solid, between}
+use Rattle.css_model.specs.Lexemes.{is_white_kind, gap_of, lexeme, lexemes_in, after}
+use Rattle.css_model.specs.Source.{IsWithin, text_at}
+use Rattle.css_model.specs.Spelling.{stands_in, tokens_in, lexemes_of}
+use Rattle.css_model.specs.Tokens.{Stream, stream, tokens, byte_order_mark}
+use Rattle.css_tokens.specs.Laws.{StandsIn, Restarts, TokensRestart}
+use Rattle.css_print.specs.Places.{BeginsAt, words_in}
+use Rattle.css_print.specs.Words.{WordTexts, up_to, solids, words}
+use Rattle.css_print.proofs.Members.{member, all_with}
+
+le_true : (a b : ℕ) → a ≤ b → nat_le a b ≡ true
+le_true a b h = grind (arith, h)
+
+le_false : (a b : ℕ) → b < a → nat_le a b ≡ false
+le_false a b h = grind (arith, h)
+
+true_le : (a b : ℕ) → nat_le a b ≡ true → a ≤ b
+true_le a b h = grind (arith, h)
+
+false_le : (a b : ℕ) → nat_le a b ≡ false → b < a
+false_le a b h = grind (arith, h)
+
+-- a token outside, before the piece or behind it
+outside_before : (piece : Piece) (x : Lexeme) → x.span.start < piece.start → stands_in piece x ≡ false
+outside_before piece x h = rw (le_false piece.start x.span.start h) refl
+
+and_false : (a b : Bool) → b ≡ false → (a && b) ≡ false
+and_false true b is = is
+and_false false b is = refl
+
+outside_behind : (piece : Piece) (x : Lexeme) → piece.«end» < x.span.«end» → stands_in piece x ≡ false
+outside_behind piece x h = and_false (nat_le piece.start x.span.start) (nat_le x.span.«end» piece.«end») (le_false x.span.«end» piece.«end» h)
+
+inside_piece : (piece : Piece) (x : Lexeme) → piece.start ≤ x.span.start → nat_le x.span.«end» piece.«end» ≡ true → stands_in piece x ≡ true
+inside_piece piece x low high = rw (le_true piece.start x.span.start low) high
+
+-- of tokens that begin behind a piece none stands in it
+none_in : (source : List ℕ) (piece : Piece) (from : ℕ) (brackets : List Bracket) (ts : List Token) → piece.«end» ≤ from → Restarts source from ts
+    → filter (stands_in piece) (lexemes_in brackets ts) ≡ []
+none_in source piece from brackets [] past all = refl
+none_in source piece from brackets (t ∷ ts) past (low, stands, again, all) = which (is_white_kind t.kind) refl (λ (brackets : List Bracket). none_in source piece t.span.«end» brackets ts (omega (arith, low, past, stands.ordered)) all)
+  where
+    which : (b : Bool) → is_white_kind t.kind ≡ b → ((brackets : List Bracket) → filter (stands_in piece) (lexemes_in brackets ts) ≡ []) → filter (stands_in piece) (lexemes_in brackets (t ∷ ts)) ≡ []
+    which true is later = rw is (later brackets)
+    which false is later = rw (is, outside_behind piece (lexeme (length brackets) t ts) (omega (arith, low, past, stands.ordered))) (later (after t brackets))
+
+-- two lists with the same words
+record Alike (xs ys : List Solid) : Type 0 where
+  same_words : words xs ≡ words ys
+  same_length : length xs ≡ length ys
+
+-- what is known to stand behind the last token does not count
+alike_cons : (k : TokenKind) (bytes : List ℕ) (g h : Gap) (xs ys : List Solid) → (0 < length xs → g ≡ h) → Alike xs ys
+    → Alike (record { kind = k; bytes = bytes; gap = g } ∷ xs) (record { kind = k; bytes = bytes; gap = h } ∷ ys)
+alike_cons k bytes g h [] [] same rest = record { same_words = refl; same_length = refl }
+alike_cons k bytes g h [] (y ∷ ys) same rest = absurd (omega (arith, rest.same_length))
+alike_cons k bytes g h (x ∷ xs) [] same rest = absurd (omega (arith, rest.same_length))
+alike_cons k bytes g h (x ∷ xs) (y ∷ ys) same rest =
+    let e : g ≡ h = same (omega arith) in
+    let word : Gap → WordTexts = λ gap. record { text = bytes; behind = between (record { kind = k; bytes = bytes; gap = gap }) } in
+    record {
+      same_words = ap (λ (gap : Gap). word gap ∷ words (x ∷ xs)) e ∙ ap (λ (ws : List WordTexts). word h ∷ ws) rest.same_words;
+      same_length = omega (arith, rest.same_length);
+    }
+
+gap_up_to : (source : List ℕ) (place : ℕ) (ts : List Token) → 0 < length (solids source (up_to place ts)) → gap_of (up_to place ts) ≡ gap_of ts
+gap_up_to source place [] some = refl
+gap_up_to source place (t ∷ ts) some = which (nat_le t.span.«end» place) some
+  where
+    which : (b : Bool) → 0 < length (solids source (cond b (t ∷ up_to place ts) [])) → gap_of (cond b (t ∷ up_to place ts) []) ≡ gap_of (t ∷ ts)
+    which true some = refl
+    which false some = absurd (omega arith)
+
+-- the tokens up to the end of a piece are those that stand in it, where none stands before it
+cut_alike : (source : List ℕ) (piece : Piece) (from : ℕ) (brackets : List Bracket) (ts : List Token) → piece.start ≤ from → Restarts source from ts
+    → Alike (solids source (up_to piece.«end» ts)) (map (solid source) (filter (stands_in piece) (lexemes_in brackets ts)))
+cut_alike source piece from brackets [] low all = record { same_words = refl; same_length = refl }
+cut_alike source piece from brackets (t ∷ ts) low (behind, stands, again, all) =
+    which (nat_le t.span.«end» piece.«end») refl (is_white_kind t.kind) refl
+    (λ (brackets : List Bracket). cut_alike source piece t.span.«end» brackets ts (omega (arith, low, behind, stands.ordered)) all)
+  where
+    which : (b : Bool) → nat_le t.span.«end» piece.«end» ≡ b → (w : Bool) → is_white_kind t.kind ≡ w
+        → ((brackets : List Bracket) → Alike (solids source (up_to piece.«end» ts)) (map (solid source) (filter (stands_in piece) (lexemes_in brackets ts))))
+        → Alike (solids source (cond (nat_le t.span.«end» piece.«end») (t ∷ up_to piece.«end» ts) []))
+        (map (solid source) (filter (stands_in piece) (cond (is_white_kind t.kind) (lexemes_in brackets ts) (lexeme (length brackets) t ts ∷ lexemes_in (after t brackets) ts))))
+    which false is true white later =
+        let far : piece.«end» < t.span.«end» = false_le t.span.«end» piece.«end» is in
+        rw (is, white, none_in source piece t.span.«end» brackets ts (omega (arith, far)) all) (record { same_words = refl; same_length = refl })
+    which false is false white later =
+        let far : piece.«end» < t.span.«end» = false_le t.span.«end» piece.«end» is in
+        rw (is, white, outside_behind piece (lexeme (length brackets) t ts) far, none_in source piece t.span.«end» (after t brackets) ts (omega (arith, far)) all) (record { same_words = refl; same_length = refl })
+    which true is true white later = rw (is, white) (later brackets)
+    which true is false white later =
+        let inside : stands_in piece (lexeme (length brackets) t ts) ≡ true = inside_piece piece (lexeme (length brackets) t ts) (omega (arith, low, behind)) is in
+        rw (is, white, inside)
+        (alike_cons t.kind (text_at source t.span) (gap_of (up_to piece.«end» ts)) (gap_of ts) (solids source (up_to piece.«end» ts))
+        (map (solid source) (filter (stands_in piece) (lexemes_in (after t brackets) ts))) (gap_up_to source piece.«end» ts) (later (after t brackets)))
+
+-- a token that is no white space, among those of a source from a place on
+record Found (source : List ℕ) (from : ℕ) (brackets : List Bracket) (ts : List Token) (x : Lexeme) : Type 0 where
+  low : from ≤ x.span.start
+  within : IsWithin source x.span
+  same : (piece : Piece) → piece.start ≡ x.span.start → words_in source piece ≡ words (map (solid source) (filter (stands_in piece) (lexemes_in brackets ts)))
+
+-- the words of tokens from the first on
+first_words : (source : List ℕ) (brackets : List Bracket) (t : Token) (ts : List Token) → StandsIn source t
+    → (stream t.span.start (drop t.span.start source)).tokens ≡ record { kind = t.kind; span = t.span; comment_before = false } ∷ ts → Restarts source t.span.«end» ts
+    → (piece : Piece) → piece.start ≡ t.span.start → words_in source piece ≡ words (map (solid source) (filter (stands_in piece) (lexemes_in brackets (t ∷ ts))))
+first_words source brackets t ts stands again all piece is =
+    let here : Token = record { kind = t.kind; span = t.span; comment_before = false } in
+    let there : StandsIn source here = record { ordered = stands.ordered; inside = stands.inside; reads = stands.reads } in
+    let cut : ℕ → List WordTexts = λ (at : ℕ). words (solids source (up_to piece.«end» (stream at (drop at source)).tokens)) in
+    let low : piece.start ≤ t.span.start = omega (arith, is) in
+    let least : t.span.start ≤ t.span.start = omega arith in
+    ap cut is
+    ∙ ap (λ (us : List Token). words (solids source (up_to piece.«end» us))) again
+    ∙ (cut_alike source piece t.span.start brackets (here ∷ ts) low (least, there, again, all)).same_words
+
+found_all : (source : List ℕ) (from : ℕ) (brackets : List Bracket) (ts : List Token) → Restarts source from ts → AllByRecursion (Found source from brackets ts) (lexemes_in brackets ts)
+found_all source from brackets [] all = tt
+found_all source from brackets (t ∷ ts) (low, stands, again, all) = which (is_white_kind t.kind) refl (λ (brackets : List Bracket). found_all source t.span.«end» brackets ts all)
+  where
+    behind : (x : Lexeme) → t.span.«end» ≤ x.span.start → from ≤ x.span.start
+    behind x later = omega (arith, low, later, stands.ordered)
+
+    white_more : is_white_kind t.kind ≡ true → (x : Lexeme) → Found source t.span.«end» brackets ts x → Found source from brackets (t ∷ ts) x
+    white_more white x f = record {
+      low = behind x f.low;
+      within = f.within;
+      same = λ (piece : Piece) (is : piece.start ≡ x.span.start). rw white (f.same piece is);
+    }
+
+    solid_more : is_white_kind t.kind ≡ false → (x : Lexeme) → Found source t.span.«end» (after t brackets) ts x → Found source from brackets (t ∷ ts) x
+    solid_more other x f = record {
+      low = behind x f.low;
+      within = f.within;
+      same = λ (piece : Piece) (is : piece.start ≡ x.span.start).
+          let before : t.span.start < piece.start = omega (arith, is, f.low, stands.ordered) in
+          rw (other, outside_before piece (lexeme (length brackets) t ts) before) (f.same piece is);
+    }
+
+    which : (w : Bool) → is_white_kind t.kind ≡ w → ((brackets : List Bracket) → AllByRecursion (Found source t.span.«end» brackets ts) (lexemes_in brackets ts))
+        → AllByRecursion (Found source from brackets (t ∷ ts)) (cond (is_white_kind t.kind) (lexemes_in brackets ts) (lexeme (length brackets) t ts ∷ lexemes_in (after t brackets) ts))
+    which true white later = rw white (all_with (Found source t.span.«end» brackets ts) (Found source from brackets (t ∷ ts)) (white_more white) (lexemes_in brackets ts) (later brackets))
+    which false other later =
+        let here : Found source from brackets (t ∷ ts) (lexeme (length brackets) t ts) = record {
+          low = low;
+          within = record { ordered = omega (arith, stands.ordered); inside = stands.inside };
+          same = first_words source brackets t ts stands again all;
+        } in
+        rw other (here, all_with (Found source t.span.«end» (after t brackets) ts) (Found source from brackets (t ∷ ts)) (solid_more other) (lexemes_in (after t brackets) ts) (later (after t brackets)))
+
+-- a byte order mark has three bytes
+pub mark_len : (source : List ℕ) → starts_with nat_eq source byte_order_mark ≡ true → 3 ≤ length source
+mark_len [] is = absurd (cc)
+mark_len (a ∷ []) is = absurd (two (nat_eq 0xEF a) is)
+  where
+    two : (b : Bool) → (b && false) ≡ true → ⊥
+    two true is = absurd (cc)
+    two false is = absurd (cc)
+mark_len (a ∷ b ∷ []) is = absurd (three (nat_eq 0xEF a) (nat_eq 0xBB b) is)
+  where
+    three : (p q : Bool) → (p && (q && false)) ≡ true → ⊥
+    three true true is = absurd (cc)
+    three true false is = absurd (cc)
+    three false q is = absurd (cc)
+mark_len (a ∷ b ∷ c ∷ cs) is = omega arith
+
+-- the tokens of a sheet
+record SheetTokens (source : List ℕ) (s : Stream) : Type 0 where
+  from : ℕ
+  restart : Restarts source from s.tokens
+
+sheet_tokens : TokensRestart → (source : List ℕ) → SheetTokens source (tokens source true)
+sheet_tokens law source = which (starts_with nat_eq source byte_order_mark) refl
+  where
+    which : (b : Bool) → starts_with nat_eq source byte_order_mark ≡ b → SheetTokens source (cond b (stream 3 (drop 3 source)) (stream 0 source))
+    which true is = record { from = 3; restart = law source 3 (mark_len source is) }
+    which false is = record { from = 0; restart = law source 0 (omega arith) }
+
+-- what is found of a token of a sheet
+sheet_found : TokensRestart → (source : List ℕ) (x : Lexeme) → Contains (lexemes_of source) x
+    → (from : ℕ) × Found source from [] (tokens source true).tokens x
+sheet_found law source x among =
+    let s = sheet_tokens law source in
+    let F : Lexeme → Type 0 = Found source s.from [] (tokens source true).tokens in
+    (s.from, member F (lexemes_of source) x (found_all source s.from [] (tokens source true).tokens s.restart) among)
+
+pub lexeme_within : TokensRestart → (source : List ℕ) (x : Lexeme) → Contains (lexemes_of source) x → IsWithin source x.span
+lexeme_within law source x among = (sheet_found law source x among).1.within
+
+pub begins_inside : TokensRestart → (source : List ℕ) (at : ℕ) → BeginsAt source at → at ≤ length source
+begins_inside law source at h = let w = lexeme_within law source h.token h.among in omega (arith, w.ordered, w.inside, h.begins)
+
+-- The words of a piece that begins at a token are those of the sheet's tokens that stand in it.
+pub begins_words : TokensRestart → (source : List ℕ) (piece : Piece) → BeginsAt source piece.start → words_in source piece ≡ words (map (solid source) (tokens_in source piece))
+begins_words law source piece h = (sheet_found law source h.token h.among).1.same piece (sym h.begins)

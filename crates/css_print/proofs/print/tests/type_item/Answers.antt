@@ -1,0 +1,9 @@
+use Rattle.std.proofs.Common.{sym, subst}
+use Rattle.css_model.specs.SelectorParts.{SelectorParts}
+use Rattle.css_model.specs.Sound.{IsSoundSelector}
+use Rattle.css_print.proofs.SoundExamples.{rule, type_sound}
+use Rattle.css_print.proofs.print.tests.type_item.Goals as goal
+
+pub returns : goal.returns
+returns c =
+    subst (λ (s : SelectorParts). IsSoundSelector rule (record { selector = s; piece = record { start = 0; «end» = 1 } })) (sym c.in_ok-type_selector.ensures) type_sound

@@ -1,0 +1,18 @@
+-- The places of a sheet where its pieces begin.
+use Rattle.std.specs.Prelude.{ℕ, ◌≡◌, List, drop}
+use Rattle.std.specs.List.{Contains}
+use Rattle.css_model.specs.declared.sheet.Piece.{Piece}
+use Rattle.css_model.specs.declared.token.Lexeme.{Lexeme}
+use Rattle.css_model.specs.Spelling.{lexemes_of}
+use Rattle.css_model.specs.Tokens.{stream}
+use Rattle.css_print.specs.Words.{WordTexts, up_to, solids, words}
+
+-- a token of a sheet that is no white space begins here
+pub record BeginsAt (source : List ℕ) (at : ℕ) : Type 0 where
+  pub token : Lexeme
+  pub among : Contains (lexemes_of source) token
+  pub begins : token.span.start ≡ at
+
+-- the tokens from where a piece begins, up to its end
+abbrev pub words_in : List ℕ → Piece → List WordTexts
+words_in source piece = words (solids source (up_to piece.«end» (stream piece.start (drop piece.start source)).tokens))

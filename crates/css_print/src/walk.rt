@@ -1,0 +1,161 @@
+//! The tokens of a piece of a source, each with what is printed behind it.
+
+ghost use Rattle.std.specs.Prelude.{ℕ, ◌≡◌, ◌≤◌, ◌==◌, ◌++◌, if◌then◌else◌, List, length, true, false, Some, Ok};
+ghost use Rattle.std.specs.List.{AllByRecursion};
+ghost use Rattle.css_model.specs.Kept.{gap_text, behind_last, between};
+ghost use Rattle.css_model.specs.Kept as kept;
+ghost use Rattle.css_model.specs.Lexemes.{is_white_kind, gap_of};
+ghost use Rattle.css_model.specs.TokenAt.{part_at};
+ghost use Rattle.css_tokens.specs.Laws.{StandsIn};
+ghost use Rattle.css_tokens.specs.Left as reader;
+ghost use Rattle.css_tokens.specs.Open.{IsRead};
+ghost use Rattle.css_print.specs.Words.{up_to, seen, is_solid, after_white};
+
+use css_model::{Gap, Piece, Token, TokenKind};
+use css_tokens::{Tokens, ends_open, tokens_restart};
+
+/// A token's text, and what is printed behind it.
+#[derive(Clone, Copy, Debug)]
+pub(crate) struct Word<'a> {
+    /// The text.
+    pub(crate) text: &'a [u8],
+    /// What is printed behind it.
+    pub(crate) behind: &'static [u8],
+}
+
+/// The tokens of a piece that are no white space, one at a time.
+#[derive(Drop)]
+pub(crate) struct Walk<'a> {
+    source: &'a [u8],
+    tokens: Tokens<'a>,
+    end: u32,
+    ahead: Option<Token>,
+}
+
+/// The next token, where it ends before a place or there.
+fn read(tokens: &mut Tokens<'_>, end: u32) -> Option<Token>
+    ensures { seen result end (reader.left tokens.new).tokens ≡ up_to end (reader.left tokens.old).tokens }
+{
+    match tokens.next() {
+        Ok(Some(token)) => {
+            if token.span.end <= end {
+                Some(token)
+            } else {
+                None
+            }
+        }
+        Ok(None) | Err(_) => None,
+    }
+}
+
+fn is_white(kind: TokenKind) -> bool
+    ensures { result ≡ is_white_kind kind }
+{
+    matches!(kind, TokenKind::White)
+}
+
+/// The first token that is no white space: this one, or one of the next.
+fn read_solid(first: Option<Token>, tokens: &mut Tokens<'_>, end: u32) -> Option<Token>
+    ensures seen { seen result end (reader.left tokens.new).tokens ≡ after_white (seen first end (reader.left tokens.old).tokens) }
+    ensures solid { is_solid result ≡ true }
+{
+    let mut ahead = first;
+    'white: while let Some(token) = ahead {
+        if !is_white(token.kind) {
+            return ahead;
+        }
+        ahead = read(tokens, end);
+    }
+    None
+}
+
+/// What stands before a token, or before the end of a piece.
+fn gap_before(ahead: Option<Token>) -> Gap
+    ensures { (place : ℕ) (others : List Token) → result ≡ gap_of (seen ahead place others) }
+{
+    match ahead {
+        None => Gap::Nothing,
+        Some(token) => {
+            if is_white(token.kind) {
+                Gap::White
+            } else if token.comment_before {
+                Gap::Comments
+            } else {
+                Gap::Nothing
+            }
+        }
+    }
+}
+
+fn is_lone(kind: TokenKind) -> bool
+    ensures { result ≡ kept.is_lone kind }
+{
+    matches!(kind, TokenKind::Delim(0x5C))
+}
+
+/// What stands for what is behind a token that is no lone backslash.
+fn stand_in(text: &[u8], gap: Gap) -> &'static [u8]
+    ensures { (old : List ℕ) (k : TokenKind) → IsRead text.now old k → result.now ≡ gap_text text.now gap }
+{
+    match gap {
+        Gap::Nothing => b"",
+        Gap::Comments => b"/**/",
+        Gap::White => { if ends_open(text) { b"  " } else { b" " } }
+    }
+}
+
+/// What is printed behind a token, the last one or another.
+fn behind(kind: TokenKind, text: &[u8], gap: Gap, last: bool) -> &'static [u8]
+    requires { is_white_kind kind ≡ false }
+    ensures { (old : List ℕ) → part_at (text.now ++ old) ≡ Ok (Some kind, length text.now) →
+        result.now ≡ (if last then behind_last (record { kind = kind; bytes = text.now; gap = gap }) else between (record { kind = kind; bytes = text.now; gap = gap })) }
+{
+    if is_lone(kind) {
+        b"\n"
+    } else if last {
+        b""
+    } else {
+        stand_in(text, gap)
+    }
+}
+
+impl<'a> Walk<'a> {
+    ghost use Rattle.css_print.specs.Walking.{left, IsReady, Gives};
+    ghost use Rattle.css_print.specs.Places.{words_in};
+
+    /// The tokens of a piece.
+    pub(crate) fn new(source: &'a [u8], piece: Piece) -> Walk<'a>
+        requires length { length source.now ≤ 1048576 }
+        requires start { piece.start ≤ length source.now }
+        ensures left { left result ≡ words_in source.now piece }
+        ensures ready { IsReady result }
+    {
+        tokens_restart();
+        let mut tokens = Tokens::from_place(source, piece.start as usize);
+        let first = read(&mut tokens, piece.end);
+        let ahead = read_solid(first, &mut tokens, piece.end);
+        Walk {
+            source,
+            tokens,
+            end: piece.end,
+            ahead,
+        }
+    }
+
+    /// The next token, or none behind the last.
+    pub(crate) fn next(&mut self) -> Option<Word<'a>>
+        requires { IsReady self.old }
+        ensures word { Gives (left self.old) result (left self.new) }
+        ensures ready { IsReady self.new }
+    {
+        let token = self.ahead?;
+        let next = read(&mut self.tokens, self.end);
+        let gap = gap_before(next);
+        self.ahead = read_solid(next, &mut self.tokens, self.end);
+        let text = token.span.text(self.source);
+        Some(Word {
+            text,
+            behind: behind(token.kind, text, gap, self.ahead.is_none()),
+        })
+    }
+}

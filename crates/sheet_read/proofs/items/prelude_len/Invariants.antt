@@ -1,0 +1,13 @@
+use Rattle.std.proofs.Common.{◌≡◌, ◌+◌, length}
+use Rattle.std.specs.List.{position_or_len}
+use Rattle.css_model.specs.Items as spec
+use Rattle.sheet_read.proofs.items.prelude_len.Given as goal
+
+abbrev pub invariant-lexemes : goal.invariant-lexemes
+invariant-lexemes l = record {
+  place : l.n + position_or_len (spec.ends_prelude l.at_rule) l.rest ≡ position_or_len (spec.ends_prelude l.at_rule) l.xs;
+  passed : l.n + length l.rest ≡ length l.xs;
+}
+
+abbrev pub decreases-lexemes : goal.decreases-lexemes
+decreases-lexemes l = length l.rest

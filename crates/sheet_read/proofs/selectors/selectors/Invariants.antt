@@ -1,0 +1,16 @@
+use Rattle.std.proofs.Common.{◌≡◌, length}
+use Rattle.std.specs.List.{AllByRecursion}
+use Rattle.css_model.specs.Selectors.{selectors}
+use Rattle.sheet_read.specs.Placed.{ArePlaced}
+use Rattle.sheet_read.proofs.Preludes.{parts_left, read}
+use Rattle.sheet_read.proofs.selectors.selectors.Given as goal
+
+-- the selectors so far, and those of the parts that are left, are those of the rule
+abbrev pub invariant-loop-rest : goal.invariant-loop-rest
+invariant-loop-rest l = record {
+  placed : AllByRecursion (ArePlaced l.source) (parts_left l.rest);
+  same : read l.source l.selectors.items (parts_left l.rest) ≡ selectors l.source l.fn.item;
+}
+
+abbrev pub decreases-loop-rest : goal.decreases-loop-rest
+decreases-loop-rest l = length (parts_left l.rest)
