@@ -1,6 +1,6 @@
 -- The items of a sheet, read one after another.
 use Rattle.std.proofs.Common.{ℕ, ◌≡◌, ◌≤◌, ◌<◌, ◌+◌, ◌-◌, ◌||◌, ◌++◌, Bool, true, false, cond, List, [], ◌∷◌, length, Option, Some, None, Ok, Err, refl, sym, ap, ◌∙◌, subst, ltb, lt-ltb, zero-add, arith}
-use Rattle.std.specs.List.{AllByRecursion, count_by, list_any, slice_get}
+use Rattle.std.specs.List.{AllByRecursion, cons_option, count_by, list_any, slice_get}
 use Rattle.std.specs.Option.{option_map}
 use Rattle.std.proofs.lemmas.List.{append-nil}
 use Rattle.std.proofs.lemmas.List.Sums.{sum_by-cons}
@@ -11,7 +11,7 @@ use Rattle.css_model.specs.declared.sheet.Item.{Item}
 use Rattle.css_model.specs.declared.sheet.Item.TheVariants.{KeptBlock}
 use Rattle.css_model.specs.declared.token.Lexeme.{Lexeme}
 use Rattle.css_model.specs.Lexemes.{piece_of}
-use Rattle.css_model.specs.Sheet.{is_import, is_namespace, namespace_at, item_of, onto, read_items, start_of, fault_of, unless}
+use Rattle.css_model.specs.Sheet.{is_import, is_namespace, namespace_at, item_of, read_items, start_of, fault_of, unless}
 use Rattle.sheet_read.specs.Placed.{IsPlaced, ArePlaced}
 use Rattle.sheet_read.specs.Steps.{count_imports, item_before, items_of}
 
@@ -63,23 +63,23 @@ namespace_later source raw later item is named = ap (namespace_at source) is ∙
 
 -- the items from one on
 read_step : (source : List ℕ) (raw later : List (List Lexeme)) (item : List Lexeme) → raw ≡ item ∷ later
-    → read_items source raw ≡ onto (item_before source item (count_imports source later)) (read_items source later)
+    → read_items source raw ≡ cons_option (item_before source item (count_imports source later)) (read_items source later)
 read_step source raw later item is =
     ap (read_items source) is
-    ∙ ap (λ (b : Bool). onto (cond b (Some (KeptBlock (piece_of item))) (item_of source item)) (read_items source later)) (any_count (is_import source) later)
+    ∙ ap (λ (b : Bool). cons_option (cond b (Some (KeptBlock (piece_of item))) (item_of source item)) (read_items source later)) (any_count (is_import source) later)
 
 -- an item is read, or is dropped, behind those that were read
 pub read_one : (source : List ℕ) (raw later : List (List Lexeme)) (item : List Lexeme) (n : ℕ) (x : Item) → raw ≡ item ∷ later → n ≡ count_imports source later
     → Some x ≡ item_before source item n → read_items source raw ≡ x ∷ read_items source later
 read_one source raw later item n x is counted read =
     read_step source raw later item is
-    ∙ ap (λ (o : Option Item). onto o (read_items source later)) (sym (read ∙ ap (item_before source item) counted))
+    ∙ ap (λ (o : Option Item). cons_option o (read_items source later)) (sym (read ∙ ap (item_before source item) counted))
 
 pub read_none : (source : List ℕ) (raw later : List (List Lexeme)) (item : List Lexeme) (n : ℕ) → raw ≡ item ∷ later → n ≡ count_imports source later
     → None ≡ item_before source item n → read_items source raw ≡ read_items source later
 read_none source raw later item n is counted read =
     read_step source raw later item is
-    ∙ ap (λ (o : Option Item). onto o (read_items source later)) (sym (read ∙ ap (item_before source item) counted))
+    ∙ ap (λ (o : Option Item). cons_option o (read_items source later)) (sym (read ∙ ap (item_before source item) counted))
 
 get_behind : (done later : List Item) (x : Item) → slice_get (done ++ x ∷ later) (length done) ≡ Some x
 get_behind [] later x = refl
