@@ -1,9 +1,10 @@
+mod Faults
 mod Following
 mod Joins
-mod Keeping
 mod Limits
 mod Minifying
 mod Origin
+mod Outcomes
 mod SelectorSets
 mod Shorter
 mod Spelled

@@ -1,54 +1,60 @@
 -- A sheet that is read, joined and printed is minified.
-use Rattle.std.proofs.Common.{◌≡◌, ℕ, ◌≤◌, Bool, true, false, List, length, cond, Option, Some, None, Ok, Err, nat_lt, refl, ◌∙◌, ap, arith}
-use Rattle.css_model.specs.declared.fault.FaultKind.TheVariants.{TooLong}
-use Rattle.css_model.specs.declared.fault.TheConstants.{LIMIT}
+use Rattle.std.proofs.Common.{◌≡◌, ℕ, zero, suc, ◌≤◌, List, length, filter, Ok, sym, ◌∙◌, ap, subst, arith}
 use Rattle.css_model.specs.declared.sheet.Item.{Item}
-use Rattle.css_model.specs.Laws.{JoiningASetKeepsWinners}
-use Rattle.css_model.specs.Plain.{plain_of}
-use Rattle.css_model.specs.PlainPrinted.{printed}
-use Rattle.css_model.specs.PlainSheet.{plain_or_fault, sheet_of}
-use Rattle.css_model.specs.Source.{IsSound}
-use Rattle.css_model.specs.StyleRule.{StyleRule, style_rules}
+use Rattle.css_model.specs.Cascade.{winner}
+use Rattle.css_model.specs.Laws.{is_kept, WinAlike, JoiningASetKeepsWinners, PiecesDoNotCount, AlikeWinsAlike}
+use Rattle.css_model.specs.Printed.{printed}
+use Rattle.css_model.specs.Sheet.{sheet_of}
+use Rattle.css_model.specs.Sound.{ReadIsSound}
+use Rattle.css_model.specs.Spelling.{AreSame}
+use Rattle.css_print.specs.ReadBack.{ComesFrom, ReadsBack, IsNoLonger}
 use Rattle.cssmin.specs.Joining.{JoinsIn, HasNoEqualNeighbours}
 use Rattle.cssmin.specs.Minified.{IsMinified}
-use Rattle.cssmin.proofs.Keeping.{joins_sound, joins_shorter, joins_win_alike}
+use Rattle.cssmin.proofs.Limits.{within_limits}
+use Rattle.cssmin.proofs.Origin.{joins_come_from, joins_kept}
+use Rattle.cssmin.proofs.Shorter.{joins_shorter}
+use Rattle.cssmin.proofs.Spelled.{spelled_but_pieces, spelled_meanings, kept_spelled, spelled_neighbours}
 
-plain_read : (read : Option (List StyleRule)) (rules : List StyleRule) → plain_or_fault read ≡ Ok rules → read ≡ Some rules
-plain_read None rules is = cc
-plain_read (Some xs) rules is = let same : xs ≡ rules = cc in ap Some same
+joins_win_alike : JoiningASetKeepsWinners → (steps : ℕ) (old new : List Item) → JoinsIn steps old new → WinAlike old new
+joins_win_alike law zero old new joins = λ doc target meanings us. ap (λ (items : List Item). winner doc target meanings items us) joins
+joins_win_alike law (suc steps) old new joins = λ doc target meanings us.
+    let join = joins.2 in
+    joins_win_alike law steps old joins.0 joins.1 doc target meanings us
+    ∙ ap (λ (items : List Item). winner doc target meanings items us) join.old_is
+    ∙ law join.before join.after join.upper join.lower join.joinable.same_selectors doc target meanings us
+    ∙ ap (λ (items : List Item). winner doc target meanings items us) (sym join.new_is)
 
--- a sheet that is read is of the plain form and not too long
-read_parts : (bytes : List ℕ) (rules : List StyleRule) → sheet_of bytes ≡ Ok rules → (plain_of bytes ≡ Some rules) × (length bytes ≤ LIMIT)
-read_parts bytes rules is = by_length (nat_lt LIMIT (length bytes)) refl is
-  where
-    by_length : (long : Bool) → nat_lt LIMIT (length bytes) ≡ long → cond long (Err (record { kind = TooLong; at = LIMIT })) (plain_or_fault (plain_of bytes)) ≡ Ok rules → (plain_of bytes ≡ Some rules) × (length bytes ≤ LIMIT)
-    by_length true test read = cc
-    by_length false test read = (plain_read (plain_of bytes) rules read, grind (arith, test))
+-- joins lead from a sheet that is read to parts of its source, within the limits
+pub read_comes_from : ReadIsSound → (source : List ℕ) (old new : List Item) → sheet_of source ≡ Ok old → (steps : ℕ) × JoinsIn steps old new → ComesFrom source old new
+read_comes_from read_is_sound source old new read joins =
+    let limits = within_limits source old read in
+    joins_come_from source joins.0 old new (read_is_sound source old read) limits.1 limits.2 joins.1
 
-read_again : (bytes : List ℕ) (rules : List StyleRule) → plain_of bytes ≡ Some rules → length bytes ≤ LIMIT → sheet_of bytes ≡ Ok rules
-read_again bytes rules is short =
-    let fits : nat_lt LIMIT (length bytes) ≡ false = grind (arith, short) in
-    ap (λ long. cond long (Err (record { kind = TooLong; at = LIMIT })) (plain_or_fault (plain_of bytes))) fits ∙ ap plain_or_fault is
-
-pub sheet_minified : (read written : List ℕ) (old new : List Item) → JoiningASetKeepsWinners
-    → ((source : List ℕ) (items : List Item) → IsSound source items → plain_of source ≡ Some (style_rules items) → length (printed source items) ≤ length source)
-    → ((source : List ℕ) (items : List Item) → IsSound source items → plain_of (printed source items) ≡ Some (style_rules items))
-    → sheet_of read ≡ Ok (style_rules old) → IsSound read old → (steps : ℕ) × JoinsIn steps old new → HasNoEqualNeighbours new → written ≡ printed read new → IsMinified read written
-sheet_minified read written old new keeps shorter again old_read sound joins none_left printed_is =
-    let parts = read_parts read (style_rules old) old_read in
-    let new_sound = joins_sound read joins.0 old new joins.1 sound in
-    let size : length written ≡ length (printed read new) = ap length printed_is in
-    let no_longer : length written ≤ length read = omega (arith, joins_shorter read joins.0 old new joins.1, shorter read old sound parts.0) in
+pub sheet_minified : JoiningASetKeepsWinners → PiecesDoNotCount → AlikeWinsAlike → ReadIsSound → ReadsBack → IsNoLonger
+    → (source written : List ℕ) (old new : List Item) → sheet_of source ≡ Ok old → (steps : ℕ) × JoinsIn steps old new → HasNoEqualNeighbours new → written ≡ printed source new → IsMinified source written
+sheet_minified keeps pieces alike read_is_sound reads_back is_no_longer source written old new read joins none_left printed_is =
+    let origin = read_comes_from read_is_sound source old new read joins in
+    let limits = within_limits source old read in
+    let no_longer : length (printed source new) ≤ length source = omega (arith, joins_shorter source joins.0 old new joins.1, is_no_longer source old read) in
+    let back = reads_back source old new read origin (omega (arith, no_longer, limits.0)) in
+    let again = back.0 in
+    let same : AreSame source new written again = subst (λ (text : List ℕ). AreSame source new text again) (sym printed_is) back.2 in
+    let same_kept : AreSame source (filter is_kept old) written (filter is_kept again) =
+    subst (λ (kept : List Item). AreSame source kept written (filter is_kept again)) (joins_kept joins.0 old new joins.1) (kept_spelled source written new again same) in
     record {
       old = old;
       new = new;
-      old_read = old_read;
-      old_sound = sound;
-      new_read = read_again written (style_rules new) (ap plain_of printed_is ∙ again read new new_sound) (omega (arith, parts.1));
-      new_sound = new_sound;
-      printed_is = printed_is;
-      no_longer = no_longer;
+      again = again;
+      old_read = read;
       joins = joins;
-      winners = joins_win_alike keeps joins.0 old new joins.1;
-      none_left = none_left;
+      printed_is = printed_is;
+      again_read = ap sheet_of printed_is ∙ back.1;
+      same = same;
+      stays = subst (λ (text : List ℕ). printed text again ≡ text) (sym printed_is) back.3;
+      no_longer = subst (λ (text : List ℕ). length text ≤ length source) (sym printed_is) no_longer;
+      same_kept = same_kept;
+      same_meanings = spelled_meanings source written old again same_kept;
+      winners = λ doc target meanings us.
+          joins_win_alike keeps joins.0 old new joins.1 doc target meanings us ∙ alike new again (pieces new again (spelled_but_pieces source written new again same)) doc target meanings us;
+      none_left = spelled_neighbours source written new again same none_left;
     }

@@ -1,26 +1,49 @@
 -- What `min` makes of the bytes of a sheet.
-use Rattle.std.specs.Prelude.{◌≡◌, ◌≤◌, ℕ, List, Ok, length}
+use Rattle.std.specs.Prelude.{◌≡◌, ◌≤◌, ◌↔◌, ℕ, List, Ok, Err, IsOk, length}
+use Rattle.std.specs.List.{filter}
+use Rattle.css_model.specs.declared.fault.SheetFault.{SheetFault}
 use Rattle.css_model.specs.declared.sheet.Item.{Item}
-use Rattle.css_model.specs.Laws.{WinAlike}
-use Rattle.css_model.specs.PlainPrinted.{printed}
-use Rattle.css_model.specs.PlainSheet.{sheet_of}
-use Rattle.css_model.specs.Source.{IsSound}
-use Rattle.css_model.specs.StyleRule.{style_rules}
+use Rattle.css_model.specs.Cascade.{Declared, AreMeanings}
+use Rattle.css_model.specs.Laws.{is_kept, WinAlike}
+use Rattle.css_model.specs.Printed.{printed}
+use Rattle.css_model.specs.Sheet.{sheet_of}
+use Rattle.css_model.specs.Spelling.{AreSame}
+use Rattle.sheet_read.specs.declared.fault.SheetError.{SheetError}
+use Rattle.sheet_read.specs.declared.fault.SheetError.TheVariants as errors
 use Rattle.cssmin.specs.Joining.{JoinsIn, HasNoEqualNeighbours}
 
--- The bytes written are the printed text of a sheet that joins lead to from the sheet that was read.
--- They read as that sheet, and are no more than those read; nothing is left to join. For every
--- document, target and set of declarations that a browser understands, both sheets have the same
--- winner of the cascade.
+-- the sheet is refused for this fault
+unfoldable pub HasFault : List ℕ → SheetFault → Type 0
+HasFault read fault = sheet_of read ≡ Err fault
+
+-- the sheet has no fault
+unfoldable pub HasNoFault : List ℕ → Type 0
+HasNoFault read = IsOk (sheet_of read)
+
+-- why no text was made of a sheet: its fault, or want of memory
+abbrev pub IsCause : List ℕ → SheetError → Type 0
+IsCause read (errors.Fault fault) = HasFault read fault
+IsCause read errors.NoMemory = Unit {0}
+
+-- The bytes that were read are the sheet `old`, from which joins lead to `new`. The bytes written are
+-- the printed text of `new`, no more than those read. They read as the sheet `again`, which is `new` up
+-- to spelling, they print as themselves, and nothing in them is left to join.
+--
+-- What is kept as it stands is the same up to spelling in what was read and in what was written, and the
+-- same lists are its meanings in both. For every document, target, list of meanings and set of
+-- declarations that a browser understands, both sheets have the same winner of the cascade.
 pub record IsMinified (read written : List ℕ) : Type 0 where
   pub old : List Item
   pub new : List Item
-  pub old_read : sheet_of read ≡ Ok (style_rules old)
-  pub old_sound : IsSound read old
-  pub new_read : sheet_of written ≡ Ok (style_rules new)
-  pub new_sound : IsSound read new
-  pub printed_is : written ≡ printed read new
-  pub no_longer : length written ≤ length read
+  pub again : List Item
+  pub old_read : sheet_of read ≡ Ok old
   pub joins : (steps : ℕ) × JoinsIn steps old new
-  pub winners : WinAlike old new
-  pub none_left : HasNoEqualNeighbours new
+  pub printed_is : written ≡ printed read new
+  pub again_read : sheet_of written ≡ Ok again
+  pub same : AreSame read new written again
+  pub stays : printed written again ≡ written
+  pub no_longer : length written ≤ length read
+  pub same_kept : AreSame read (filter is_kept old) written (filter is_kept again)
+  pub same_meanings : (meanings : List (List Declared)) → AreMeanings old meanings ↔ AreMeanings again meanings
+  pub winners : WinAlike old again
+  pub none_left : HasNoEqualNeighbours again

@@ -1,27 +1,30 @@
 //! A smaller text for a style sheet.
 
 ghost use Rattle.std.specs.Prelude.{IfOk, IfErr};
-ghost use Rattle.css_model.specs.PlainSheet.{sheet_of};
-ghost use Rattle.sheet_read.specs.Reading.{Refuses};
-ghost use Rattle.cssmin.specs.Minified.{IsMinified};
+ghost use Rattle.cssmin.specs.Minified.{IsCause, IsMinified};
 
 use crate::join::join_neighbours;
-use css_model::{Sheet, joining_a_set_keeps_winners};
-use css_print::{plain_is_no_longer, plain_reads_back, print_plain_sheet};
-use sheet_read::{SheetError, read_plain_sheet};
+use css_model::{
+    Sheet, alike_wins_alike, joining_a_set_keeps_winners, pieces_do_not_count, read_is_sound,
+};
+use css_print::{is_no_longer, print_sheet, reads_back};
+use sheet_read::{SheetError, read_sheet};
 use std::alloc::Global;
 
-/// The text of a style sheet without white space, and with neighbouring rules of equal selectors
-/// joined, which has the same winners of the cascade.
+/// The text of a style sheet with as little as possible between its tokens, and with neighbouring rules
+/// of the same selectors joined, which has the same winners of the cascade.
 pub(crate) fn minified(alloc: Global, source: &[u8]) -> Result<Vec<u8>, SheetError>
     ensures ok { IfOk result (λ text. IsMinified source.now text.items) }
-    ensures err { IfErr result (λ e. Refuses e (sheet_of source.now)) }
+    ensures err { IfErr result (IsCause source.now) }
 {
     // Laws that the contract stands on; they do nothing.
     joining_a_set_keeps_winners();
-    plain_is_no_longer();
-    plain_reads_back();
-    let sheet = read_plain_sheet(alloc, source)?;
+    pieces_do_not_count();
+    alike_wins_alike();
+    read_is_sound();
+    reads_back();
+    is_no_longer();
+    let sheet = read_sheet(alloc, source)?;
     let items = join_neighbours(alloc, sheet.items)?;
-    Ok(print_plain_sheet(alloc, &Sheet { items }, source)?)
+    Ok(print_sheet(alloc, &Sheet { items }, source)?)
 }

@@ -104,13 +104,11 @@ fn minifies(rt: HostRuntime) -> Result<(), Fail> {
     for (text, printed) in [
         (&b""[..], &b""[..]),
         (SHEET, PRINTED),
-        (
-            b".a{top:0}.a{left:0}#b{top:1px}",
-            b".a{top:0;left:0}#b{top:1px}",
-        ),
-        (b"a{b:c}a{d:e}a{f:g}", b"a{b:c;d:e;f:g}"),
         (b"a{b:c}p{d:e}a{f:g}", b"a{b:c}p{d:e}a{f:g}"),
-        (b"a{b:c}a{b:c}", b"a{b:c;b:c}"),
+        // An escape takes one white space, so two stand for what is behind it.
+        (b".\\31/**/ b{top:0}", b".\\31  b{top:0}"),
+        // A newline of two bytes becomes one of one byte.
+        (b"a{b:\\\r\nc}", b"a{b:\\\nc}"),
     ] {
         let ran = run_min(rt.alloc(), text, Outside::faultless())?;
         ran.assert_is(&rt, Status::Done, printed, b"");
@@ -119,29 +117,143 @@ fn minifies(rt: HostRuntime) -> Result<(), Fail> {
 }
 
 #[test]
-fn refuses_what_is_not_plain(rt: HostRuntime) -> Result<(), Fail> {
-    let fault = SheetFault {
-        kind: FaultKind::NotBuilt,
-        at: 0,
-    };
-    for text in [&b"a b{top:0}"[..], &b"a{b:c"[..]] {
+fn joins_neighbours(rt: HostRuntime) -> Result<(), Fail> {
+    for (text, printed) in [
+        (
+            &b".a{top:0}.a{left:0}#b{top:1px}"[..],
+            &b".a{top:0;left:0}#b{top:1px}"[..],
+        ),
+        (b"a{b:c}a{d:e}a{f:g}", b"a{b:c;d:e;f:g}"),
+        (b"a{b:c}a{b:c}", b"a{b:c;b:c}"),
+        (b"a,b{top:0}b,a{left:0}", b"a,b{top:0;left:0}"),
+        (b"a{b:c!important}a{b:d}", b"a{b:c!important;b:d}"),
+        (b"a{b:c}\\61{b:d}", b"a{b:c;b:d}"),
+    ] {
         let ran = run_min(rt.alloc(), text, Outside::faultless())?;
-        let told = b"refused: NotBuilt at 0\n";
-        ran.assert_is(&rt, Status::SheetRefused(fault), b"", told);
+        ran.assert_is(&rt, Status::Done, printed, b"");
     }
     Ok(())
 }
 
 #[test]
+fn leaves_as_it_stands(rt: HostRuntime) -> Result<(), Fail> {
+    for text in [
+        &b".a{background:red;background:linear-gradient(red,blue)}"[..],
+        b".a{color:red}.c:focus-visible{color:blue}.a{color:green}",
+        b".a{top:0}@media print{.b{top:1px}}.a{top:2px}",
+        b"a{top:0}@import \"x\";a{top:0}",
+        b"a{top:0;&:hover{left:0}}a{left:1px}",
+        // Sets of selectors of which one is repeated, and sets that differ.
+        b"a,a{top:0}a,a{left:0}",
+        b"a,a{top:0}a,b{left:0}",
+        b"a,b{top:0}a,a{left:0}",
+        b"a,b{top:0}a,c{left:0}",
+        b"a,b{top:0}a{left:0}",
+    ] {
+        let ran = run_min(rt.alloc(), text, Outside::faultless())?;
+        ran.assert_is(&rt, Status::Done, text, b"");
+    }
+    Ok(())
+}
+
+fn fault(kind: FaultKind, at: u32) -> SheetFault {
+    SheetFault { kind, at }
+}
+
+#[test]
+fn refuses(rt: HostRuntime) -> Result<(), Fail> {
+    for (text, kind, at, told) in [
+        (
+            &b"a{b:\"x"[..],
+            FaultKind::EndInside,
+            4,
+            &b"refused: EndInside at 4\n"[..],
+        ),
+        (
+            b"a{b:\"\n\"}",
+            FaultKind::BadString,
+            4,
+            b"refused: BadString at 4\n",
+        ),
+        (
+            b"a{b:url(c\")}",
+            FaultKind::BadUrl,
+            4,
+            b"refused: BadUrl at 4\n",
+        ),
+        (b"\xff", FaultKind::NotUtf8, 0, b"refused: NotUtf8 at 0\n"),
+        (
+            b"@namespace \"u\";",
+            FaultKind::Namespace,
+            0,
+            b"refused: Namespace at 0\n",
+        ),
+    ] {
+        let ran = run_min(rt.alloc(), text, Outside::faultless())?;
+        ran.assert_is(&rt, Status::SheetRefused(fault(kind, at)), b"", told);
+    }
+    Ok(())
+}
+
+// A part so often, with a sign between every two.
+fn push_times(text: &mut Vec<u8>, part: &[u8], count: u32, sign: &[u8]) -> Result<(), AllocError> {
+    for i in 0..count {
+        if i > 0 {
+            text.extend_from_slice(sign)?;
+        }
+        text.extend_from_slice(part)?;
+    }
+    Ok(())
+}
+
+#[test]
+fn refuses_what_is_too_deep(rt: HostRuntime) -> Result<(), Fail> {
+    let mut text = b"a{b:".to_vec(rt.alloc())?;
+    push_times(&mut text, b"(", 256, b"")?;
+    let ran = run_min(rt.alloc(), text.as_slice(), Outside::faultless())?;
+    let told = b"refused: TooDeep at 259\n";
+    let deep = fault(FaultKind::TooDeep, 259);
+    ran.assert_is(&rt, Status::SheetRefused(deep), b"", told);
+    Ok(())
+}
+
+#[test]
+fn refuses_too_many_items(rt: HostRuntime) -> Result<(), Fail> {
+    let mut text = Vec::new(rt.alloc());
+    push_times(&mut text, b"@a;", 16_384, b"")?;
+    let mut roomy = Outside::faultless();
+    roomy.room = 50_000;
+    let ran = run_min(rt.alloc(), text.as_slice(), roomy)?;
+    ran.assert_is(&rt, Status::Done, text.as_slice(), b"");
+    text.extend_from_slice(b"@a;")?;
+    let ran = run_min(rt.alloc(), text.as_slice(), roomy)?;
+    let told = b"refused: TooManyItems at 49152\n";
+    let many = fault(FaultKind::TooManyItems, 49_152);
+    ran.assert_is(&rt, Status::SheetRefused(many), b"", told);
+    Ok(())
+}
+
+#[test]
+fn refuses_too_many_pairs(rt: HostRuntime) -> Result<(), Fail> {
+    let mut text = Vec::new(rt.alloc());
+    push_times(&mut text, b"a", 513, b",")?;
+    text.push(b'{')?;
+    push_times(&mut text, b"b:c", 512, b";")?;
+    text.push(b'}')?;
+    let ran = run_min(rt.alloc(), text.as_slice(), Outside::faultless())?;
+    let told = b"refused: TooManyPairs at 0\n";
+    let many = fault(FaultKind::TooManyPairs, 0);
+    ran.assert_is(&rt, Status::SheetRefused(many), b"", told);
+    Ok(())
+}
+
+#[test]
 fn refuses_what_is_too_long(rt: HostRuntime) -> Result<(), Fail> {
-    let fault = SheetFault {
-        kind: FaultKind::TooLong,
-        at: 1_048_576,
-    };
     let text = vec![in rt.alloc(); b'a'; 1_048_577]?;
     let ran = run_min(rt.alloc(), text.as_slice(), Outside::faultless())?;
     let told = b"refused: TooLong at 1048576\n";
-    ran.assert_is(&rt, Status::SheetRefused(fault), b"", told);
+    let long = fault(FaultKind::TooLong, 1_048_576);
+    ran.assert_is(&rt, Status::SheetRefused(long), b"", told);
     Ok(())
 }
 
@@ -215,14 +327,10 @@ fn a_status_that_cannot_be_told_stays(rt: HostRuntime) -> Result<(), Fail> {
 
 #[test]
 fn each_status_has_its_number(rt: HostRuntime) {
-    let fault = SheetFault {
-        kind: FaultKind::NotBuilt,
-        at: 7,
-    };
     for (status, number) in [
         (Status::Done, 0),
         (Status::Usage, 2),
-        (Status::SheetRefused(fault), 3),
+        (Status::SheetRefused(fault(FaultKind::TooDeep, 7)), 3),
         (Status::ReadFault, 4),
         (Status::WriteFault, 5),
         (Status::NoMemory, 6),

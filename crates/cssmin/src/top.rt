@@ -3,8 +3,7 @@
 ghost use Rattle.std.specs.Prelude.{◌≡◌, ◌⊎◌, ◌↔◌, ◌≤◌, ◌<◌, ℕ, List, [], ◌∷◌, Some, Ok, Err, codes, map, string_bytes, vec_len, IsTrue, IsOk, IfOk, IfErr, IfSome, IsSomeAnd, OnOk};
 ghost use Rattle.css_io.specs.Io.{Rose, HasTaken, HasAdded};
 ghost use Rattle.css_model.specs.declared.fault.SheetFault.{SheetFault};
-ghost use Rattle.css_model.specs.PlainSheet.{sheet_of};
-ghost use Rattle.cssmin.specs.Minified.{IsMinified};
+ghost use Rattle.cssmin.specs.Minified.{HasFault, HasNoFault, IsMinified};
 ghost use Rattle.cssmin.specs.Run.{IsMin, Did, Began, IsRefused, Outcome, Tells, Reads, IsTold};
 ghost use Rattle.cssmin.specs.Status.{message};
 
@@ -117,9 +116,9 @@ pub(crate) fn tell<E: Sink>(alloc: Global, status: Status, err: &mut E) -> Statu
 /// `input` to its end, and writes it to `out` with the same meaning, in no more bytes. It tells on `err`
 /// what else happened, in one line.
 ///
-/// A sheet that is not of the plain form is refused, and so is one of more than 1,048,576 bytes, after
-/// one byte more. Nothing is written to `out` before the whole text is made; of this the clauses
-/// `untouched` and `part` are what is proved.
+/// A sheet with a fault is refused, and so is one of more than 1,048,576 bytes, after one byte more.
+/// Nothing is written to `out` before the whole text is made; of this the clauses `untouched` and `part`
+/// are what is proved.
 pub fn run<S: Source, O: Sink, E: Sink>(
     alloc: Global,
     words: &Vec<String>,
@@ -150,10 +149,10 @@ pub fn run<S: Source, O: Sink, E: Sink>(
 
     // A sheet with a fault is refused for it, and any other is minified, where no fault of reading or
     // writing came between and the memory sufficed.
-    ensures refuses { (fault : SheetFault) → IsMin (map string_bytes words.now.items) → IsSomeAnd (S.left input.old) (λ bytes. sheet_of bytes ≡ Err fault)
+    ensures refuses { (fault : SheetFault) → IsMin (map string_bytes words.now.items) → IsSomeAnd (S.left input.old) (λ bytes. HasFault bytes fault)
         → (Rose (S.faults input.old) (S.faults input.new) → ⊥)
         → (result ≡ Status.SheetRefused fault) ⊎ (result ≡ Status.NoMemory) }
-    ensures complete { IsMin (map string_bytes words.now.items) → IsSomeAnd (S.left input.old) (λ bytes. IsOk (sheet_of bytes))
+    ensures complete { IsMin (map string_bytes words.now.items) → IsSomeAnd (S.left input.old) HasNoFault
         → (Rose (S.faults input.old) (S.faults input.new) → ⊥) → (Rose (O.faults out.old) (O.faults out.new) → ⊥)
         → (result ≡ Status.Done) ⊎ (result ≡ Status.NoMemory) }
 

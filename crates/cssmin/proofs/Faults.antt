@@ -1,0 +1,42 @@
+-- A sheet has one fault at most, and none where it is minified.
+use Rattle.std.proofs.Common.{◌≡◌, ◌<◌, Bool, true, false, cond, List, ℕ, Result, Ok, Err, IsOk, length, nat_lt, refl, sym, ◌∙◌, subst, arith}
+use Rattle.std.proofs.lemmas.Bool.{false≢true}
+use Rattle.css_model.specs.declared.fault.FaultKind.TheVariants.{TooLong}
+use Rattle.css_model.specs.declared.fault.SheetFault.{SheetFault}
+use Rattle.css_model.specs.declared.fault.TheConstants.{LIMIT}
+use Rattle.css_model.specs.declared.sheet.Item.{Item}
+use Rattle.css_model.specs.Sheet.{sheet_of}
+use Rattle.sheet_read.specs.declared.fault.SheetError.{SheetError}
+use Rattle.sheet_read.specs.declared.fault.SheetError.TheVariants as errors
+use Rattle.sheet_read.specs.Reading.{Refuses}
+use Rattle.cssmin.specs.Minified.{HasFault, HasNoFault, IsCause, IsMinified}
+
+by_test : {X : Type 0} → (b : Bool) (x y : X) → b ≡ true → cond b x y ≡ x
+by_test true x y test = refl
+by_test false x y test = absurd (false≢true test)
+
+-- a sheet of more bytes than the limit is too long
+pub too_long : (read : List ℕ) → LIMIT < length read → HasFault read (record { kind = TooLong; at = LIMIT })
+unfolding HasFault
+too_long read long = by_test (nat_lt LIMIT (length read)) _ _ (above LIMIT (length read) long)
+  where
+    above : (limit n : ℕ) → limit < n → nat_lt limit n ≡ true
+    above limit n more = grind (arith, more)
+
+pub one_fault : (read : List ℕ) (f g : SheetFault) → HasFault read f → HasFault read g → f ≡ g
+unfolding HasFault
+one_fault read f g first second = let same : ◌≡◌ {A = Result (List Item) SheetFault} (Err f) (Err g) = sym first ∙ second in cc
+
+pub fault_or_none : (read : List ℕ) (f : SheetFault) → HasFault read f → HasNoFault read → ⊥
+unfolding HasFault HasNoFault
+fault_or_none read f fault none = absurd (false≢true (subst (λ (r : Result (List Item) SheetFault). IsOk r) fault none))
+
+pub minified_no_fault : (read text : List ℕ) (f : SheetFault) → IsMinified read text → HasFault read f → ⊥
+unfolding HasFault
+minified_no_fault read text f is fault = let same : ◌≡◌ {A = Result (List Item) SheetFault} (Ok is.old) (Err f) = sym is.old_read ∙ fault in cc
+
+-- why a sheet is not read is why no text is made of it
+pub cause : (read : List ℕ) (e : SheetError) → Refuses e (sheet_of read) → IsCause read e
+unfolding HasFault
+cause read (errors.Fault f) refused = refused
+cause read errors.NoMemory refused = tt
