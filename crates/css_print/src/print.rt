@@ -1,9 +1,8 @@
 //! The printed text of a style sheet and of its parts.
 
-ghost use Rattle.std.specs.Prelude.{ℕ, ◌≡◌, ◌≤◌, ◌==◌, ◌++◌, ◌^◌, ◌-◌, [], ◌∷◌, if◌then◌else◌, List, length, map, min, nat_eq, IfOk, OnOk};
-ghost use Rattle.std.specs.List.{AllByRecursion, flat_map, join_with_byte, starts_with};
-ghost use Rattle.css_model.specs.Tokens.{byte_order_mark};
-ghost use Rattle.css_model.specs.Printed.{printed_selector, printed_declaration, printed_rule, printed_item, behind_mark, printed};
+ghost use Rattle.std.specs.Prelude.{◌≡◌, ◌≤◌, ◌==◌, ◌^◌, ◌-◌, [], if◌then◌else◌, length, map, min, IfOk, OnOk};
+ghost use Rattle.std.specs.List.{AllByRecursion, flat_map, join_with_byte};
+ghost use Rattle.css_model.specs.Printed.{printed_selector, printed_declaration, printed_rule, printed_item, printed};
 ghost use Rattle.css_model.specs.Printed as spec;
 ghost use Rattle.css_model.specs.Sound.{IsSoundSelector, IsSoundDeclaration, IsSoundRule, IsSoundItem, IsSound};
 ghost use Rattle.css_model.specs.Spelling.{kept_text};
@@ -17,6 +16,7 @@ use css_model::{DeclItem, Item, Piece, Rule, SelItem, Sheet};
 use css_tokens::tokens_restart;
 use std::alloc::{AllocError, Global};
 
+/// Writes the kept text of a piece.
 fn put_kept<O: Output>(out: &mut O, piece: Piece, source: &[u8]) -> Result<(), O::Error>
     requires length { length source.now ≤ 1048576 }
     requires begins { BeginsAt source.now piece.start }
@@ -31,6 +31,7 @@ fn put_kept<O: Output>(out: &mut O, piece: Piece, source: &[u8]) -> Result<(), O
     Ok(())
 }
 
+/// Writes the tokens of a selector, with nothing between them.
 fn put_selector<O: Output>(out: &mut O, item: &SelItem, source: &[u8]) -> Result<(), O::Error>
     requires length { length source.now ≤ 1048576 }
     requires sound { IsSoundSelector source.now item.now }
@@ -44,6 +45,7 @@ fn put_selector<O: Output>(out: &mut O, item: &SelItem, source: &[u8]) -> Result
     Ok(())
 }
 
+/// What stands behind a value.
 fn importance(important: bool) -> &'static [u8]
     ensures { result.now ≡ spec.importance important }
 {
@@ -174,7 +176,7 @@ pub fn print_decl(alloc: Global, item: &DeclItem, source: &[u8]) -> Result<Vec<u
     Ok(out)
 }
 
-/// The printed text of a sheet that is sound for `source`, in memory that is taken once.
+/// The printed text of a sheet that is sound for `source`, in a buffer that is made at its length.
 pub fn print_sheet(alloc: Global, sheet: &Sheet, source: &[u8]) -> Result<Vec<u8>, AllocError>
     requires length { length source.now ≤ 1048576 }
     requires sound { IsSound source.now sheet.now.items }

@@ -362,3 +362,19 @@ fn open_escapes_are_told(rt: HostRuntime) {
     assert!(rt; !ends_open(b"\\31g"));
     assert!(rt; !ends_open(b"\"\\31\""));
 }
+
+#[test]
+fn tokens_begin_at_a_place(rt: HostRuntime) {
+    let source = b"/* a */ b\xEF\xBB\xBF";
+    let mut reader = Tokens::from_place(source, 8);
+    assert_eq!(rt;
+        reader.next(),
+        Ok(Some(token(TokenKind::Ident, 8, 12, false)))
+    );
+    assert_eq!(rt; reader.next(), Ok(None));
+    let mut reader = Tokens::from_place(source, 9);
+    assert_eq!(rt;
+        reader.next(),
+        Ok(Some(token(TokenKind::Ident, 9, 12, false)))
+    );
+}
