@@ -35,7 +35,7 @@ pub(crate) fn of_one_test(alloc: Global, test: Test) -> Result<Selector, AllocEr
         negated: false,
         test,
     })?;
-    let mut chain = Vec::new(alloc);
+    let mut chain = Vec::with_capacity(alloc, 1)?;
     chain.push(Compound { simples })?;
     Ok(Selector {
         chain,

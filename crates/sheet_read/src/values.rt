@@ -38,7 +38,8 @@ fn gap_text(source: &[u8], x: &Lexeme) -> &'static [u8]
     match x.gap {
         Gap::Nothing => b"",
         Gap::Comments => b"/**/",
-        Gap::White => { if is_open(source, x) { b"  " } else { b" " } }
+        Gap::White if is_open(source, x) => b"  ",
+        Gap::White => b" ",
     }
 }
 
