@@ -349,3 +349,20 @@ fn escapes_are_read_on_both_sides_of_each_limit(rt: HostRuntime) -> Result<(), F
     says(&rt, alloc, b"", &[])?;
     Ok(())
 }
+
+#[test]
+fn names_are_compared_without_case_once_their_escapes_are_read(rt: HostRuntime) {
+    for name in [
+        "import",
+        "IMPORT",
+        "\\69mport",
+        "im\\000050Ort",
+        "impor\\74 ",
+    ] {
+        assert!(rt; is_named(name.as_bytes(), b"import"), "{name}");
+    }
+    for name in ["", "impor", "imports", "\\30mport", "import\\", "ımport"] {
+        assert!(rt; !is_named(name.as_bytes(), b"import"), "{name}");
+    }
+    assert!(rt; is_named(b"", b""));
+}
