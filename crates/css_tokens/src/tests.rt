@@ -378,3 +378,20 @@ fn tokens_begin_at_a_place(rt: HostRuntime) {
         Ok(Some(token(TokenKind::Ident, 9, 12, false)))
     );
 }
+
+#[test]
+fn names_are_compared_without_case_once_their_escapes_are_read(rt: HostRuntime) {
+    for name in [
+        "import",
+        "IMPORT",
+        "\\69mport",
+        "im\\000050Ort",
+        "impor\\74 ",
+    ] {
+        assert!(rt; is_named(name.as_bytes(), b"import"), "{name}");
+    }
+    for name in ["", "impor", "imports", "\\30mport", "import\\", "ımport"] {
+        assert!(rt; !is_named(name.as_bytes(), b"import"), "{name}");
+    }
+    assert!(rt; is_named(b"", b""));
+}

@@ -1,5 +1,5 @@
 -- The items of lexemes, one after another.
-use Rattle.std.proofs.Common.{ℕ, zero, suc, ◌≡◌, ◌≤◌, ◌<◌, ◌+◌, ◌++◌, Bool, true, false, cond, List, [], ◌∷◌, length, take, drop, refl, sym, ap, ◌∙◌, get_or, append_assoc, arith, length-drop}
+use Rattle.std.proofs.Common.{ℕ, zero, suc, ◌≡◌, ◌≤◌, ◌<◌, ◌+◌, ◌++◌, Bool, true, false, cond, List, [], ◌∷◌, length, take, drop, refl, sym, ap, ◌∙◌, get_or, append_assoc, arith}
 use Rattle.std.specs.List.{filter, position_or_len}
 use Rattle.css_model.specs.declared.token.Lexeme.{Lexeme}
 use Rattle.css_model.specs.Items.{is_at_keyword, is_between_items, opens_block, closes_block, ends_prelude, end_len, item_len, items_from, items, is_whole}
@@ -61,10 +61,6 @@ whole_later [] d some h w = absurd (omega arith)
 whole_later (x ∷ xs) d some h w =
     let n = item_len (x ∷ xs) in
     ap (filter is_whole) (items_step x xs h) ∙ filter_false (take n (x ∷ xs)) (items (drop n (x ∷ xs))) w
-
-pub drop_shorter : (xs : List Lexeme) → 1 ≤ length xs → length (drop (item_len xs) xs) < length xs
-drop_shorter [] some = absurd (omega arith)
-drop_shorter (x ∷ xs) some = omega (arith, item_some x xs, length-drop (item_len (x ∷ xs)) (x ∷ xs))
 
 -- a list behind others, cut once more
 pub split_more : (all before rest front later : List Lexeme) → all ≡ before ++ rest → rest ≡ front ++ later → all ≡ before ++ front ++ later

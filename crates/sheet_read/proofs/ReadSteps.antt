@@ -53,10 +53,6 @@ any_count p (x ∷ xs) = which (p x) (any_count p xs) ∙ ap (ltb 0) (sym (sum_b
     which true h = sym (lt-ltb 0 (1 + count_by p xs) (omega arith))
     which false h = h ∙ ap (ltb 0) (sym (zero-add (count_by p xs)))
 
-pub namespace_here : (source : List ℕ) (raw later : List (List Lexeme)) (item : List Lexeme) → raw ≡ item ∷ later → is_namespace source item ≡ true
-    → namespace_at source raw ≡ Some (piece_of item).start
-namespace_here source raw later item is named = ap (namespace_at source) is ∙ rw named refl
-
 pub namespace_later : (source : List ℕ) (raw later : List (List Lexeme)) (item : List Lexeme) → raw ≡ item ∷ later → is_namespace source item ≡ false
     → namespace_at source raw ≡ namespace_at source later
 namespace_later source raw later item is named = ap (namespace_at source) is ∙ rw named refl

@@ -1,10 +1,10 @@
 -- The steps of reading a sheet, joined.
-use Rattle.std.proofs.Common.{ℕ, ◌≡◌, ◌≤◌, ◌<◌, ◌++◌, Bool, true, false, cond, List, [], ◌∷◌, length, Option, Some, None, Result, Ok, Err, refl, sym, ap, ◌∙◌, subst, lt-ltb, le-ltb}
+use Rattle.std.proofs.Common.{ℕ, ◌≡◌, ◌≤◌, ◌++◌, Bool, true, false, cond, List, [], ◌∷◌, length, Option, Some, None, Result, Ok, Err, refl, sym, ap, ◌∙◌, subst, le-ltb}
 use Rattle.std.specs.Prelude.{nat_lt}
 use Rattle.std.specs.Result.{is_ok}
 use Rattle.std.specs.Str.Lossy.{utf8_valid_len}
 use Rattle.std.proofs.lemmas.Bool.{false≢true}
-use Rattle.css_model.specs.declared.fault.FaultKind.TheVariants.{NotUtf8, TooLong, EndInside, TooDeep, Namespace, TooManyItems, TooManyPairs}
+use Rattle.css_model.specs.declared.fault.FaultKind.TheVariants.{NotUtf8, EndInside, TooDeep, Namespace, TooManyItems, TooManyPairs}
 use Rattle.css_model.specs.declared.fault.SheetFault.{SheetFault}
 use Rattle.css_model.specs.declared.fault.TheConstants.{LIMIT}
 use Rattle.css_model.specs.declared.sheet.Item.{Item}
@@ -67,9 +67,6 @@ not_too_long : (source : List ℕ) → length source ≤ LIMIT
     → sheet_of source ≡ cond (nat_lt (utf8_valid_len source) (length source)) (Err (record { kind = NotUtf8; at = utf8_valid_len source }))
     (sheet_of_stream source (tokens source true).fault (tokens source true).tokens)
 not_too_long source le = rw (le-ltb LIMIT (length source) le) refl
-
-pub too_long : (source : List ℕ) → LIMIT < length source → sheet_of source ≡ Err (record { kind = TooLong; at = LIMIT })
-too_long source lt = rw (lt-ltb LIMIT (length source) lt) refl
 
 pub sheet_of_read : (source : List ℕ) (ts : List Token) → length source ≤ LIMIT → tokens_of source ≡ Ok ts → sheet_of source ≡ sheet_of_tokens source ts
 sheet_of_read source ts le h =

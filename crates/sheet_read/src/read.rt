@@ -198,8 +198,8 @@ fn items_of(
 
 /// So many pairs and those of an item, or the greatest number where they are more.
 fn with_pairs_of(pairs: u64, item: &Item) -> u64
-    ensures few { pairs + spec.pairs_of item.now ≤ 262144 → result ≡ pairs + spec.pairs_of item.now }
-    ensures many { 262144 < pairs + spec.pairs_of item.now → 262144 < result }
+    ensures few { pairs + spec.pairs_of item.now ≤ PAIRS → result ≡ pairs + spec.pairs_of item.now }
+    ensures many { PAIRS < pairs + spec.pairs_of item.now → PAIRS < result }
 {
     match item {
         Item::Rule(rule) => {

@@ -96,6 +96,27 @@ const PAIRS: [(Repeated<'static>, &str); 4] = [
     ),
 ];
 
+/// Long sheets that are one long part.
+const PARTS: [(Repeated<'static>, &str); 9] = [
+    (&[("a,", 262_143), ("a{b:c}", 1)], "1 items"),
+    (&[("a,", 524_284), ("a{b:c}", 1)], "TooManyPairs at 0"),
+    (&[("a{", 1), ("b:c;", 262_143), ("}", 1)], "1 items"),
+    (&[("a{", 1), (";", 1_048_573), ("}", 1)], "0 items"),
+    (&[("a{b:", 1), ("1 ", 524_285), ("}", 1)], "1 items"),
+    (&[("a{b:", 1), ("!important", 104_857), ("}", 1)], "1 items"),
+    (&[("a{b:", 1), ("()", 524_285), ("}", 1)], "1 items"),
+    (&[("a/**/", 209_713), ("{b:c}", 1)], "1 items"),
+    (
+        &[("@a", 1), ("b{", 256), ("}", 256), ("<!--", 261_951)],
+        "1 items",
+    ),
+];
+
+#[test]
+fn reads_long_parts(rt: HostRuntime) -> Result<(), Fail> {
+    are_read(&rt, rt.alloc(), &PARTS)
+}
+
 #[test]
 fn reads_1048576_bytes(rt: HostRuntime) -> Result<(), Fail> {
     are_read(&rt, rt.alloc(), &BYTES)
