@@ -13,8 +13,6 @@ pub mod MatchingWords
 pub mod Keeping
 pub mod Members
 mod OrderExamples
-mod PlainExamples
-pub mod PlainLemmas
 pub mod Ranking
 pub mod Same
 mod SheetExamples

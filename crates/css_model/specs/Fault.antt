@@ -2,12 +2,11 @@
 use Rattle.std.specs.Prelude.{ℕ, List, ◌++◌, codes}
 use Rattle.std.specs.Fmt.{decimal}
 use Rattle.css_model.specs.declared.fault.FaultKind.{FaultKind}
-use Rattle.css_model.specs.declared.fault.FaultKind.TheVariants.{TooLong, NotBuilt, NotUtf8, BadString, BadUrl, EndInside, TooDeep, Namespace, TooManyItems, TooManyPairs}
+use Rattle.css_model.specs.declared.fault.FaultKind.TheVariants.{TooLong, NotUtf8, BadString, BadUrl, EndInside, TooDeep, Namespace, TooManyItems, TooManyPairs}
 use Rattle.css_model.specs.declared.fault.SheetFault.{SheetFault}
 
 abbrev pub name_of : FaultKind → List ℕ
 name_of TooLong = codes "TooLong"
-name_of NotBuilt = codes "NotBuilt"
 name_of NotUtf8 = codes "NotUtf8"
 name_of BadString = codes "BadString"
 name_of BadUrl = codes "BadUrl"

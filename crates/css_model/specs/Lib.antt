@@ -13,9 +13,6 @@ pub mod Lexemes
 pub mod Matching
 pub mod OptionHash
 pub mod Order
-pub mod Plain
-pub mod PlainPrinted
-pub mod PlainSheet
 pub mod Printed
 pub mod RuleParts
 pub mod Runs

@@ -20,8 +20,6 @@ pub const PAIRS: u32 = 262_144;
 pub enum FaultKind {
     /// The sheet has more than 1,048,576 bytes.
     TooLong,
-    /// The sheet is not of the plain form that is read today.
-    NotBuilt,
     /// The sheet is not UTF-8.
     NotUtf8,
     /// A newline stands inside a string, without a backslash before it.
@@ -46,7 +44,6 @@ impl fmt::Display for FaultKind {
     fn fmt<W: fmt::Write>(&self, f: &mut fmt::Formatter<W>) -> fmt::Result {
         f.write_str(match self {
             FaultKind::TooLong => "TooLong",
-            FaultKind::NotBuilt => "NotBuilt",
             FaultKind::NotUtf8 => "NotUtf8",
             FaultKind::BadString => "BadString",
             FaultKind::BadUrl => "BadUrl",

@@ -17,7 +17,7 @@ use Rattle.css_model.specs.Kept.{is_white_gap}
 use Rattle.css_model.specs.KeptRuleParts.{KeptRuleParts}
 use Rattle.css_model.specs.Lexemes.{is_sign_of, is_sign_at, piece_of}
 use Rattle.css_model.specs.Selectors.{of_one_test, simple_of, selector_item, before_all, all_of, selectors}
-use Rattle.css_model.specs.Sheet.{is_import, is_namespace, not_read, rule_or_block, item_of, read_items, rule_of}
+use Rattle.css_model.specs.Sheet.{is_import, is_namespace, not_read, rule_or_block, item_of, read_items}
 use Rattle.css_model.specs.Source.{text_at}
 use Rattle.css_model.specs.Spelling.{lexemes_of, tokens_in}
 use Rattle.css_model.specs.Unescaped.{decoded}

@@ -1,7 +1,7 @@
 -- The items of a printed sheet are read as the items of the sheet.
 use Rattle.std.proofs.Common.{◌≡◌, subst, ℕ, Bool, true, false, List, [], ◌∷◌, ◌++◌, length, drop, map, Option, Some, None, refl, sym, ◌∙◌, ap, arith, append-nil}
 use Rattle.std.specs.Prelude.{⊤, ◌&&◌, ◌||◌, if◌then◌else◌, codes}
-use Rattle.std.specs.List.{cons_option, AllZip, AllByRecursion, filter, find, list_any, flat_map}
+use Rattle.std.specs.List.{cons_option, AllZip, AllByRecursion, filter, find, list_any}
 use Rattle.std.specs.Str.{str_eq_ignore_ascii_case}
 use Rattle.css_model.specs.declared.sheet.Item.{Item}
 use Rattle.css_model.specs.declared.sheet.Item.TheVariants.{Rule, KeptRule, KeptBlock}
@@ -16,7 +16,6 @@ use Rattle.css_model.specs.Items.{is_at_keyword, item_len, items, is_at_rule, is
 use Rattle.css_model.specs.Kept.{solid, kept}
 use Rattle.css_model.specs.KeptRuleParts.{KeptRuleParts}
 use Rattle.css_model.specs.Lexemes.{piece_of}
-use Rattle.css_model.specs.RuleParts.{RuleParts}
 use Rattle.css_model.specs.Sheet.{is_at_rule_named, is_import, is_namespace, item_of, read_items}
 use Rattle.css_model.specs.Source.{text_at}
 use Rattle.css_model.specs.Spelling.{tokens_in, kept_text}

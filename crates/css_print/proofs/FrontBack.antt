@@ -1,48 +1,44 @@
 -- The printed text of a sheet is read back as the sheet.
-use Rattle.std.proofs.Common.{◌≡◌, ◌≢◌, ◌⊎◌, inl, inr, ℕ, zero, suc, ◌+◌, ◌<◌, ◌≤◌, ◌==◌, nat_eq, nat_lt, Bool, true, false, not, cond, List, [], ◌∷◌, ◌++◌, map, length, Option, Some, None, Result, Ok, Err, refl, sym, ◌∙◌, ap, subst, arith}
-use Rattle.std.specs.Prelude.{⊤, ◌&&◌, ◌||◌}
+use Rattle.std.proofs.Common.{◌≡◌, ℕ, ◌+◌, ◌≤◌, nat_eq, nat_lt, Bool, true, false, cond, List, [], ◌∷◌, length, Option, Some, None, Ok, Err, refl, sym, ap, subst, arith}
+use Rattle.std.specs.Prelude.{◌&&◌}
 use Rattle.std.specs.List.{AllByRecursion, find, flat_map, last_or, starts_with}
 use Rattle.std.specs.Option.{option_map}
 use Rattle.std.specs.Str.{IsUtf8}
 use Rattle.std.specs.Str.Lossy.{utf8_valid_len}
-use Rattle.std.proofs.lemmas.Bool.{false≢true, true≢false, and_parts, eqb-true, ltb-true, ltb-false, le-ltb}
-use Rattle.std.proofs.lemmas.List.{append-nil, append_assoc}
+use Rattle.std.proofs.lemmas.Bool.{false≢true, and_parts, eqb-true, ltb-true, ltb-false}
 use Rattle.std.proofs.lemmas.Str.{IsUtf8-append, utf8_valid_len-IsUtf8, utf8_valid_len_le}
 use Rattle.css_model.specs.declared.fault.FaultKind.TheVariants.{TooLong, NotUtf8}
-use Rattle.css_model.specs.declared.fault.SheetFault.{SheetFault}
-use Rattle.css_model.specs.declared.fault.TheConstants.{ITEMS, LIMIT, PAIRS}
-use Rattle.css_model.specs.declared.sheet.DeclItem.{DeclItem}
+use Rattle.css_model.specs.declared.fault.TheConstants.{LIMIT, PAIRS}
 use Rattle.css_model.specs.declared.sheet.Item.{Item}
 use Rattle.css_model.specs.declared.sheet.Item.TheVariants.{Rule, KeptRule, KeptBlock}
 use Rattle.css_model.specs.declared.token.Lexeme.{Lexeme}
-use Rattle.css_model.specs.declared.token.Token.{Token}
 use Rattle.css_model.specs.declared.token.TokenFault.{TokenFault}
 use Rattle.css_model.specs.declared.token.TokenKind.{TokenKind}
 use Rattle.css_model.specs.declared.token.TokenKind.TheVariants as kind
-use Rattle.css_model.specs.Characters.{close_curly, open_curly, semicolon, space}
+use Rattle.css_model.specs.Characters.{close_curly, semicolon, space}
 use Rattle.css_model.specs.Items.{closes_block, opens_block}
 use Rattle.css_model.specs.Lexemes.{is_sign_at, is_sign_of, piece_of}
 use Rattle.css_model.specs.Printed.{behind_mark, printed, printed_item}
-use Rattle.css_model.specs.Sheet.{is_namespace, namespace_at, pairs_of, read_items, sheet_of, sheet_of_stream, sheet_of_tokens, start_of, token_fault, too_deep, too_many_items, too_many_pairs, unclosed}
+use Rattle.css_model.specs.Sheet.{is_namespace, namespace_at, pairs_of, read_items, sheet_of, sheet_of_stream, sheet_of_tokens, start_of, too_deep, too_many_items, too_many_pairs, unclosed}
 use Rattle.css_model.specs.Sound.{IsSoundItem, raw_items}
 use Rattle.css_model.specs.Spelling.{lexemes_of, tokens_in}
-use Rattle.css_model.specs.Tokens.{Part, byte_order_mark, text_of, tokens}
+use Rattle.css_model.specs.Tokens.{byte_order_mark, text_of, tokens}
 use Rattle.css_tokens.proofs.Utf8Length.{whole_is_utf8}
-use Rattle.css_print.specs.ReadBack.{ComesFrom, ReadsBack, pair_count}
+use Rattle.css_print.specs.ReadBack.{ReadsBack, pair_count}
 use Rattle.css_print.proofs.BackCuts.{None_of}
-use Rattle.css_print.proofs.BackFaults.{DoFit, IsPrintOf, IsSameSheet, find_none, sheet_reads_back}
+use Rattle.css_print.proofs.BackFaults.{DoFit, IsPrintOf, find_none, sheet_reads_back}
 use Rattle.css_print.proofs.BackItems.{ends_in, ends_with_block, is_ended, is_nil}
 use Rattle.css_print.proofs.BackPlaces.{places_in_order}
 use Rattle.css_print.proofs.BackSheet.{AreInOrder, IsFrom, ends_itself}
 use Rattle.css_print.proofs.BackTokens.{item_shown, sheet_shown}
 use Rattle.css_print.proofs.BackWhole.{HasNoFault, in_order, no_map, read_from, tested}
 use Rattle.css_print.proofs.FrontChain.{chain-shown, parts_of}
-use Rattle.css_print.proofs.FrontGround.{Ground, ground, sheet-bytes}
-use Rattle.css_print.proofs.FrontLexed.{AreReadItems, IsEndedBySign, IsEndedItem, IsReadItem, IsSpelledBy, sheet-lexed}
-use Rattle.css_print.proofs.FrontPrint.{HasTokens, printed-tokens}
+use Rattle.css_print.proofs.FrontGround.{ground, sheet-bytes}
+use Rattle.css_print.proofs.FrontLexed.{AreReadItems, IsEndedBySign, IsEndedItem, IsSpelledBy, sheet-lexed}
+use Rattle.css_print.proofs.FrontPrint.{printed-tokens}
 use Rattle.css_print.proofs.FrontSheet.{IsFlatItem, sheet-chain}
 use Rattle.css_print.proofs.FrontSheetSound.{SoundItem, sound-item}
-use Rattle.css_print.proofs.FrontSource.{Source, kept-is-lexed}
+use Rattle.css_print.proofs.FrontSource.{kept-is-lexed}
 use Rattle.css_print.proofs.FrontTexts.{IsTextOfItem, sheet-text}
 use Rattle.css_print.proofs.FrontUtf8.{each-append, one-space, shown-utf8}
 
@@ -145,12 +141,12 @@ reads-back source old new e from short =
     let c = clean-of source old e in
     let ts = (tokens source true).tokens in
     let tests : HasNoFault (too_deep (lexemes_of source)) (unclosed ts) (namespace_at source (raw_items source)) (too_many_items (read_items source (raw_items source)))
-            (too_many_pairs 0 (read_items source (raw_items source))) (read_items source (raw_items source)) old =
-        tested (too_deep (lexemes_of source)) (unclosed ts) (namespace_at source (raw_items source)) (too_many_items (read_items source (raw_items source)))
-            (too_many_pairs 0 (read_items source (raw_items source))) (read_items source (raw_items source)) old c.reads in
+    (too_many_pairs 0 (read_items source (raw_items source))) (read_items source (raw_items source)) old =
+    tested (too_deep (lexemes_of source)) (unclosed ts) (namespace_at source (raw_items source)) (too_many_items (read_items source (raw_items source)))
+    (too_many_pairs 0 (read_items source (raw_items source))) (read_items source (raw_items source)) old c.reads in
     let g = ground source c.clean c.utf8 tests.no_unclosed in
     let names : None_of (is_namespace source) (raw_items source) =
-        find_none (is_namespace source) (raw_items source) (no_map (λ item. (piece_of item).start) (find (is_namespace source) (raw_items source)) tests.no_namespace) in
+    find_none (is_namespace source) (raw_items source) (no_map (λ item. (piece_of item).start) (find (is_namespace source) (raw_items source)) tests.no_namespace) in
     let sheet = read_from source old g.good e in
     let order = in_order source new old from.follows sheet.order in
     let each = each-is (IsSoundItem source) (SoundItem source) new (sound-item source g names) from.sound in
@@ -164,13 +160,13 @@ reads-back source old new e from short =
     let has = printed-tokens ps shown_ text spells lexed (chain-shown [] shown_ chain.chain) chain in
     let utf8 : IsUtf8 (printed source new) = marked-utf8 text (subst IsUtf8 (sym spells) (shown-utf8 shown_ (sheet-utf8 source new each))) in
     let print : IsPrintOf (printed source new) source new = record {
-        short = short;
-        valid = (let same = utf8_valid_len-IsUtf8 (printed source new) utf8 in omega (arith, same));
-        clean = has.clean;
-        closed = ap (λ bs. option_map (λ b. b.at) (last_or None bs)) has.open_none;
-        ascending = (places_in_order (printed source new) (sheet-bytes (printed source new) has.clean)).0;
-        shown_as = has.shown_as
-      } in
+      short = short;
+      valid = (let same = utf8_valid_len-IsUtf8 (printed source new) utf8 in omega (arith, same));
+      clean = has.clean;
+      closed = ap (λ bs. option_map (λ b. b.at) (last_or None bs)) has.open_none;
+      ascending = (places_in_order (printed source new) (sheet-bytes (printed source new) has.clean)).0;
+      shown_as = has.shown_as;
+    } in
     let fit : DoFit new = record { items = from.few_items; pairs = pairs-fit 0 new (omega (arith, from.few_pairs)) } in
     let same = sheet_reads_back (printed source new) source new (each-is (SoundItem source) (IsFrom source) new (λ x h. h.from) each) order fit sheet.shallow print in
     (same.read, same.reads, sym same.says, same.prints)

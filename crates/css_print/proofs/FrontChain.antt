@@ -62,7 +62,7 @@ chain-shown cs [] chain = refl
 chain-shown cs (s ∷ ss) (solid, level, told, chain) =
     cond-false _ _ _ solid
     ∙ ap (λ (g : Gap). record { kind = s.kind; bytes = s.bytes; gap = g; level = length cs } ∷ shown_parts (closers_after s.kind cs) (gap_parts s.kind s.gap ++ parts_of ss))
-        (gap-told s.kind s.gap (closers_after s.kind cs) ss told chain)
+    (gap-told s.kind s.gap (closers_after s.kind cs) ss told chain)
     ∙ ap (λ (n : ℕ). record { kind = s.kind; bytes = s.bytes; gap = s.gap; level = n } ∷ shown_parts (closers_after s.kind cs) (gap_parts s.kind s.gap ++ parts_of ss)) (sym level)
     ∙ ap (λ (more : List Shown). s ∷ more) (gap-passed s.kind s.gap (closers_after s.kind cs) ss ∙ chain-shown (closers_after s.kind cs) ss chain)
 

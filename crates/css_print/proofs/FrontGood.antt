@@ -1,34 +1,26 @@
 -- The tokens of a source stand in order, and white space behind them closes their escapes.
-use Rattle.std.proofs.Common.{◌≡◌, ◌≢◌, ◌⊎◌, inl, inr, ℕ, zero, suc, ◌+◌, ◌<◌, ◌≤◌, ◌==◌, Bool, true, false, not, cond, nat_eq, List, [], ◌∷◌, ◌++◌, map, length, take, drop, Option, Some, None, Result, Ok, refl, sym, ◌∙◌, ap, subst, arith}
-use Rattle.std.specs.Prelude.{⊤}
-use Rattle.std.specs.List.{AllByRecursion, starts_with}
-use Rattle.std.proofs.lemmas.Bool.{false≢true, true≢false}
+use Rattle.std.proofs.Common.{◌≡◌, ◌⊎◌, inl, inr, ℕ, suc, Bool, true, false, List, [], ◌∷◌, ◌++◌, length, Some, Ok, refl, sym, ◌∙◌, ap, subst}
+use Rattle.std.proofs.lemmas.Bool.{false≢true}
 use Rattle.std.proofs.lemmas.List.{append-nil}
 use Rattle.css_model.specs.declared.token.Lexeme.{Lexeme}
 use Rattle.css_model.specs.declared.token.TokenKind.{TokenKind}
 use Rattle.css_model.specs.declared.token.TokenKind.TheVariants as kind
 use Rattle.css_model.specs.Characters.{backslash, space}
-use Rattle.css_model.specs.Kept.{is_lone, is_open, solid}
+use Rattle.css_model.specs.Kept.{is_lone, is_open}
 use Rattle.css_model.specs.Lexemes.{is_white_kind}
 use Rattle.css_model.specs.Source.{text_at}
-use Rattle.css_model.specs.Spelling.{lexemes_of}
 use Rattle.css_model.specs.TokenAt.{part_at}
-use Rattle.css_model.specs.Tokens.{Part, byte_order_mark, parts, text_of}
-use Rattle.css_tokens.specs.Lexed.{IsLexed}
 use Rattle.css_tokens.specs.Open.{IsRead}
 use Rattle.css_tokens.proofs.EndsLemmas.{ends_nil, is_plain}
 use Rattle.css_tokens.proofs.FirstBytes.{delim-text}
 use Rattle.css_tokens.proofs.OpenTokens.{space_closes, space_ends}
-use Rattle.css_tokens.proofs.PartLemmas.{part_len}
 use Rattle.css_tokens.proofs.RulesAgain.{part_again}
 use Rattle.css_tokens.proofs.SolidFacts.{lone_is}
-use Rattle.css_print.proofs.BackAlike.{AreClosable, IsClosable}
+use Rattle.css_print.proofs.BackAlike.{IsClosable}
 use Rattle.css_print.proofs.BackNames.{IsNamed, has_name, is_closable}
-use Rattle.css_print.proofs.BackOrigins.{HasGoodTokens}
-use Rattle.css_print.proofs.BackPlaces.{HaveBytes, parts_of_sheet, places_in_order}
 use Rattle.css_print.proofs.BackValues.{IsShut}
 use Rattle.css_print.proofs.FrontLexed.{IsReadAs}
-use Rattle.css_print.proofs.FrontSource.{IsGoodLexeme, Source, good-lexemes}
+use Rattle.css_print.proofs.FrontSource.{IsGoodLexeme}
 
 lone-shut : IsShut (backslash ∷ [])
 lone-shut open_ = refl
@@ -49,7 +41,7 @@ named-of v k solid_ other plain read =
     let here : IsRead v [] k = record { no_white = solid_; no_lone = other; read = alone } in
     record {
       alone = sym (ap part_at (append-nil v)) ∙ alone;
-      near = which here (is_open v) refl
+      near = which here (is_open v) refl;
     }
   where
     which : IsRead v [] k → (b : Bool) → is_open v ≡ b → (part_at (v ++ space ∷ space ∷ []) ≡ Ok (Some k, length v)) ⊎ (part_at (v ++ space ∷ space ∷ []) ≡ Ok (Some k, suc (length v)))

@@ -1,35 +1,27 @@
 -- What a source without a fault gives its items.
-use Rattle.std.proofs.Common.{◌≡◌, ◌≢◌, ◌⊎◌, inl, inr, ℕ, zero, suc, ◌+◌, ◌-◌, ◌<◌, ◌≤◌, ◌==◌, Bool, true, false, not, cond, nat_eq, get_or, List, [], ◌∷◌, ◌++◌, map, length, take, drop, Option, Some, None, Result, Ok, refl, sym, ◌∙◌, ap, subst, arith}
-use Rattle.std.specs.Prelude.{⊤, ◌&&◌}
-use Rattle.std.specs.List.{AllByRecursion, Contains, after_first, before_first, filter, find, last_or, position_or_len, starts_with}
+use Rattle.std.proofs.Common.{◌≡◌, ℕ, zero, suc, ◌+◌, ◌<◌, Bool, true, false, cond, nat_eq, get_or, List, [], ◌∷◌, ◌++◌, length, drop, Option, Some, None, refl, sym, ◌∙◌, ap, subst, arith}
+use Rattle.std.specs.List.{AllByRecursion, Contains, filter, last_or, starts_with}
 use Rattle.std.specs.Str.{IsUtf8}
 use Rattle.std.specs.Option.{option_map}
-use Rattle.std.proofs.lemmas.Bool.{false≢true, true≢false, and_parts, eqb-true, cond-true, cond-false}
-use Rattle.std.proofs.lemmas.List.{append-nil, append_assoc}
+use Rattle.std.proofs.lemmas.Bool.{cond-true, cond-false}
 use Rattle.css_model.specs.declared.token.Bracket.{Bracket}
 use Rattle.css_model.specs.declared.token.Lexeme.{Lexeme}
-use Rattle.css_model.specs.declared.token.TokenFlaw.{TokenFlaw}
-use Rattle.css_model.specs.declared.token.TokenKind.{TokenKind}
-use Rattle.css_model.specs.Items.{block, closes_block, entries, is_whole, items, opens_block, selector_parts}
-use Rattle.css_model.specs.Lexemes.{after_all, lexemes, lexemes_in}
-use Rattle.css_model.specs.Sheet.{is_namespace, unclosed}
+use Rattle.css_model.specs.Items.{is_whole, items}
+use Rattle.css_model.specs.Lexemes.{after_all}
+use Rattle.css_model.specs.Sheet.{unclosed}
 use Rattle.css_model.specs.Sound.{raw_items}
-use Rattle.css_model.specs.Source.{text_at}
 use Rattle.css_model.specs.Spelling.{lexemes_of}
 use Rattle.css_model.specs.Tokens.{Part, Stream, byte_order_mark, parts, stream, text_of, tokens}
 use Rattle.css_tokens.specs.Lexed.{IsLexed}
 use Rattle.css_tokens.proofs.LexedLemmas.{parts_are_lexed}
 use Rattle.css_tokens.proofs.PartLemmas.{part_len}
-use Rattle.css_print.proofs.BackAlike.{AreClosable, IsClosable}
-use Rattle.css_print.proofs.BackCuts.{None_of}
-use Rattle.css_print.proofs.BackJoins.{StandsIn, stands_inside, stands_whole}
-use Rattle.css_print.proofs.BackOrigins.{HasGoodTokens, stand_alone_in}
-use Rattle.css_print.proofs.BackParts.{IsPart, each_inside, none_before, split_stands, stands_dropped, stands_taken}
+use Rattle.css_print.proofs.BackAlike.{AreClosable}
+use Rattle.css_print.proofs.BackOrigins.{HasGoodTokens}
 use Rattle.css_print.proofs.BackPlaces.{HaveBytes, parts_of_sheet, places_in_order}
-use Rattle.css_print.proofs.BackRaw.{AreRawItems, IsRawItem, raw_stand}
+use Rattle.css_print.proofs.BackRaw.{AreRawItems, raw_stand}
 use Rattle.css_print.proofs.BackSource.{all_closed}
 use Rattle.css_print.proofs.FrontGood.{closable-of}
-use Rattle.css_print.proofs.FrontItems.{IsEntryFrom, IsItemOf, IsPartOf, entries-are, items-of}
+use Rattle.css_print.proofs.FrontItems.{IsItemOf, items-of}
 use Rattle.css_print.proofs.FrontLevels.{AreLeveled, lexemes-leveled, lexemes-open, open_behind}
 use Rattle.css_print.proofs.FrontParts.{closers_after, closers_of}
 use Rattle.css_print.proofs.FrontSource.{IsGoodLexeme, Source, clean-flaw, good-lexemes, source-of}
@@ -96,7 +88,7 @@ ground source clean utf8 closed =
       good = record { ascending = places.0; spaced = places.1; closable = closable-all source [] (lexemes_of source) leveled each };
       each = each;
       items = filtered (IsItemOf (lexemes_of source)) is_whole (items (lexemes_of source)) (items-of (length (lexemes_of source)) (lexemes_of source) [] (lexemes_of source) (omega arith) refl leveled ends);
-      raw = raw_stand (lexemes_of source) (all_closed ts closed)
+      raw = raw_stand (lexemes_of source) (all_closed ts closed);
     }
   where
     no-map : (b : Option Bracket) → option_map (λ b. b.at) b ≡ None → b ≡ None

@@ -54,11 +54,12 @@ items-of (suc fuel) all before (x ∷ xs) short are leveled ended = which (is_be
   where
     Walk : Type 0
     Walk = (front rest : List Lexeme) → length rest ≤ fuel → all ≡ front ++ rest → AreLeveled [] rest → open_behind [] rest ≡ [] → AllByRecursion (IsItemOf all) (items_from 0 rest)
+
     which : (b : Bool) → is_between_items x.kind ≡ b → ((front rest : List Lexeme) → length rest ≤ fuel → all ≡ front ++ rest → AreLeveled [] rest → open_behind [] rest ≡ [] → AllByRecursion (IsItemOf all) (items_from 0 rest))
         → AllByRecursion (IsItemOf all) (cond b (items_from 0 xs) (take (item_len (x ∷ xs)) (x ∷ xs) ∷ items_from (less_one (item_len (x ∷ xs))) xs))
     which true is walk =
         walk (before ++ x ∷ []) xs (omega arith) (are ∙ sym (append_assoc before (x ∷ []) xs))
-          (subst (λ cs. AreLeveled cs xs) (between-stays x is) leveled.2) (ap (λ cs. open_behind cs xs) (sym (between-stays x is)) ∙ ended)
+        (subst (λ cs. AreLeveled cs xs) (between-stays x is) leveled.2) (ap (λ cs. open_behind cs xs) (sym (between-stays x is)) ∙ ended)
     which false is walk =
         let s = split-at (is_at_keyword x.kind) (x ∷ xs) leveled ended in
         let parts = leveled-append [] s.item s.rest (subst (AreLeveled []) s.are leveled) in
@@ -66,13 +67,14 @@ items-of (suc fuel) all before (x ∷ xs) short are leveled ended = which (is_be
         let rest_ends : open_behind [] s.rest ≡ [] = ap (λ cs. open_behind cs s.rest) (sym s.ends) ∙ sym (open-append [] s.item s.rest) ∙ ap (open_behind []) (sym s.are) ∙ ended in
         let front : take (item_len (x ∷ xs)) (x ∷ xs) ≡ s.item = ap (λ (n : ℕ). take n (x ∷ xs)) s.size ∙ ap (take (length s.item)) s.are ∙ take-append_seam s.item s.rest in
         let later : drop (less_one (item_len (x ∷ xs))) xs ≡ s.rest =
-            drop-less (item_len (x ∷ xs)) (let e = s.size in omega (arith, some, e)) ∙ ap (λ (n : ℕ). drop n (x ∷ xs)) s.size ∙ ap (drop (length s.item)) s.are ∙ drop-append_seam s.item s.rest in
-        (subst (IsItemOf all) (sym front) (record { before = before; behind = s.rest; are = are ∙ ap (λ (ys : List Lexeme). before ++ ys) s.are; leveled = parts.0; ends = s.ends }),
-         subst (AllByRecursion (IsItemOf all)) (sym (items-drop (less_one (item_len (x ∷ xs))) xs ∙ ap (items_from 0) later))
-           (walk (before ++ s.item) s.rest
-             (let e : length (x ∷ xs) ≡ length (s.item ++ s.rest) = ap length s.are in omega (arith, e, some, length-append s.item s.rest))
-             (are ∙ ap (λ (ys : List Lexeme). before ++ ys) s.are ∙ sym (append_assoc before s.item s.rest))
-             (subst (λ cs. AreLeveled cs s.rest) s.ends parts.1) rest_ends))
+        drop-less (item_len (x ∷ xs)) (let e = s.size in omega (arith, some, e)) ∙ ap (λ (n : ℕ). drop n (x ∷ xs)) s.size ∙ ap (drop (length s.item)) s.are ∙ drop-append_seam s.item s.rest in (
+          subst (IsItemOf all) (sym front) (record { before = before; behind = s.rest; are = are ∙ ap (λ (ys : List Lexeme). before ++ ys) s.are; leveled = parts.0; ends = s.ends }),
+          subst (AllByRecursion (IsItemOf all)) (sym (items-drop (less_one (item_len (x ∷ xs))) xs ∙ ap (items_from 0) later))
+              (walk (before ++ s.item) s.rest
+              (let e : length (x ∷ xs) ≡ length (s.item ++ s.rest) = ap length s.are in omega (arith, e, some, length-append s.item s.rest))
+              (are ∙ ap (λ (ys : List Lexeme). before ++ ys) s.are ∙ sym (append_assoc before s.item s.rest))
+              (subst (λ cs. AreLeveled cs s.rest) s.ends parts.1) rest_ends),
+        )
       where
         drop-less : (n : ℕ) → 0 < n → drop (less_one n) xs ≡ drop n (x ∷ xs)
         drop-less zero some = absurd (omega arith)
@@ -101,14 +103,14 @@ block-is item leveled ended = which (found opens_block item)
         let signs : closers_after f.first.kind (open_behind [] f.front) ≡ close_curly ∷ [] = ap (closers_after f.first.kind) none ∙ curly-opens f.first.kind opens.0 in
         let behind : AreLeveled (close_curly ∷ []) f.rest = subst (λ cs. AreLeveled cs f.rest) signs parts.1.2 in
         let all_ : open_behind (close_curly ∷ []) f.rest ≡ [] =
-            ap (λ cs. open_behind cs f.rest) (sym signs) ∙ sym (open-append [] f.front (f.first ∷ f.rest)) ∙ ap (open_behind []) (sym f.are) ∙ ended in
+        ap (λ cs. open_behind cs f.rest) (sym signs) ∙ sym (open-append [] f.front (f.first ∷ f.rest)) ∙ ap (open_behind []) (sym f.are) ∙ ended in
         let c = block-closes (close_curly ∷ []) f.rest ([], refl) behind all_ in
         let rest : after_first opens_block item ≡ f.rest =
-            ap (λ (n : ℕ). drop (n + 1) item) f.at ∙ ap (λ (ys : List Lexeme). drop (length f.front + 1) ys) f.are
-            ∙ drop-one f.front f.first f.rest in
+        ap (λ (n : ℕ). drop (n + 1) item) f.at ∙ ap (λ (ys : List Lexeme). drop (length f.front + 1) ys) f.are
+        ∙ drop-one f.front f.first f.rest in
         let inner : before_first closes_block f.rest ≡ c.front = ap (λ (n : ℕ). take n f.rest) c.at ∙ ap (take (length c.front)) c.are ∙ take-append_seam c.front (c.close ∷ c.rest) in
         subst IsBlock (sym (ap (before_first closes_block) rest ∙ inner))
-          (record { leveled = (leveled-append (close_curly ∷ []) c.front (c.close ∷ c.rest) (subst (AreLeveled (close_curly ∷ [])) c.are behind)).0; ends = c.block; stays = c.stays })
+        (record { leveled = (leveled-append (close_curly ∷ []) c.front (c.close ∷ c.rest) (subst (AreLeveled (close_curly ∷ [])) c.are behind)).0; ends = c.block; stays = c.stays })
       where
         drop-one : (front : List Lexeme) (x : Lexeme) (rest : List Lexeme) → drop (length front + 1) (front ++ x ∷ rest) ≡ rest
         drop-one front x rest = drop-append-add front (x ∷ rest) 1
@@ -138,14 +140,16 @@ entries-from : (cs : List ℕ) (xs : List Lexeme) → IsInBlock cs → AreLevele
 entries-from cs [] inside leveled ended stays = (record { leveled = tt; ends = ended }, tt)
 entries-from cs (x ∷ xs) inside (solid, level, leveled) ended (open_, stays) =
     which (is_sign_at semicolon 1 x) refl (slice_split (is_sign_at semicolon 1) xs)
-      (entries-from (closers_after x.kind cs) xs (stays-in x cs inside level open_) leveled ended stays)
+    (entries-from (closers_after x.kind cs) xs (stays-in x cs inside level open_) leveled ended stays)
   where
     put : (parts : List (List Lexeme)) → EntriesFrom (closers_after x.kind cs) parts → EntriesFrom cs (onto_first x parts)
     put [] h = absurd h
     put (first ∷ others) (one, rest) = (record { leveled = (solid, level, one.leveled); ends = one.ends }, rest)
+
     all_ : (parts : List (List Lexeme)) → EntriesFrom (close_curly ∷ []) parts → AllByRecursion (IsEntryFrom (close_curly ∷ [])) parts
     all_ [] h = tt
     all_ (first ∷ others) h = h
+
     which : (b : Bool) → is_sign_at semicolon 1 x ≡ b → (parts : List (List Lexeme)) → EntriesFrom (closers_after x.kind cs) parts
         → EntriesFrom cs (cond b ([] ∷ parts) (onto_first x parts))
     which true is parts h =
@@ -171,11 +175,12 @@ pub record IsPartOf (all xs : List Lexeme) : Type 0 where
 
 pub part-in-part : (all xs ys : List Lexeme) → IsPartOf all xs → IsPartOf xs ys → IsPartOf all ys
 part-in-part all xs ys p q = record {
-    before = p.before ++ q.before; behind = q.behind ++ p.behind;
-    are = p.are ∙ ap (λ (zs : List Lexeme). p.before ++ (zs ++ p.behind)) q.are
-        ∙ ap (λ (zs : List Lexeme). p.before ++ zs) (append_assoc q.before (ys ++ q.behind) p.behind ∙ ap (λ (zs : List Lexeme). q.before ++ zs) (append_assoc ys q.behind p.behind))
-        ∙ sym (append_assoc p.before q.before (ys ++ (q.behind ++ p.behind)))
-  }
+  before = p.before ++ q.before;
+  behind = q.behind ++ p.behind;
+  are = p.are ∙ ap (λ (zs : List Lexeme). p.before ++ (zs ++ p.behind)) q.are
+      ∙ ap (λ (zs : List Lexeme). p.before ++ zs) (append_assoc q.before (ys ++ q.behind) p.behind ∙ ap (λ (zs : List Lexeme). q.before ++ zs) (append_assoc ys q.behind p.behind))
+      ∙ sym (append_assoc p.before q.before (ys ++ (q.behind ++ p.behind)));
+}
 
 pub part-take : (n : ℕ) (xs : List Lexeme) → IsPartOf xs (take n xs)
 part-take n xs = record { before = []; behind = drop n xs; are = sym (take-append-drop n xs) }
@@ -198,6 +203,7 @@ split-parts p (x ∷ xs) = which (p x) (slice_split p xs) (split-parts p xs)
     more : (parts : List (List Lexeme)) → AllByRecursion (IsPartOf xs) parts → AllByRecursion (IsPartOf (x ∷ xs)) parts
     more [] h = tt
     more (part ∷ parts) (one, rest) = (part-more x xs part one, more parts rest)
+
     which : (b : Bool) (parts : List (List Lexeme)) → FirstAndParts xs parts → FirstAndParts (x ∷ xs) (cond b ([] ∷ parts) (onto_first x parts))
     which b [] h = absurd h
     which true (first ∷ others) ((rest, is), h) =

@@ -33,8 +33,11 @@ lexemes-leveled brackets (t ∷ ts) = which (is_white_kind t.kind) refl (λ bs. 
     which : (b : Bool) → is_white_kind t.kind ≡ b → ((bs : List Bracket) → AreLeveled (closers_of bs) (lexemes_in bs ts))
         → AreLeveled (closers_of brackets) (cond b (lexemes_in brackets ts) (lexeme (length brackets) t ts ∷ lexemes_in (after t brackets) ts))
     which true is later = later brackets
-    which false is later = (is, sym (length-closers brackets),
-      subst (λ cs. AreLeveled cs (lexemes_in (after t brackets) ts)) (closers-same t.kind t.span t.comment_before brackets) (later (after t brackets)))
+    which false is later = (
+      is,
+      sym (length-closers brackets),
+      subst (λ cs. AreLeveled cs (lexemes_in (after t brackets) ts)) (closers-same t.kind t.span t.comment_before brackets) (later (after t brackets)),
+    )
 
 white-after : (k : TokenKind) → is_white_kind k ≡ true → (at : ℕ) (brackets : List Bracket)
     → cond (closes k brackets) (drop 1 brackets) (opened at (closer_of k) brackets) ≡ brackets
@@ -79,12 +82,15 @@ stays-in x cs (inner, is) level stays = subst (λ signs. IsInBlock (closers_afte
     push : (o : Option ℕ) (inner : List ℕ) → IsInBlock (opened_by o (inner ++ close_curly ∷ []))
     push None inner = (inner, refl)
     push (Some c) inner = (c ∷ inner, refl)
+
     outer : (b : Bool) → b ≡ false → (o : Option ℕ) → IsInBlock (cond b [] (opened_by o (close_curly ∷ [])))
     outer true e o = absurd (true≢false e)
     outer false e o = push o []
+
     within : (b : Bool) (o : Option ℕ) (c : ℕ) (inner : List ℕ) → IsInBlock (cond b (inner ++ close_curly ∷ []) (opened_by o (c ∷ (inner ++ close_curly ∷ []))))
     within true o c inner = (inner, refl)
     within false o c inner = push o (c ∷ inner)
+
     from : (inner : List ℕ) → x.level ≡ length (inner ++ close_curly ∷ []) → IsInBlock (closers_after x.kind (inner ++ close_curly ∷ []))
     from [] at = outer (is_sign_of close_curly x.kind) (no_close (is_sign_of close_curly x.kind) (x.level == 1) (eq-eqb x.level 1 at) stays) (closer_of x.kind)
       where
@@ -118,16 +124,28 @@ block-closes cs (x ∷ xs) inside (solid, level, leveled) ended = which (closes_
         let both = and_parts (is_sign_of close_curly x.kind) (x.level == 1) is in
         let one : x.level ≡ 1 = eqb-true x.level 1 both.1 in
         record {
-          front = []; close = x; rest = xs; are = refl; at = rw is refl; closes = is;
+          front = [];
+          close = x;
+          rest = xs;
+          are = refl;
+          at = rw is refl;
+          closes = is;
           block = one-open cs inside (sym level ∙ one);
           none = cond-true _ _ _ both.0;
-          stays = tt
+          stays = tt;
         }
     which false is later =
         let c = later (stays-in x cs inside level is) in
         record {
-          front = x ∷ c.front; close = c.close; rest = c.rest; are = ap (λ (ys : List Lexeme). x ∷ ys) c.are;
-          at = rw is (let e = c.at in omega (arith, e)); closes = c.closes; block = c.block; none = c.none; stays = (is, c.stays)
+          front = x ∷ c.front;
+          close = c.close;
+          rest = c.rest;
+          are = ap (λ (ys : List Lexeme). x ∷ ys) c.are;
+          at = rw is (let e = c.at in omega (arith, e));
+          closes = c.closes;
+          block = c.block;
+          none = c.none;
+          stays = (is, c.stays);
         }
 
 -- the first token that passes a test, or none
@@ -185,11 +203,12 @@ split-found a xs leveled ended f =
     let open_ : open_behind [] front ≡ [] = length-none (open_behind [] front) (sym parts.1.1 ∙ level-none a first f.passes) in
     let behind : AreLeveled (closers_after first.kind []) rest = subst (λ cs. AreLeveled (closers_after first.kind cs) rest) open_ parts.1.2 in
     let all_ : open_behind (closers_after first.kind []) rest ≡ [] =
-        sym (ap (open_behind []) f.are ∙ open-append [] front (first ∷ rest) ∙ ap (λ cs. open_behind cs (first ∷ rest)) open_) ∙ ended in
+    sym (ap (open_behind []) f.are ∙ open-append [] front (first ∷ rest) ∙ ap (λ cs. open_behind cs (first ∷ rest)) open_) ∙ ended in
     by (opens_block first) refl open_ behind all_
   where
     goal : Type 0
     goal = Split (position_or_len (ends_prelude a) xs + end_len (drop (position_or_len (ends_prelude a) xs) xs)) xs
+
     by : (b : Bool) → opens_block f.first ≡ b → open_behind [] f.front ≡ [] → AreLeveled (closers_after f.first.kind []) f.rest → open_behind (closers_after f.first.kind []) f.rest ≡ []
         → Split (position_or_len (ends_prelude a) xs + end_len (drop (position_or_len (ends_prelude a) xs) xs)) xs
     by true is none behind all_ =
@@ -197,8 +216,8 @@ split-found a xs leveled ended f =
         let c = block-closes (close_curly ∷ []) f.rest ([], refl) (subst (λ cs. AreLeveled cs f.rest) signs behind) (ap (λ cs. open_behind cs f.rest) (sym signs) ∙ all_) in
         let inside = c.front ++ c.close ∷ [] in
         let here : open_behind [] (f.front ++ f.first ∷ inside) ≡ [] =
-            open-append [] f.front (f.first ∷ inside) ∙ ap (λ cs. open_behind cs (f.first ∷ inside)) none ∙ ap (λ cs. open_behind cs inside) signs
-            ∙ open-append (close_curly ∷ []) c.front (c.close ∷ []) ∙ ap (λ cs. open_behind cs (c.close ∷ [])) c.block ∙ c.none in
+        open-append [] f.front (f.first ∷ inside) ∙ ap (λ cs. open_behind cs (f.first ∷ inside)) none ∙ ap (λ cs. open_behind cs inside) signs
+        ∙ open-append (close_curly ∷ []) c.front (c.close ∷ []) ∙ ap (λ cs. open_behind cs (c.close ∷ [])) c.block ∙ c.none in
         let len : end_len (f.first ∷ f.rest) ≡ 2 + length c.front = cond-true _ _ _ is ∙ ap (λ (n : ℕ). 2 + n) c.at in
         record {
           item = f.front ++ f.first ∷ inside;
@@ -206,7 +225,7 @@ split-found a xs leveled ended f =
           are = f.are ∙ ap (λ (ys : List Lexeme). f.front ++ f.first ∷ ys) (c.are ∙ sym (append_assoc c.front (c.close ∷ []) c.rest)) ∙ sym (append_assoc f.front (f.first ∷ inside) c.rest);
           size = end-found a xs f ∙ (let e : length f.front + end_len (f.first ∷ f.rest) ≡ length (f.front ++ f.first ∷ inside) =
               omega (arith, len, length-append f.front (f.first ∷ inside), length-append c.front (c.close ∷ [])) in e);
-          ends = here
+          ends = here;
         }
     by false is none behind all_ =
         let stays : closers_after f.first.kind [] ≡ [] = semicolon-stays f.first.kind (and_parts (is_sign_of semicolon f.first.kind) (f.first.level == 0) (and_parts a (is_sign_at semicolon 0 f.first) (or_rest (opens_block f.first) _ is f.passes)).1).0 in
@@ -216,7 +235,7 @@ split-found a xs leveled ended f =
           are = f.are ∙ sym (append_assoc f.front (f.first ∷ []) f.rest);
           size = end-found a xs f ∙ (let len : end_len (f.first ∷ f.rest) ≡ 1 = cond-false _ _ _ is in
               let e : length f.front + end_len (f.first ∷ f.rest) ≡ length (f.front ++ f.first ∷ []) = omega (arith, len, length-append f.front (f.first ∷ [])) in e);
-          ends = open-append [] f.front (f.first ∷ []) ∙ ap (λ cs. open_behind cs (f.first ∷ [])) none ∙ stays
+          ends = open-append [] f.front (f.first ∷ []) ∙ ap (λ cs. open_behind cs (f.first ∷ [])) none ∙ stays;
         }
       where
         or_rest : (x y : Bool) → x ≡ false → x || y ≡ true → y ≡ true
@@ -230,8 +249,10 @@ split-at a xs leveled ended = which (found (ends_prelude a) xs)
     which : (position_or_len (ends_prelude a) xs ≡ length xs) ⊎ Found (ends_prelude a) xs
         → Split (position_or_len (ends_prelude a) xs + end_len (drop (position_or_len (ends_prelude a) xs) xs)) xs
     which (inl none) = record {
-        item = xs; rest = []; are = sym (append-nil xs);
-        size = ap (λ (n : ℕ). n + end_len (drop n xs)) none ∙ ap (λ (ys : List Lexeme). length xs + end_len ys) (drop-length xs) ∙ (let e : length xs + 0 ≡ length xs = omega arith in e);
-        ends = ended
-      }
+      item = xs;
+      rest = [];
+      are = sym (append-nil xs);
+      size = ap (λ (n : ℕ). n + end_len (drop n xs)) none ∙ ap (λ (ys : List Lexeme). length xs + end_len ys) (drop-length xs) ∙ (let e : length xs + 0 ≡ length xs = omega arith in e);
+      ends = ended;
+    }
     which (inr f) = split-found a xs leveled ended f

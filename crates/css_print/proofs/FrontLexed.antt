@@ -1,7 +1,7 @@
 -- The parts of a printed sheet's tokens are read where they stand.
-use Rattle.std.proofs.Common.{◌≡◌, ◌≢◌, ◌⊎◌, inl, inr, ℕ, zero, suc, ◌+◌, ◌==◌, Bool, true, false, not, cond, List, [], ◌∷◌, ◌++◌, map, length, take, drop, Option, Some, None, Result, Ok, refl, sym, ◌∙◌, ap, subst, arith}
-use Rattle.std.specs.Prelude.{⊤, ◌&&◌, codes}
-use Rattle.std.specs.List.{AllByRecursion, flat_map}
+use Rattle.std.proofs.Common.{◌≡◌, ◌⊎◌, inl, inr, ℕ, suc, ◌==◌, Bool, true, false, cond, List, [], ◌∷◌, ◌++◌, map, length, take, drop, Some, Ok, refl, sym, ◌∙◌, ap, subst, arith}
+use Rattle.std.specs.Prelude.{⊤, codes}
+use Rattle.std.specs.List.{AllByRecursion}
 use Rattle.std.proofs.lemmas.Bool.{eq-eqb, false≢true, true≢false}
 use Rattle.std.proofs.lemmas.List.{append-nil, append_assoc, length-map, map-append}
 use Rattle.std.proofs.Math.Seq.{take-append_seam, drop-append_seam}
@@ -12,7 +12,7 @@ use Rattle.css_model.specs.declared.sheet.SelItem.{SelItem}
 use Rattle.css_model.specs.declared.token.Lexeme.{Lexeme}
 use Rattle.css_model.specs.declared.token.TokenKind.{TokenKind}
 use Rattle.css_model.specs.declared.token.TokenKind.TheVariants as kind
-use Rattle.css_model.specs.Characters.{close_curly, close_round, colon, comma, dot, exclamation_mark, is_sign, is_white, open_curly, open_round, semicolon, space}
+use Rattle.css_model.specs.Characters.{close_curly, close_round, colon, comma, dot, exclamation_mark, is_sign, is_white, open_curly, open_round, semicolon}
 use Rattle.css_model.specs.Kept.{is_lone, solid}
 use Rattle.css_model.specs.RuleParts.{RuleParts}
 use Rattle.css_model.specs.Source.{text_at}
@@ -31,12 +31,12 @@ use Rattle.css_tokens.proofs.RunLemmas.{run_none}
 use Rattle.css_model.specs.declared.token.Gap.TheVariants as gap
 use Rattle.css_tokens.proofs.RulesAgain.{part_again, rule_part}
 use Rattle.css_print.proofs.BackTokens.{Shown, all_shown, inner, item_shown, kept_shown, last_of_item, sheet_shown, colon_gap, declaration_shown, importance_shown, joined, rule_shown, selector_shown, selector_token, sign_shown, value_shown}
-use Rattle.css_print.proofs.FrontChain.{gap_parts, parts_of, token_part}
+use Rattle.css_print.proofs.FrontChain.{gap_parts, parts_of}
 use Rattle.css_print.proofs.FrontItems.{IsPartOf}
 use Rattle.css_print.proofs.FrontLevels.{open_behind}
 use Rattle.css_print.proofs.FrontParts.{closers_after}
 use Rattle.css_print.proofs.FrontReads.{kept-parts, value-parts}
-use Rattle.css_print.proofs.FrontTexts.{IsLoneBeforeWhite, parts-append, text-append}
+use Rattle.css_print.proofs.FrontTexts.{IsLoneBeforeWhite, parts-append}
 
 -- kept text is read where it stands before what may stand behind it
 abbrev pub KeptLexed : Type 0
@@ -58,12 +58,12 @@ pub part-solids : (source : List ℕ) (ps : List Part) (xs : List Lexeme) (s : I
     → map (solid source) xs ≡ solids_of ps (length p.before) (length xs)
 part-solids source ps xs s p =
     let all_ : solids ps ≡ map (solid source) p.before ++ (map (solid source) xs ++ map (solid source) p.behind) =
-        sym s.solids ∙ ap (map (solid source)) p.are ∙ map-append (solid source) p.before (xs ++ p.behind) ∙ ap (λ ys. map (solid source) p.before ++ ys) (map-append (solid source) xs p.behind) in
+    sym s.solids ∙ ap (map (solid source)) p.are ∙ map-append (solid source) p.before (xs ++ p.behind) ∙ ap (λ ys. map (solid source) p.before ++ ys) (map-append (solid source) xs p.behind) in
     let front : drop (length p.before) (solids ps) ≡ map (solid source) xs ++ map (solid source) p.behind =
-        ap (drop (length p.before)) all_ ∙ ap (λ (n : ℕ). drop n (map (solid source) p.before ++ (map (solid source) xs ++ map (solid source) p.behind))) (sym (length-map p.before (solid source)))
-        ∙ drop-append_seam (map (solid source) p.before) (map (solid source) xs ++ map (solid source) p.behind) in
+    ap (drop (length p.before)) all_ ∙ ap (λ (n : ℕ). drop n (map (solid source) p.before ++ (map (solid source) xs ++ map (solid source) p.behind))) (sym (length-map p.before (solid source)))
+    ∙ drop-append_seam (map (solid source) p.before) (map (solid source) xs ++ map (solid source) p.behind) in
     sym (ap (take (length xs)) front ∙ ap (λ (n : ℕ). take n (map (solid source) xs ++ map (solid source) p.behind)) (sym (length-map xs (solid source)))
-      ∙ take-append_seam (map (solid source) xs) (map (solid source) p.behind))
+    ∙ take-append_seam (map (solid source) xs) (map (solid source) p.behind))
 
 -- where the last token is a function, its bracket is open
 called-open : (source : List ℕ) (cs : List ℕ) (xs : List Lexeme) → ends_called (map (solid source) xs) ≡ true → (ds : List ℕ) × (open_behind cs xs ≡ close_round ∷ ds)
@@ -139,7 +139,7 @@ value-lexed kept_lexed source ps s d read rest lexed behind =
     let xs = tokens_in source d.value in
     let are = part-solids source ps xs s read.part in
     let other : ends_called (map (solid source) xs) ≡ false =
-        not-called source (close_curly ∷ []) xs (λ ds e. absurd (let h = sym read.ends ∙ e in cc)) in
+    not-called source (close_curly ∷ []) xs (λ ds e. absurd (let h = sym read.ends ∙ e in cc)) in
     let here = kept_lexed true ps (length read.part.before) (length xs) s.lexed (ap ends_called (sym are) ∙ other) rest lexed behind in
     subst (λ parts. IsLexed (parts ++ rest)) (ap (kept_parts true) (sym are) ∙ value-parts source xs read.lone) here
 
@@ -153,12 +153,13 @@ declaration-lexed kept_lexed source ps s d read rest lexed e =
     let valued : IsLexed (value ++ (important ++ rest)) = value-lexed kept_lexed source ps s d read (important ++ rest) behind (importance-behind d.decl.important rest e) in
     let spaced : IsLexed (gap_parts (kind.Sign colon) (colon_gap d.decl.value xs) ++ (value ++ (important ++ rest))) = colon-lexed d.decl.value xs valued in
     let all_ : parts_of (value_shown source xs ++ importance_shown d.decl.important) ++ rest ≡ value ++ (important ++ rest) =
-        ap (λ parts. parts ++ rest) (parts-append (value_shown source xs) (importance_shown d.decl.important)) ∙ append_assoc value important rest in
+    ap (λ parts. parts ++ rest) (parts-append (value_shown source xs) (importance_shown d.decl.important)) ∙ append_assoc value important rest in
     let inside : IsLexed (gap_parts (kind.Sign colon) (colon_gap d.decl.value xs) ++ parts_of (value_shown source xs ++ importance_shown d.decl.important) ++ rest) =
-        subst IsLexed (sym (append_assoc (gap_parts (kind.Sign colon) (colon_gap d.decl.value xs)) (parts_of (value_shown source xs ++ importance_shown d.decl.important)) rest
-          ∙ ap (λ parts. gap_parts (kind.Sign colon) (colon_gap d.decl.value xs) ++ parts) all_)) spaced in
-    (name-ends (text_at source d.name) kind.Ident read.name refl colon (text_of (gap_parts (kind.Sign colon) (colon_gap d.decl.value xs) ++ parts_of (value_shown source xs ++ importance_shown d.decl.important) ++ rest)) refl refl,
-      (sign_read (text_of (gap_parts (kind.Sign colon) (colon_gap d.decl.value xs) ++ parts_of (value_shown source xs ++ importance_shown d.decl.important) ++ rest)) colon refl, inside))
+    subst IsLexed (sym (append_assoc (gap_parts (kind.Sign colon) (colon_gap d.decl.value xs)) (parts_of (value_shown source xs ++ importance_shown d.decl.important)) rest
+    ∙ ap (λ parts. gap_parts (kind.Sign colon) (colon_gap d.decl.value xs) ++ parts) all_)) spaced in (
+      name-ends (text_at source d.name) kind.Ident read.name refl colon (text_of (gap_parts (kind.Sign colon) (colon_gap d.decl.value xs) ++ parts_of (value_shown source xs ++ importance_shown d.decl.important) ++ rest)) refl refl,
+      (sign_read (text_of (gap_parts (kind.Sign colon) (colon_gap d.decl.value xs) ++ parts_of (value_shown source xs ++ importance_shown d.decl.important) ++ rest)) colon refl, inside),
+    )
   where
     colon-lexed : (v : List ℕ) (xs : List Lexeme) → IsLexed (parts_of (value_shown source xs) ++ (parts_of (importance_shown d.decl.important) ++ rest))
         → IsLexed (gap_parts (kind.Sign colon) (colon_gap v xs) ++ (parts_of (value_shown source xs) ++ (parts_of (importance_shown d.decl.important) ++ rest)))
@@ -176,9 +177,15 @@ pub record IsEnd (c : ℕ) : Type 0 where
 
 sign-ends : (b level : ℕ) → IsEnd b → (more : List Shown) (rest : List Part) → Ends (parts_of (sign_shown b level ∷ more) ++ rest)
 sign-ends b level e more rest = record {
-    first = b; more = text_of ((gap_parts (kind.Sign b) gap.Nothing ++ parts_of more) ++ rest); is = refl;
-    sign = e.sign; closed = e.closed; ender = e.ender; no_bang = e.no_bang; no_white = e.no_white
-  }
+  first = b;
+  more = text_of ((gap_parts (kind.Sign b) gap.Nothing ++ parts_of more) ++ rest);
+  is = refl;
+  sign = e.sign;
+  closed = e.closed;
+  ender = e.ender;
+  no_bang = e.no_bang;
+  no_white = e.no_white;
+}
 
 -- what is shown for a part of a rule is read where it stands before such a sign
 abbrev pub IsReadBefore : List Shown → Type 0
@@ -190,9 +197,9 @@ joined-lexed b level e (part ∷ []) (one, later) rest lexed ends = one rest lex
 joined-lexed b level e (part ∷ next ∷ parts) (one, later) rest lexed ends =
     let more = joined (sign_shown b level) (next ∷ parts) in
     let behind : IsLexed (parts_of (sign_shown b level ∷ more) ++ rest) =
-        (sign_read (text_of (parts_of more ++ rest)) b e.sign, joined-lexed b level e (next ∷ parts) later rest lexed ends) in
+    (sign_read (text_of (parts_of more ++ rest)) b e.sign, joined-lexed b level e (next ∷ parts) later rest lexed ends) in
     subst IsLexed (sym (ap (λ ps. ps ++ rest) (parts-append part (sign_shown b level ∷ more)) ∙ append_assoc (parts_of part) (parts_of (sign_shown b level ∷ more)) rest))
-      (one (parts_of (sign_shown b level ∷ more) ++ rest) behind (sign-ends b level e more rest))
+    (one (parts_of (sign_shown b level ∷ more) ++ rest) behind (sign-ends b level e more rest))
 
 -- a selector of one token, or of a dot and a name
 pub record IsOneToken (source : List ℕ) (xs : List Lexeme) : Type 0 where
@@ -228,8 +235,8 @@ selector-lexed source s (inr two) rest lexed e =
     let name = token-lexed source two.name two.read two.plain rest lexed e in
     let behind = text_at source two.name.span ++ text_of rest in
     let here : part_at (text_at source two.sign.span ++ behind) ≡ Ok (Some two.sign.kind, length (text_at source two.sign.span)) =
-        ap (λ cs. part_at (cs ++ behind)) two.text ∙ dot-read behind (two.no_digit (text_of rest))
-        ∙ ap (λ k. Ok (Some k, 1)) (sym two.is_dot) ∙ ap (λ (cs : List ℕ). Ok (Some two.sign.kind, length cs)) (sym two.text) in
+    ap (λ cs. part_at (cs ++ behind)) two.text ∙ dot-read behind (two.no_digit (text_of rest))
+    ∙ ap (λ k. Ok (Some k, 1)) (sym two.is_dot) ∙ ap (λ (cs : List ℕ). Ok (Some two.sign.kind, length cs)) (sym two.text) in
     subst (λ xs. IsLexed (parts_of (map (selector_token source) xs) ++ rest)) (sym two.are) (here, name)
 
 -- a rule of a source, by what is read of it
@@ -244,29 +251,34 @@ rule-lexed kept_lexed source ps s r read rest lexed =
     let inside = joined (sign_shown semicolon 1) (map (declaration_shown source) r.decls) in
     let shut : IsLexed (parts_of (sign_shown close_curly 1 ∷ []) ++ rest) = sign-part close_curly 1 refl rest lexed in
     let body : IsLexed (parts_of inside ++ (parts_of (sign_shown close_curly 1 ∷ []) ++ rest)) =
-        joined-lexed semicolon 1 semicolon-end (map (declaration_shown source) r.decls) (decls r.decls read.decls) (parts_of (sign_shown close_curly 1 ∷ []) ++ rest) shut (sign-ends close_curly 1 close-end [] rest) in
+    joined-lexed semicolon 1 semicolon-end (map (declaration_shown source) r.decls) (decls r.decls read.decls) (parts_of (sign_shown close_curly 1 ∷ []) ++ rest) shut (sign-ends close_curly 1 close-end [] rest) in
     let opened : IsLexed (parts_of (sign_shown open_curly 0 ∷ inside) ++ (parts_of (sign_shown close_curly 1 ∷ []) ++ rest)) =
-        (sign_read (text_of (parts_of inside ++ (parts_of (sign_shown close_curly 1 ∷ []) ++ rest))) open_curly refl, body) in
+    (sign_read (text_of (parts_of inside ++ (parts_of (sign_shown close_curly 1 ∷ []) ++ rest))) open_curly refl, body) in
     let whole : IsLexed (parts_of prelude ++ (parts_of (sign_shown open_curly 0 ∷ inside) ++ (parts_of (sign_shown close_curly 1 ∷ []) ++ rest))) =
-        joined-lexed comma 0 comma-end (map (selector_shown source) r.selectors) (selectors r.selectors read.selectors) (parts_of (sign_shown open_curly 0 ∷ inside) ++ (parts_of (sign_shown close_curly 1 ∷ []) ++ rest))
-          opened (sign-ends open_curly 0 open-end inside (parts_of (sign_shown close_curly 1 ∷ []) ++ rest)) in
+    joined-lexed comma 0 comma-end (map (selector_shown source) r.selectors) (selectors r.selectors read.selectors) (parts_of (sign_shown open_curly 0 ∷ inside) ++ (parts_of (sign_shown close_curly 1 ∷ []) ++ rest))
+    opened (sign-ends open_curly 0 open-end inside (parts_of (sign_shown close_curly 1 ∷ []) ++ rest)) in
     subst IsLexed (sym (
-      ap (λ parts. parts ++ rest) (parts-append (prelude ++ sign_shown open_curly 0 ∷ inside) (sign_shown close_curly 1 ∷ []))
-      ∙ ap (λ parts. (parts ++ parts_of (sign_shown close_curly 1 ∷ [])) ++ rest) (parts-append prelude (sign_shown open_curly 0 ∷ inside))
-      ∙ append_assoc (parts_of prelude ++ parts_of (sign_shown open_curly 0 ∷ inside)) (parts_of (sign_shown close_curly 1 ∷ [])) rest
-      ∙ append_assoc (parts_of prelude) (parts_of (sign_shown open_curly 0 ∷ inside)) (parts_of (sign_shown close_curly 1 ∷ []) ++ rest))) whole
+    ap (λ parts. parts ++ rest) (parts-append (prelude ++ sign_shown open_curly 0 ∷ inside) (sign_shown close_curly 1 ∷ []))
+    ∙ ap (λ parts. (parts ++ parts_of (sign_shown close_curly 1 ∷ [])) ++ rest) (parts-append prelude (sign_shown open_curly 0 ∷ inside))
+    ∙ append_assoc (parts_of prelude ++ parts_of (sign_shown open_curly 0 ∷ inside)) (parts_of (sign_shown close_curly 1 ∷ [])) rest
+    ∙ append_assoc (parts_of prelude) (parts_of (sign_shown open_curly 0 ∷ inside)) (parts_of (sign_shown close_curly 1 ∷ []) ++ rest))) whole
   where
     semicolon-end : IsEnd semicolon
     semicolon-end = record { sign = refl; closed = refl; ender = refl; no_bang = refl; no_white = refl }
+
     comma-end : IsEnd comma
     comma-end = record { sign = refl; closed = refl; ender = refl; no_bang = refl; no_white = refl }
+
     open-end : IsEnd open_curly
     open-end = record { sign = refl; closed = refl; ender = refl; no_bang = refl; no_white = refl }
+
     close-end : IsEnd close_curly
     close-end = record { sign = refl; closed = refl; ender = refl; no_bang = refl; no_white = refl }
+
     decls : (ds : List DeclItem) → AllByRecursion (IsReadDeclaration source) ds → AllByRecursion IsReadBefore (map (declaration_shown source) ds)
     decls [] each = tt
     decls (d ∷ ds) (one, later) = (declaration-lexed kept_lexed source ps s d one, decls ds later)
+
     selectors : (ss : List SelItem) → AllByRecursion (IsReadSelector source) ss → AllByRecursion IsReadBefore (map (selector_shown source) ss)
     selectors [] each = tt
     selectors (x ∷ ss) (one, later) = (selector-lexed source x one, selectors ss later)
@@ -304,12 +316,12 @@ kept-lexed kept_lexed source ps s xs read e rest lexed =
     let end : Part = record { kind = Some e.last.kind; bytes = text_at source e.last.span } in
     let front = parts_of (map (inner source) e.front) in
     let are : parts_of (kept_shown source xs) ≡ front ++ end ∷ [] =
-        ap (λ ys. parts_of (kept_shown source ys)) e.are ∙ ap parts_of (shown-last (inner source) (last_of_item source) e.front e.last)
-        ∙ parts-append (map (inner source) e.front) (last_of_item source e.last ∷ [])
-        ∙ ap (λ gaps. front ++ end ∷ (gaps ++ [])) (no-gap e.last.kind e.is_sign) in
+    ap (λ ys. parts_of (kept_shown source ys)) e.are ∙ ap parts_of (shown-last (inner source) (last_of_item source) e.front e.last)
+    ∙ parts-append (map (inner source) e.front) (last_of_item source e.last ∷ [])
+    ∙ ap (λ gaps. front ++ end ∷ (gaps ++ [])) (no-gap e.last.kind e.is_sign) in
     let alone : IsLexed (front ++ end ∷ []) = subst IsLexed (append-nil (parts_of (kept_shown source xs)) ∙ are) (kept-alone kept_lexed source ps s xs read) in
     let anywhere : EndsAlike end [] (text_of rest) = subst (λ k. EndsAlike (record { kind = Some k; bytes = text_at source e.last.span }) [] (text_of rest)) (sym e.is_sign)
-        (ends_anywhere (record { kind = Some (kind.Sign e.sign); bytes = text_at source e.last.span }) [] (text_of rest) refl refl refl) in
+    (ends_anywhere (record { kind = Some (kind.Sign e.sign); bytes = text_at source e.last.span }) [] (text_of rest) refl refl refl) in
     subst IsLexed (sym (ap (λ parts. parts ++ rest) are ∙ append_assoc front (end ∷ []) rest)) (rows_again front end [] rest alone lexed anywhere)
   where
     no-gap : (k : TokenKind) → k ≡ kind.Sign e.sign → gap_parts k (cond (is_lone k) gap.White gap.Nothing) ≡ []
@@ -349,4 +361,4 @@ sheet-lexed kept_lexed source ps s (item ∷ []) read =
     subst IsLexed (sym (parts-append (item_shown source item) [])) (last-lexed kept_lexed source ps s item read)
 sheet-lexed kept_lexed source ps s (item ∷ next ∷ items) (read, ended, later) =
     subst IsLexed (sym (parts-append (item_shown source item) (sheet_shown source (next ∷ items))))
-      (item-lexed kept_lexed source ps s item read ended (parts_of (sheet_shown source (next ∷ items))) (sheet-lexed kept_lexed source ps s (next ∷ items) later))
+    (item-lexed kept_lexed source ps s item read ended (parts_of (sheet_shown source (next ∷ items))) (sheet-lexed kept_lexed source ps s (next ∷ items) later))

@@ -111,15 +111,15 @@ token-shown text front bytes k ps comment brackets is later =
     let gap-is : gap_of rest ≡ gap_behind false ps = gap-same (length front + length bytes) false ps in
     let level-is : length brackets ≡ length (closers_of brackets) = sym (length-closers brackets) in
     let head : shown text (lexeme (length brackets) t rest) ≡ s =
-        ap (λ (b : List ℕ). record { kind = k; bytes = b; gap = gap_of rest; level = length brackets }) bytes-is
-        ∙ ap (λ g. record { kind = k; bytes = bytes; gap = g; level = length brackets }) gap-is
-        ∙ ap (λ (n : ℕ). record { kind = k; bytes = bytes; gap = gap_behind false ps; level = n }) level-is in
+    ap (λ (b : List ℕ). record { kind = k; bytes = b; gap = gap_of rest; level = length brackets }) bytes-is
+    ∙ ap (λ g. record { kind = k; bytes = bytes; gap = g; level = length brackets }) gap-is
+    ∙ ap (λ (n : ℕ). record { kind = k; bytes = bytes; gap = gap_behind false ps; level = n }) level-is in
     let behind : map (shown text) (lexemes_in (after t brackets) rest) ≡ shown_parts (closers_after k (closers_of brackets)) ps =
-        later (after t brackets) ∙ ap (λ cs. shown_parts cs ps) (closers-same k t.span comment brackets) in
+    later (after t brackets) ∙ ap (λ cs. shown_parts cs ps) (closers-same k t.span comment brackets) in
     map-cond (is_white_kind k) (lexemes_in brackets rest) (lexeme (length brackets) t rest ∷ lexemes_in (after t brackets) rest)
     ∙ chosen (is_white_kind k) _ _ _ _
-      (λ white. later brackets ∙ ap (λ cs. shown_parts cs ps) (sym (white-stays k white (closers_of brackets))))
-      (λ _. ap (λ x. x ∷ map (shown text) (lexemes_in (after t brackets) rest)) head ∙ ap (λ xs. s ∷ xs) behind)
+    (λ white. later brackets ∙ ap (λ cs. shown_parts cs ps) (sym (white-stays k white (closers_of brackets))))
+    (λ _. ap (λ x. x ∷ map (shown text) (lexemes_in (after t brackets) rest)) head ∙ ap (λ xs. s ∷ xs) behind)
   where
     map-cond : (b : Bool) (xs ys : List Lexeme) → map (shown text) (cond b xs ys) ≡ cond b (map (shown text) xs) (map (shown text) ys)
     map-cond true xs ys = refl
@@ -132,7 +132,7 @@ tokens-shown text front [] comment brackets is = refl
 tokens-shown text front (p ∷ ps) comment brackets is =
     let next : text ≡ (front ++ p.bytes) ++ text_of ps = is ∙ sym (append_assoc front p.bytes (text_of ps)) in
     which p.kind (λ c bs. subst (λ (n : ℕ). map (shown text) (lexemes_in bs (tokens_at n c ps)) ≡ shown_parts (closers_of bs) ps) (length-append front p.bytes)
-      (tokens-shown text (front ++ p.bytes) ps c bs next))
+    (tokens-shown text (front ++ p.bytes) ps c bs next))
   where
     which : (k : Option TokenKind) → ((c : Bool) (bs : List Bracket) → map (shown text) (lexemes_in bs (tokens_at (length front + length p.bytes) c ps)) ≡ shown_parts (closers_of bs) ps)
         → map (shown text) (lexemes_in brackets (token_then k (length front) (length p.bytes) comment (tokens_at (length front + length p.bytes) (is_comment k) ps)))

@@ -1,31 +1,25 @@
 -- The printed text of a sheet has the tokens that are shown for it.
-use Rattle.std.proofs.Common.{◌≡◌, ◌≢◌, ◌⊎◌, inl, inr, ℕ, zero, suc, ◌+◌, ◌≤◌, ◌==◌, Bool, true, false, not, cond, nat_eq, List, [], ◌∷◌, ◌++◌, map, length, take, drop, Option, Some, None, Result, Ok, refl, sym, ◌∙◌, ap, subst, arith}
-use Rattle.std.specs.Prelude.{⊤, ◌&&◌}
-use Rattle.std.specs.List.{AllByRecursion, flat_map, last_or, starts_with}
-use Rattle.std.specs.Str.{IsUtf8}
-use Rattle.std.proofs.lemmas.Bool.{false≢true, true≢false, eqb-true, and_parts, cond-true, cond-false}
-use Rattle.css_model.specs.declared.sheet.Item.{Item}
+use Rattle.std.proofs.Common.{◌≡◌, ℕ, suc, Bool, true, false, cond, nat_eq, List, [], ◌∷◌, map, length, Some, None, Ok, refl, sym, ◌∙◌, ap, subst, arith}
+use Rattle.std.specs.List.{starts_with}
+use Rattle.std.proofs.lemmas.Bool.{false≢true, eqb-true, and_parts, cond-false}
 use Rattle.css_model.specs.declared.token.Bracket.{Bracket}
 use Rattle.css_model.specs.declared.token.Lexeme.{Lexeme}
-use Rattle.css_model.specs.declared.token.Token.{Token}
 use Rattle.css_model.specs.Characters.{space}
-use Rattle.css_model.specs.Lexemes.{after_all, lexemes, lexemes_in}
-use Rattle.css_model.specs.Printed.{behind_mark, printed, printed_item}
-use Rattle.css_model.specs.Sheet.{unclosed}
+use Rattle.css_model.specs.Lexemes.{after_all, lexemes}
+use Rattle.css_model.specs.Printed.{behind_mark}
 use Rattle.css_model.specs.Spelling.{lexemes_of}
-use Rattle.css_model.specs.Tokens.{Part, Stream, byte_order_mark, parts, placed, stream, text_of, tokens, tokens_at}
+use Rattle.css_model.specs.Tokens.{Part, Stream, byte_order_mark, parts, placed, text_of, tokens, tokens_at}
 use Rattle.css_model.specs.Units.{white_unit}
 use Rattle.css_model.specs.TokenAt.{part_at}
 use Rattle.css_model.specs.declared.token.TokenKind.TheVariants as kind
 use Rattle.css_tokens.specs.Lexed.{IsLexed}
 use Rattle.css_tokens.proofs.EndsLemmas.{space_read}
 use Rattle.css_tokens.proofs.LexedLemmas.{lexed_are_parts}
-use Rattle.css_print.proofs.BackTokens.{Shown, shown, sheet_shown}
-use Rattle.css_print.proofs.FrontChain.{chain-shown, closers_after_all, parts_of, white_part}
+use Rattle.css_print.proofs.BackTokens.{Shown, shown}
+use Rattle.css_print.proofs.FrontChain.{closers_after_all, white_part}
 use Rattle.css_print.proofs.FrontLevels.{lexemes-open, open_behind}
 use Rattle.css_print.proofs.FrontParts.{closers_after, closers_of, shown_parts, tokens-shown}
 use Rattle.css_print.proofs.FrontSheet.{Chain}
-use Rattle.css_print.proofs.FrontTexts.{shown_text}
 
 -- a text of these parts, of which the first may be a space, has no fault, and the tokens that are shown
 pub record HasTokens (text : List ℕ) (ss : List Shown) : Type 0 where
@@ -52,7 +46,7 @@ has-tokens text ps ss is lexed no_mark show chain =
       clean = ap (λ (s : Stream). s.fault) here;
       shown_as = are;
       open_none = none-open (after_all [] (tokens text true).tokens)
-        (sym (lexemes-open [] (tokens text true).tokens) ∙ open-shown text (lexemes_of text) [] ∙ ap (closers_after_all []) are ∙ chain.ends)
+          (sym (lexemes-open [] (tokens text true).tokens) ∙ open-shown text (lexemes_of text) [] ∙ ap (closers_after_all []) are ∙ chain.ends);
     }
 
 mark-first : (text : List ℕ) → starts_with nat_eq text byte_order_mark ≡ true → white_unit text ≡ 0
@@ -69,5 +63,5 @@ printed-tokens ps ss text is lexed show chain = which (starts_with nat_eq text b
     which false none = has-tokens text ps ss is lexed none show chain
     which true mark =
         has-tokens (space ∷ text) (white_part (space ∷ []) ∷ ps) ss (ap (λ (cs : List ℕ). space ∷ cs) is)
-          (subst (λ (cs : List ℕ). part_at (space ∷ cs) ≡ Ok (Some kind.White, 1)) is (space_read text (mark-first text mark)), lexed)
-          refl show chain
+        (subst (λ (cs : List ℕ). part_at (space ∷ cs) ≡ Ok (Some kind.White, 1)) is (space_read text (mark-first text mark)), lexed)
+        refl show chain

@@ -1,25 +1,22 @@
 -- The parts of a source, and its tokens apart from where they stand.
-use Rattle.std.proofs.Common.{◌≡◌, ◌≢◌, ℕ, zero, suc, ◌+◌, ◌≤◌, ◌==◌, Bool, true, false, not, cond, nat_eq, List, [], ◌∷◌, ◌++◌, map, length, take, drop, Option, Some, None, refl, sym, ◌∙◌, ap, subst, arith}
-use Rattle.std.specs.Prelude.{⊤, ◌&&◌}
-use Rattle.std.specs.List.{AllByRecursion, starts_with}
-use Rattle.std.proofs.lemmas.Bool.{false≢true}
-use Rattle.std.proofs.lemmas.List.{append-nil, append_assoc, take-append-drop}
+use Rattle.std.proofs.Common.{◌≡◌, ℕ, Bool, true, false, not, cond, List, [], ◌∷◌, ◌++◌, map, length, Option, Some, None, refl, sym, ◌∙◌, ap}
+use Rattle.std.specs.Prelude.{◌&&◌}
+use Rattle.std.specs.List.{AllByRecursion}
+use Rattle.std.proofs.lemmas.List.{append-nil}
 use Rattle.css_model.specs.declared.token.Gap.{Gap}
 use Rattle.css_model.specs.declared.token.Gap.TheVariants as gap
 use Rattle.css_model.specs.declared.token.Lexeme.{Lexeme}
 use Rattle.css_model.specs.declared.token.TokenKind.{TokenKind}
-use Rattle.css_model.specs.declared.token.TokenKind.TheVariants as kind
 use Rattle.css_model.specs.Kept.{Solid, is_lone, is_open, is_white_gap, solid}
-use Rattle.css_model.specs.Lexemes.{is_white_kind, lexemes_in}
+use Rattle.css_model.specs.Lexemes.{is_white_kind}
 use Rattle.css_model.specs.Source.{text_at}
-use Rattle.css_model.specs.Tokens.{Part, byte_order_mark, parts, stream, text_of, tokens, tokens_at}
-use Rattle.css_tokens.specs.Lexed.{IsLexed}
+use Rattle.css_model.specs.Tokens.{Part}
 use Rattle.css_model.specs.Characters.{line_feed, space}
 use Rattle.css_tokens.specs.Solids.{closed, gap_before, gap_by, solid_then, solids}
 use Rattle.css_tokens.proofs.KeptParts.{gap_part, kept_parts, last_of, last_parts, part_of}
-use Rattle.css_print.proofs.BackTokens.{Shown, all_shown, inner, kept_shown, last_of_item, last_of_value, shown, value_shown}
+use Rattle.css_print.proofs.BackTokens.{Shown, all_shown, inner, kept_shown, last_of_item, last_of_value, value_shown}
 use Rattle.css_print.proofs.FrontChain.{gap_parts, parts_of, token_part, white_part}
-use Rattle.css_print.proofs.FrontParts.{closers_behind, gap_behind, gap_then, shown_parts, shown_then}
+use Rattle.css_print.proofs.FrontParts.{closers_behind, gap_behind, shown_parts, shown_then}
 use Rattle.css_print.proofs.FrontTexts.{IsLoneBeforeWhite}
 use Rattle.css_print.proofs.BackTokens.{printed_bytes}
 
@@ -41,7 +38,7 @@ shown-solids cs (p ∷ ps) = which p.kind (λ signs. shown-solids signs ps)
       where
         white : (b : Bool) → map to_solid (shown_parts (closers_behind (Some k) cs) ps) ≡ solids ps
             → map to_solid (cond b (shown_parts (closers_behind (Some k) cs) ps)
-                (record { kind = k; bytes = p.bytes; gap = gap_behind false ps; level = length cs } ∷ shown_parts (closers_behind (Some k) cs) ps))
+            (record { kind = k; bytes = p.bytes; gap = gap_behind false ps; level = length cs } ∷ shown_parts (closers_behind (Some k) cs) ps))
             ≡ cond b (solids ps) (record { kind = k; bytes = p.bytes; gap = gap_before false ps } ∷ solids ps)
         white true h = h
         white false h = ap (λ g. record { kind = k; bytes = p.bytes; gap = g } ∷ map to_solid (shown_parts (closers_behind (Some k) cs) ps)) (gap-same false ps)
@@ -99,4 +96,4 @@ kept-parts source xs each = all-parts source false (last_of_item source)
 pub value-parts : (source : List ℕ) (xs : List Lexeme) → AllByRecursion IsLoneBeforeWhite xs → kept_parts true (map (solid source) xs) ≡ parts_of (value_shown source xs)
 value-parts source xs each = all-parts source true (last_of_value source)
     (λ x. ap (λ p. p ∷ last_parts (solid source x)) (closed-part source x)
-      ∙ ap (λ ps. record { kind = Some x.kind; bytes = printed_bytes source x } ∷ ps) (sym (append-nil (gap_parts x.kind (last_of_value source x).gap) ∙ last-gap x.kind (is_lone x.kind) refl))) xs each
+    ∙ ap (λ ps. record { kind = Some x.kind; bytes = printed_bytes source x } ∷ ps) (sym (append-nil (gap_parts x.kind (last_of_value source x).gap) ∙ last-gap x.kind (is_lone x.kind) refl))) xs each

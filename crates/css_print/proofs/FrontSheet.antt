@@ -1,8 +1,6 @@
 -- The tokens of a printed sheet stand inside the brackets that their levels tell.
-use Rattle.std.proofs.Common.{◌≡◌, ◌≢◌, ◌⊎◌, inl, inr, ℕ, zero, suc, ◌==◌, Bool, true, false, cond, List, [], ◌∷◌, ◌++◌, map, length, Option, Some, None, refl, sym, ◌∙◌, ap, subst}
-use Rattle.std.specs.Prelude.{⊤}
-use Rattle.std.specs.List.{AllByRecursion, flat_map}
-use Rattle.std.proofs.lemmas.Bool.{false≢true}
+use Rattle.std.proofs.Common.{◌≡◌, ℕ, Bool, true, false, cond, List, [], ◌∷◌, ◌++◌, map, length, refl, sym, ◌∙◌, ap, subst}
+use Rattle.std.specs.List.{AllByRecursion}
 use Rattle.css_model.specs.declared.sheet.DeclItem.{DeclItem}
 use Rattle.css_model.specs.declared.sheet.Item.{Item}
 use Rattle.css_model.specs.declared.sheet.Item.TheVariants.{Rule, KeptRule, KeptBlock}
@@ -12,7 +10,7 @@ use Rattle.css_model.specs.declared.token.Gap.TheVariants as gap
 use Rattle.css_model.specs.declared.token.Lexeme.{Lexeme}
 use Rattle.css_model.specs.declared.token.TokenKind.{TokenKind}
 use Rattle.css_model.specs.declared.token.TokenKind.TheVariants as kind
-use Rattle.css_model.specs.Characters.{colon, comma, semicolon, open_curly, close_curly}
+use Rattle.css_model.specs.Characters.{comma, semicolon, open_curly, close_curly}
 use Rattle.css_model.specs.Kept.{is_lone}
 use Rattle.css_model.specs.Lexemes.{is_white_kind}
 use Rattle.css_model.specs.RuleParts.{RuleParts}
@@ -48,15 +46,15 @@ pub record Chain (cs : List ℕ) (ss : List Shown) (behind : List ℕ) : Type 0 
 
 pub chain-then : (cs ds es : List ℕ) (ss more : List Shown) → Chain cs ss ds → Chain ds more es → Chain cs (ss ++ more) es
 chain-then cs ds es ss more first second = record {
-    chain = chain-append cs ss more first.chain (subst (λ (signs : List ℕ). IsChain signs more) (sym first.ends) second.chain);
-    ends = after-append cs ss more ∙ ap (λ (signs : List ℕ). closers_after_all signs more) first.ends ∙ second.ends
-  }
+  chain = chain-append cs ss more first.chain (subst (λ (signs : List ℕ). IsChain signs more) (sym first.ends) second.chain);
+  ends = after-append cs ss more ∙ ap (λ (signs : List ℕ). closers_after_all signs more) first.ends ∙ second.ends;
+}
 
 pub chain-first : (cs ds es : List ℕ) (s : Shown) (more : List Shown) → is_white_kind s.kind ≡ false → s.level ≡ length cs → IsTold s.gap more → closers_after s.kind cs ≡ ds → Chain ds more es → Chain cs (s ∷ more) es
 chain-first cs ds es s more solid level told is later = record {
-    chain = (solid, level, told, subst (λ (signs : List ℕ). IsChain signs more) (sym is) later.chain);
-    ends = ap (λ (signs : List ℕ). closers_after_all signs more) is ∙ later.ends
-  }
+  chain = (solid, level, told, subst (λ (signs : List ℕ). IsChain signs more) (sym is) later.chain);
+  ends = ap (λ (signs : List ℕ). closers_after_all signs more) is ∙ later.ends;
+}
 
 chain-none : (cs : List ℕ) → Chain cs [] cs
 chain-none cs = record { chain = tt; ends = refl }
@@ -76,8 +74,8 @@ all-chain others last o l cs (x ∷ []) (solid, level, leveled) =
     chain-first cs (closers_after x.kind cs) (closers_after x.kind cs) (last x) [] (ap is_white_kind (l x).0 ∙ solid) ((l x).1 ∙ level) (l x).2 (ap (λ k. closers_after k cs) (l x).0) (chain-none _)
 all-chain others last o l cs (x ∷ y ∷ xs) (solid, level, leveled) =
     chain-first cs (closers_after x.kind cs) (open_behind (closers_after x.kind cs) (y ∷ xs)) (others x) (all_shown others last (y ∷ xs))
-      (ap is_white_kind (o x).0 ∙ solid) ((o x).1 ∙ level) (some-told (others x).gap y xs) (ap (λ k. closers_after k cs) (o x).0)
-      (all-chain others last o l (closers_after x.kind cs) (y ∷ xs) leveled)
+    (ap is_white_kind (o x).0 ∙ solid) ((o x).1 ∙ level) (some-told (others x).gap y xs) (ap (λ k. closers_after k cs) (o x).0)
+    (all-chain others last o l (closers_after x.kind cs) (y ∷ xs) leveled)
   where
     some-told : (g : Gap) (z : Lexeme) (zs : List Lexeme) → IsTold g (all_shown others last (z ∷ zs))
     some-told g z [] = told-some g (last z) []
@@ -117,7 +115,7 @@ joined-chain cs s solid flat level told [] each = chain-none cs
 joined-chain cs s solid flat level told (part ∷ []) (one, rest) = one
 joined-chain cs s solid flat level told (part ∷ next ∷ parts) (one, rest) =
     chain-then cs cs cs part (s ∷ joined s (next ∷ parts)) one
-      (chain-first cs cs cs s (joined s (next ∷ parts)) solid level (told (joined s (next ∷ parts))) flat (joined-chain cs s solid flat level told (next ∷ parts) rest))
+    (chain-first cs cs cs s (joined s (next ∷ parts)) solid level (told (joined s (next ∷ parts))) flat (joined-chain cs s solid flat level told (next ∷ parts) rest))
 
 -- a selector of tokens that open nothing
 pub record IsFlatSelector (source : List ℕ) (s : SelItem) : Type 0 where
@@ -139,7 +137,7 @@ selectors-chain source (s ∷ ss) (one, rest) = (selector-chain source (tokens_i
 value-chain : (source : List ℕ) (xs : List Lexeme) → AreLeveled (close_curly ∷ []) xs → open_behind (close_curly ∷ []) xs ≡ close_curly ∷ [] → Chain (close_curly ∷ []) (value_shown source xs) (close_curly ∷ [])
 value-chain source xs leveled ends =
     subst (Chain (close_curly ∷ []) (value_shown source xs)) ends
-      (all-chain (inner source) (last_of_value source) (λ x. (refl, refl)) (λ x. (refl, refl, last-told x)) (close_curly ∷ []) xs leveled)
+    (all-chain (inner source) (last_of_value source) (λ x. (refl, refl)) (λ x. (refl, refl, last-told x)) (close_curly ∷ []) xs leveled)
 
 importance-chain : (important : Bool) → Chain (close_curly ∷ []) (importance_shown important) (close_curly ∷ [])
 importance-chain false = chain-none _
@@ -158,7 +156,7 @@ declaration-chain source d flat =
     let rest = value ++ importance_shown d.decl.important in
     let behind : Chain cs rest cs = chain-then cs cs cs value (importance_shown d.decl.important) (value-chain source (tokens_in source d.value) flat.leveled flat.ends) (importance-chain d.decl.important) in
     flat-first cs cs _ _ ident-flat refl tt
-      (chain-first cs cs cs _ rest refl refl (colon-told d.decl.value (tokens_in source d.value) rest) refl behind)
+    (chain-first cs cs cs _ rest refl refl (colon-told d.decl.value (tokens_in source d.value) rest) refl behind)
 
 declarations-chain : (source : List ℕ) (ds : List DeclItem) → AllByRecursion (IsFlatDeclaration source) ds → AllByRecursion (λ part. Chain (close_curly ∷ []) part (close_curly ∷ [])) (map (declaration_shown source) ds)
 declarations-chain source [] each = tt

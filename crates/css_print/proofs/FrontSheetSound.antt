@@ -1,43 +1,30 @@
 -- A sound sheet that follows the one that was read is read back from its printed text.
-use Rattle.std.proofs.Common.{◌≡◌, ◌≢◌, ◌⊎◌, inl, inr, ℕ, zero, suc, ◌+◌, ◌<◌, ◌≤◌, ◌==◌, nat_lt, Bool, true, false, not, cond, List, [], ◌∷◌, ◌++◌, map, length, Option, Some, None, Result, Ok, Err, refl, sym, ◌∙◌, ap, subst, arith}
-use Rattle.std.specs.Prelude.{⊤, ◌&&◌, ◌||◌}
-use Rattle.std.specs.List.{AllByRecursion, Contains, find, flat_map}
+use Rattle.std.proofs.Common.{◌≡◌, ℕ, Bool, true, false, cond, List, [], ◌∷◌, Option, Some, None, sym, ◌∙◌, ap, subst}
+use Rattle.std.specs.List.{AllByRecursion, Contains}
 use Rattle.std.specs.Str.{IsUtf8}
-use Rattle.std.specs.Str.Lossy.{utf8_valid_len}
-use Rattle.std.proofs.lemmas.Bool.{false≢true, true≢false, and_parts, eqb-true}
-use Rattle.std.proofs.lemmas.List.{append-nil, append_assoc}
-use Rattle.css_model.specs.declared.fault.SheetFault.{SheetFault}
-use Rattle.css_model.specs.declared.fault.TheConstants.{ITEMS, LIMIT, PAIRS}
 use Rattle.css_model.specs.declared.sheet.DeclItem.{DeclItem}
 use Rattle.css_model.specs.declared.sheet.Item.{Item}
 use Rattle.css_model.specs.declared.sheet.Item.TheVariants.{Rule, KeptRule, KeptBlock}
 use Rattle.css_model.specs.declared.sheet.Piece.{Piece}
 use Rattle.css_model.specs.declared.sheet.SelItem.{SelItem}
 use Rattle.css_model.specs.declared.token.Lexeme.{Lexeme}
-use Rattle.css_model.specs.declared.token.TokenFault.{TokenFault}
-use Rattle.css_model.specs.declared.token.TokenKind.{TokenKind}
-use Rattle.css_model.specs.declared.token.TokenKind.TheVariants as kind
 use Rattle.css_model.specs.KeptRuleParts.{KeptRuleParts}
 use Rattle.css_model.specs.Declarations.{declarations}
 use Rattle.css_model.specs.Selectors.{selectors}
-use Rattle.css_model.specs.Items.{is_at_rule, closes_block, is_whole, opens_block}
-use Rattle.css_model.specs.Lexemes.{is_sign_of, piece_of}
-use Rattle.css_model.specs.Printed.{printed, printed_item}
+use Rattle.css_model.specs.Items.{is_at_rule}
+use Rattle.css_model.specs.Lexemes.{piece_of}
 use Rattle.css_model.specs.RuleParts.{RuleParts}
-use Rattle.css_model.specs.Sheet.{is_namespace, item_of, rule_of, rule_or_block, sheet_of, sheet_of_stream, unclosed}
-use Rattle.css_model.specs.Sound.{IsSound, IsSoundBlock, IsSoundDeclaration, IsSoundItem, IsSoundKeptRule, IsSoundRule, IsSoundSelector, raw_items}
+use Rattle.css_model.specs.Sheet.{is_namespace, item_of, rule_or_block}
+use Rattle.css_model.specs.Sound.{IsSoundDeclaration, IsSoundItem, IsSoundRule, IsSoundSelector, raw_items}
 use Rattle.css_model.specs.Spelling.{lexemes_of, tokens_in}
-use Rattle.css_model.specs.Tokens.{tokens}
 use Rattle.css_print.proofs.BackCuts.{None_of}
-use Rattle.css_print.proofs.BackItems.{ends_in, ends_with_block, is_ended}
 use Rattle.css_print.proofs.BackJoins.{StandsIn}
 use Rattle.css_print.proofs.BackOrigins.{kept_from, stand_alone_in}
 use Rattle.css_print.proofs.BackRaw.{IsRawItem}
-use Rattle.css_print.proofs.BackRules.{IsOfRule}
-use Rattle.css_print.proofs.BackSheet.{AreInOrder, IsFrom, IsOfItem, ends_itself}
+use Rattle.css_print.proofs.BackSheet.{IsFrom, IsOfItem}
 use Rattle.css_print.proofs.FrontGround.{Ground, member}
 use Rattle.css_print.proofs.FrontItems.{IsItemOf, IsPartOf}
-use Rattle.css_print.proofs.FrontLexed.{AreReadItems, IsEndedBySign, IsEndedItem, IsReadItem, IsReadPiece}
+use Rattle.css_print.proofs.FrontLexed.{IsReadItem, IsReadPiece}
 use Rattle.css_print.proofs.FrontLevels.{AreLeveled, open_behind}
 use Rattle.css_print.proofs.FrontSheet.{IsFlatItem}
 use Rattle.css_print.proofs.FrontSound.{SoundDeclaration, SoundSelector, good-in, lone-in, sound-declaration, sound-selector}
@@ -63,14 +50,15 @@ sound-rule source g r sound =
     let decls = each-of (IsSoundDeclaration source) (SoundDeclaration source) r.decls (sound-declaration source g) sound.decls in
     record {
       from = record {
-        has_selectors = sound.has_selectors; has_declarations = sound.has_declarations;
+        has_selectors = sound.has_selectors;
+        has_declarations = sound.has_declarations;
         selectors = each-of (SoundSelector source) _ r.selectors (λ s h. h.of) selectors;
-        decls = each-of (SoundDeclaration source) _ r.decls (λ d h. h.of) decls
+        decls = each-of (SoundDeclaration source) _ r.decls (λ d h. h.of) decls;
       };
       flat = record { selectors = each-of (SoundSelector source) _ r.selectors (λ s h. h.flat) selectors; decls = each-of (SoundDeclaration source) _ r.decls (λ d h. h.flat) decls };
       text = each-of (SoundDeclaration source) _ r.decls (λ d h. h.text) decls;
       read = record { selectors = each-of (SoundSelector source) _ r.selectors (λ s h. h.read) selectors; decls = each-of (SoundDeclaration source) _ r.decls (λ d h. h.read) decls };
-      utf8 = rule-utf8 source (good-in source g) r (each-of (SoundDeclaration source) (IsUtf8Declaration source) r.decls (λ d h. record { named = h.named; value = good-in source g d.value }) decls)
+      utf8 = rule-utf8 source (good-in source g) r (each-of (SoundDeclaration source) (IsUtf8Declaration source) r.decls (λ d h. record { named = h.named; value = good-in source g d.value }) decls);
     }
 
 -- a kept item by its tokens
@@ -91,7 +79,7 @@ sound-piece source g names xs piece inside is =
       of = subst (IsOfItem source) is (kept_from source g.good xs raw name);
       leveled = subst (AreLeveled []) (sym alone) item.leveled;
       ends = ap (open_behind []) alone ∙ item.ends;
-      part = subst (IsPartOf (lexemes_of source)) (sym alone) (record { before = item.before; behind = item.behind; are = item.are })
+      part = subst (IsPartOf (lexemes_of source)) (sym alone) (record { before = item.before; behind = item.behind; are = item.are });
     }
 
 kept-sound : (source : List ℕ) → Ground source → (item : Item) (piece : Piece) → SoundPiece source piece → IsOfItem source piece × (IsReadPiece source (tokens_in source piece))
@@ -104,6 +92,7 @@ kept-piece source xs k e = which (is_at_rule xs) (selectors source xs) (declarat
     piece_or : Piece → Option Item → Piece
     piece_or p (Some (KeptRule k)) = k.piece
     piece_or p _ = p
+
     which : (b : Bool) (read : Option (List SelItem)) (ds : Option (List DeclItem)) → cond b (Some (KeptBlock (piece_of xs))) (rule_or_block (piece_of xs) read ds) ≡ Some (KeptRule k) → piece_of xs ≡ k.piece
     which true read ds e = absurd cc
     which false read None e = absurd cc

@@ -1,15 +1,13 @@
 -- The parts of a sound sheet are read where they stand, close what they open, and have the text that is printed.
-use Rattle.std.proofs.Common.{◌≡◌, ◌≢◌, ◌⊎◌, inl, inr, ℕ, zero, suc, ◌+◌, ◌-◌, ◌<◌, ◌≤◌, ◌==◌, Bool, true, false, not, cond, List, [], ◌∷◌, ◌++◌, map, length, take, drop, Option, Some, None, Result, Ok, refl, sym, ◌∙◌, ap, subst, arith}
-use Rattle.std.specs.Prelude.{⊤, ◌&&◌, codes}
-use Rattle.std.specs.List.{AllByRecursion, Contains, after_first, before_first, filter, position_or_len, slice_split}
+use Rattle.std.proofs.Common.{◌≡◌, ◌⊎◌, inl, inr, ℕ, ◌+◌, ◌-◌, Bool, true, false, not, cond, List, [], ◌∷◌, map, length, take, drop, Option, Some, None, refl, sym, ◌∙◌, ap, subst}
+use Rattle.std.specs.Prelude.{◌&&◌, codes}
+use Rattle.std.specs.List.{AllByRecursion, after_first, before_first, position_or_len}
 use Rattle.std.specs.Option.{option_map}
 use Rattle.std.specs.Str.{IsUtf8}
-use Rattle.std.proofs.lemmas.Bool.{false≢true, true≢false, and_parts, eqb-true}
-use Rattle.std.proofs.lemmas.List.{append-nil, append_assoc, take-append-drop}
+use Rattle.std.proofs.lemmas.Bool.{false≢true, and_parts, eqb-true}
+use Rattle.std.proofs.lemmas.List.{append_assoc, take-append-drop}
 use Rattle.css_model.specs.declared.selector.Test.{Test}
 use Rattle.css_model.specs.declared.sheet.DeclItem.{DeclItem}
-use Rattle.css_model.specs.declared.sheet.Item.{Item}
-use Rattle.css_model.specs.declared.sheet.Item.TheVariants.{Rule, KeptRule, KeptBlock}
 use Rattle.css_model.specs.declared.sheet.SelItem.{SelItem}
 use Rattle.css_model.specs.declared.token.Lexeme.{Lexeme}
 use Rattle.css_model.specs.declared.token.TokenKind.{TokenKind}
@@ -17,21 +15,21 @@ use Rattle.css_model.specs.declared.token.TokenKind.TheVariants as kind
 use Rattle.css_model.specs.Characters.{close_curly, colon, comma, dot, exclamation_mark, semicolon, space}
 use Rattle.css_model.specs.Document.{same_text}
 use Rattle.css_model.specs.declared.sheet.Piece.{Piece}
-use Rattle.css_model.specs.Declarations.{is_nested, declaration, declared, is_delim_of, is_ident, is_importance, is_important, property_of, is_custom, text_of_value, without_importance}
+use Rattle.css_model.specs.Declarations.{declaration, declared, is_delim_of, is_ident, is_importance, is_important, property_of, is_custom, text_of_value, without_importance}
 use Rattle.css_model.specs.Items.{block, closes_block, entries, opens_block, selector_parts}
 use Rattle.css_model.specs.Kept.{is_white_gap, solid, value_text}
 use Rattle.css_model.specs.Lexemes.{is_sign_at, is_sign_of, piece_of}
-use Rattle.css_model.specs.Selectors.{class_of, of_one_test, selector_item, simple_of, test_of_one}
+use Rattle.css_model.specs.Selectors.{of_one_test, simple_of, test_of_one}
 use Rattle.css_model.specs.Sound.{IsSoundDeclaration, IsSoundSelector, raw_items}
 use Rattle.css_model.specs.Source.{text_at}
 use Rattle.css_model.specs.Spelling.{lexemes_of, stands_in, tokens_in}
 use Rattle.css_model.specs.Unescaped.{decoded}
 use Rattle.css_tokens.proofs.EndsLemmas.{is_plain}
 use Rattle.css_tokens.proofs.FirstBytes.{delim-text, ident-no_digit}
-use Rattle.css_print.proofs.BackBlocks.{IsOfDeclaration, plain_value}
+use Rattle.css_print.proofs.BackBlocks.{IsOfDeclaration}
 use Rattle.css_print.proofs.BackCuts.{None_of}
-use Rattle.css_print.proofs.BackJoins.{StandsIn, stands_behind, stands_front, stands_inside, stands_whole}
-use Rattle.css_print.proofs.BackOrigins.{HasGoodTokens, declaration_from, selector_from, value_alone}
+use Rattle.css_print.proofs.BackJoins.{StandsIn, stands_behind, stands_inside, stands_whole}
+use Rattle.css_print.proofs.BackOrigins.{declaration_from, selector_from, value_alone}
 use Rattle.css_print.proofs.BackParts.{IsPart, each_inside, none_before, split_stands, stands_dropped, stands_taken}
 use Rattle.css_print.proofs.BackPreludes.{IsOfSelector}
 use Rattle.css_print.proofs.FrontGround.{Ground, filtered, member}
@@ -58,7 +56,7 @@ prelude-stands item = stands_taken (position_or_len opens_block item) item
 pub block-stands : (item : List Lexeme) → StandsIn item (block item)
 block-stands item =
     stands_inside item (after_first opens_block item) (block item) (stands_dropped (position_or_len opens_block item + 1) item)
-      (stands_taken (position_or_len closes_block (after_first opens_block item)) (after_first opens_block item))
+    (stands_taken (position_or_len closes_block (after_first opens_block item)) (after_first opens_block item))
 
 -- a selector of a source
 pub record SoundSelector (source : List ℕ) (s : SelItem) : Type 0 where
@@ -118,15 +116,19 @@ selector-parts source (x ∷ y ∷ []) t e (g, (h, rest)) =
         let d = delim-is dot x.kind is in
         let i = ident-is y.kind ident in
         let sign = read-of source x (kind.Delim dot) d g in
-        let name = read-of source y kind.Ident i h in
-        ((subst IsFlat (sym d) (delim-flat dot), (subst IsFlat (sym i) ident-flat, tt)),
-         inr (record {
-           sign = x; name = y; are = refl; is_dot = d;
-           text = delim-text (text_at source x.span) sign.old dot sign.read;
-           read = h.good.read;
-           plain = ap (λ k. is_plain (Some k)) i;
-           no_digit = ident-no_digit (text_at source y.span) name.old name.read
-         }))
+        let name = read-of source y kind.Ident i h in (
+          (subst IsFlat (sym d) (delim-flat dot), (subst IsFlat (sym i) ident-flat, tt)),
+          inr (record {
+            sign = x;
+            name = y;
+            are = refl;
+            is_dot = d;
+            text = delim-text (text_at source x.span) sign.old dot sign.read;
+            read = h.good.read;
+            plain = ap (λ k. is_plain (Some k)) i;
+            no_digit = ident-no_digit (text_at source y.span) name.old name.read;
+          }),
+        )
 selector-parts source (x ∷ y ∷ z ∷ xs) t e each = absurd cc
 
 pub sound-selector : (source : List ℕ) → Ground source → (s : SelItem) → IsSoundSelector source s → SoundSelector source s
@@ -134,8 +136,8 @@ sound-selector source g s sound =
     let item = member (IsItemOf (lexemes_of source)) (raw_items source) sound.item g.items sound.item_in in
     let part = member (IsPart (is_sign_at comma 0) (before_first opens_block sound.item)) (selector_parts sound.item) sound.part (split_stands (is_sign_at comma 0) (before_first opens_block sound.item)) sound.part_in in
     let stands : StandsIn (lexemes_of source) sound.part =
-        stands_inside (lexemes_of source) sound.item sound.part (item-stands item)
-          (stands_inside sound.item (before_first opens_block sound.item) sound.part (prelude-stands sound.item) part.stands) in
+    stands_inside (lexemes_of source) sound.item sound.part (item-stands item)
+    (stands_inside sound.item (before_first opens_block sound.item) sound.part (prelude-stands sound.item) part.stands) in
     let of = selector_from source g.good sound.part s stands sound.reads in
     let each : AllByRecursion (IsGoodLexeme source) of.part = subst (AllByRecursion (IsGoodLexeme source)) of.alone (filtered (IsGoodLexeme source) (stands_in s.piece) (lexemes_of source) g.each) in
     let test = some-test of.part (simple_of source of.part) refl of.reads in
@@ -143,7 +145,7 @@ sound-selector source g s sound =
     record {
       of = of;
       flat = record { each = subst (AllByRecursion (λ x. IsFlat x.kind)) (sym of.alone) both.0 };
-      read = subst (λ xs. IsOneToken source xs ⊎ IsDotName source xs) (sym of.alone) both.1
+      read = subst (λ xs. IsOneToken source xs ⊎ IsDotName source xs) (sym of.alone) both.1;
     }
   where
     some-test : (part : List Lexeme) (o : Option Test) → simple_of source part ≡ o → option_map (λ t. record { selector = of_one_test t; piece = piece_of part }) o ≡ Some s → (t : Test) × (simple_of source part ≡ Some t)
@@ -176,6 +178,7 @@ plain-closes source value e = which (is_important source value) refl
   where
     n : ℕ
     n = length value - 2
+
     which : (b : Bool) → is_important source value ≡ b → IsEntryFrom (close_curly ∷ []) (cond b (take n value) value)
     which false is = e
     which true is =
@@ -183,7 +186,7 @@ plain-closes source value e = which (is_important source value) refl
         record {
           leveled = parts.0;
           ends = sym (importance-flat source (drop n value) is (open_behind (close_curly ∷ []) (take n value)))
-            ∙ sym (open-append (close_curly ∷ []) (take n value) (drop n value)) ∙ ap (open_behind (close_curly ∷ [])) (take-append-drop n value) ∙ e.ends
+              ∙ sym (open-append (close_curly ∷ []) (take n value) (drop n value)) ∙ ap (open_behind (close_curly ∷ [])) (take-append-drop n value) ∙ e.ends;
         }
 
 -- the tokens behind a name and a colon
@@ -215,7 +218,7 @@ behind-colon : (name sign : Lexeme) (value : List Lexeme) → name.kind ≡ kind
 behind-colon name sign value ident colon_is e =
     let first : closers_after name.kind (close_curly ∷ []) ≡ close_curly ∷ [] = ap (λ k. closers_after k (close_curly ∷ [])) ident in
     let both : closers_after sign.kind (closers_after name.kind (close_curly ∷ [])) ≡ close_curly ∷ [] =
-        ap (closers_after sign.kind) first ∙ ap (λ k. closers_after k (close_curly ∷ [])) colon_is in
+    ap (closers_after sign.kind) first ∙ ap (λ k. closers_after k (close_curly ∷ [])) colon_is in
     record { leveled = subst (λ cs. AreLeveled cs value) both e.leveled.2.2; ends = ap (λ cs. open_behind cs value) (sym both) ∙ e.ends }
 
 value-told : (source : List ℕ) (custom : Bool) (sign : Lexeme) (plain : List Lexeme) (x : Lexeme) (xs : List Lexeme) → plain ≡ x ∷ xs → text_of_value source custom sign plain ≡ value_text (map (solid source) (x ∷ xs))
@@ -253,17 +256,17 @@ sound-declaration source g d sound =
     let in-item : StandsIn sound.item sound.entry = stands_inside sound.item (block sound.item) sound.entry (block-stands sound.item) part.stands in
     let stands : StandsIn (lexemes_of source) sound.entry = stands_inside (lexemes_of source) sound.item sound.entry (item-stands item) in-item in
     let inside : None_of closes_block sound.entry =
-        each_inside (λ x. closes_block x ≡ false) (block sound.item) sound.entry part.stands (none_before closes_block (after_first opens_block sound.item)) in
+    each_inside (λ x. closes_block x ≡ false) (block sound.item) sound.entry part.stands (none_before closes_block (after_first opens_block sound.item)) in
     let of = declaration_from source g.good sound.entry d stands part.none inside sound.plain sound.reads in
     let p = declared-of source sound.entry d sound.reads in
     let value = behind-colon p.name p.sign p.value p.ident p.colon_is (subst (IsEntryFrom (close_curly ∷ [])) p.are closed_) in
     let plain = without_importance source p.value in
     let plain-closed = plain-closes source p.value value in
     let alone : tokens_in source d.value ≡ plain =
-        ap (λ (e : DeclItem). tokens_in source e.value) (sym p.is) ∙ value_alone source g.good p.name p.sign p.value (subst (StandsIn (lexemes_of source)) p.are stands) in
+    ap (λ (e : DeclItem). tokens_in source e.value) (sym p.is) ∙ value_alone source g.good p.name p.sign p.value (subst (StandsIn (lexemes_of source)) p.are stands) in
     let in-value : StandsIn (lexemes_of source) plain =
-        stands_inside (lexemes_of source) (p.name ∷ p.sign ∷ p.value) plain (subst (StandsIn (lexemes_of source)) p.are stands)
-          (stands_inside (p.name ∷ p.sign ∷ p.value) p.value plain (stands_behind (p.name ∷ p.sign ∷ []) p.value) (plain-stands source p.value)) in
+    stands_inside (lexemes_of source) (p.name ∷ p.sign ∷ p.value) plain (subst (StandsIn (lexemes_of source)) p.are stands)
+    (stands_inside (p.name ∷ p.sign ∷ p.value) p.value plain (stands_behind (p.name ∷ p.sign ∷ []) p.value) (plain-stands source p.value)) in
     let custom = is_custom (property_of (decoded (text_at source p.name.span))) in
     let text : d.decl.value ≡ text_of_value source custom p.sign plain = ap (λ (e : DeclItem). e.decl.value) (sym p.is) in
     let named : AllByRecursion (IsGoodLexeme source) (p.name ∷ p.sign ∷ p.value) = subst (AllByRecursion (IsGoodLexeme source)) p.are (each_inside (IsGoodLexeme source) (lexemes_of source) sound.entry stands g.each) in
@@ -273,13 +276,13 @@ sound-declaration source g d sound =
       text = record {
         lone = lone-in source g d.value;
         value = λ x xs are. text ∙ value-told source custom p.sign plain x xs (sym alone ∙ are);
-        white = λ none. subst (λ v. (v ≡ []) ⊎ (v ≡ space ∷ [])) (sym text) (value-white source custom p.sign plain (sym alone ∙ none))
+        white = λ none. subst (λ v. (v ≡ []) ⊎ (v ≡ space ∷ [])) (sym text) (value-white source custom p.sign plain (sym alone ∙ none));
       };
       read = record {
         name = subst (λ (piece : Piece). IsReadAs (text_at source piece) kind.Ident) (ap (λ (e : DeclItem). e.name) p.is) (read-of source p.name kind.Ident p.ident named.0);
         part = subst (IsPartOf (lexemes_of source)) (sym alone) (part-of-stands in-value);
         ends = ap (open_behind (close_curly ∷ [])) alone ∙ plain-closed.ends;
-        lone = lone-in source g d.value
+        lone = lone-in source g d.value;
       };
-      named = subst (λ (piece : Piece). IsUtf8 (text_at source piece)) (ap (λ (e : DeclItem). e.name) p.is) named.0.good.utf8
+      named = subst (λ (piece : Piece). IsUtf8 (text_at source piece)) (ap (λ (e : DeclItem). e.name) p.is) named.0.good.utf8;
     }

@@ -1,25 +1,21 @@
 -- What stands in a source that is read without a fault.
-use Rattle.std.proofs.Common.{◌≡◌, ◌≢◌, ◌⊎◌, inl, inr, ℕ, zero, suc, ◌+◌, ◌≤◌, ◌==◌, Bool, true, false, not, cond, nat_eq, nat_lt, List, [], ◌∷◌, ◌++◌, map, length, take, drop, Option, Some, None, Result, Ok, Err, refl, sym, ◌∙◌, ap, subst, arith}
-use Rattle.std.specs.Prelude.{⊤, ◌&&◌}
-use Rattle.std.specs.List.{AllByRecursion, flat_map, last_or, starts_with}
+use Rattle.std.proofs.Common.{◌≡◌, inl, inr, ℕ, ◌+◌, Bool, true, false, nat_eq, List, [], ◌∷◌, ◌++◌, map, length, take, drop, Option, Some, None, Ok, refl, sym, ◌∙◌, ap, subst, arith}
+use Rattle.std.specs.List.{AllByRecursion, starts_with}
 use Rattle.std.specs.Str.{IsUtf8}
-use Rattle.std.proofs.lemmas.Bool.{false≢true, true≢false, eqb-true, and_parts, cond-true, cond-false}
+use Rattle.std.proofs.lemmas.Bool.{false≢true, eqb-true, and_parts, cond-true, cond-false}
 use Rattle.std.proofs.lemmas.List.{append-nil, take-append-drop}
 use Rattle.std.proofs.lemmas.Str.{IsCharBoundary-past_char, IsUtf8-drop}
 use Rattle.std.proofs.Math.Utf8.{encode}
 use Rattle.css_model.specs.declared.token.TokenFlaw.{TokenFlaw}
 use Rattle.css_model.specs.declared.token.Gap.TheVariants as gap
 use Rattle.css_model.specs.declared.token.Lexeme.{Lexeme}
-use Rattle.css_model.specs.declared.token.TokenKind.{TokenKind}
-use Rattle.css_model.specs.declared.token.TokenFault.{TokenFault}
 use Rattle.css_model.specs.Kept.{Solid, is_lone, solid}
-use Rattle.css_model.specs.Lexemes.{is_white_kind, lexemes}
-use Rattle.css_model.specs.Source.{text_at}
+use Rattle.css_model.specs.Lexemes.{lexemes}
 use Rattle.css_model.specs.Spelling.{lexemes_of}
 use Rattle.css_model.specs.TokenAt.{part_at}
-use Rattle.css_model.specs.Tokens.{Part, Parts, Stream, byte_order_mark, fault_behind, parts, placed, stream, text_of, tokens, tokens_at}
+use Rattle.css_model.specs.Tokens.{Part, Stream, byte_order_mark, fault_behind, parts, stream, text_of, tokens}
 use Rattle.css_tokens.specs.Lexed.{IsLexed}
-use Rattle.css_tokens.specs.Solids.{IsBehind, ends_called, gap_before, solids, solids_of}
+use Rattle.css_tokens.specs.Solids.{ends_called, gap_before, solids}
 use Rattle.css_tokens.proofs.KeptBack.{AreGood, are_good, kept_row, last_may, rest_of, take_good}
 use Rattle.css_tokens.proofs.KeptParts.{kept_parts}
 use Rattle.css_tokens.proofs.LawLemmas.{parts_join}
@@ -28,10 +24,7 @@ use Rattle.css_tokens.proofs.LexedLemmas.{parts_are_lexed}
 use Rattle.css_tokens.proofs.PartFacts.{PartIs, part_is}
 use Rattle.css_tokens.proofs.SolidFacts.{lone_gap}
 use Rattle.css_tokens.proofs.WholeCharacters.{lexed_whole}
-use Rattle.css_print.proofs.BackTokens.{shown}
-use Rattle.css_print.proofs.FrontLexed.{IsReadAs, IsSpelledBy, KeptLexed}
-use Rattle.css_print.proofs.FrontParts.{shown_parts, tokens-shown}
-use Rattle.css_print.proofs.FrontReads.{shown-solids, to_solid}
+use Rattle.css_print.proofs.FrontLexed.{IsReadAs, KeptLexed}
 
 -- kept text is read where it stands
 pub kept-is-lexed : KeptLexed
@@ -59,7 +52,7 @@ good-solids (p ∷ ps) (here, lexed) (one, utf8) = which (part_is p.kind p.bytes
     which (inr (inr s)) later =
         let read : part_at (p.bytes ++ text_of ps) ≡ Ok (Some s.token, length p.bytes) = rw s.kind at here in
         let good : IsGoodSolid (record { kind = s.token; bytes = p.bytes; gap = gap_before false ps }) =
-            record { read = record { old = text_of ps; read = read }; lone = λ lone. lone_gap s.token p.bytes ps (s.lone lone) read lexed; utf8 = one } in
+        record { read = record { old = text_of ps; read = read }; lone = λ lone. lone_gap s.token p.bytes ps (s.lone lone) read lexed; utf8 = one } in
         rw (s.kind, s.solid) (good, later)
 
 -- the parts of a source, behind a byte order mark that is skipped
@@ -89,7 +82,7 @@ source-at source at here clean utf8 =
       are = sym (take-append-drop at source) ∙ ap (λ (cs : List ℕ). take at source ++ cs) whole;
       lexed = parts_are_lexed text flawless;
       spelled = ap (λ (s : Stream). map (solid source) (lexemes s.tokens)) here ∙ solids_are_lexemes source at;
-      utf8 = subst IsUtf8 whole utf8
+      utf8 = subst IsUtf8 whole utf8;
     }
 
 marked : (source : List ℕ) → starts_with nat_eq source byte_order_mark ≡ true → IsUtf8 source → IsUtf8 (drop 3 source)
@@ -102,7 +95,7 @@ marked (a ∷ b ∷ c ∷ rest) mark utf8 =
     let two = and_parts (nat_eq 0xBB b) _ one.1 in
     let three = and_parts (nat_eq 0xBF c) _ two.1 in
     let is : a ∷ b ∷ c ∷ rest ≡ encode 0xFEFF ++ rest =
-        ap (λ (x : ℕ). x ∷ b ∷ c ∷ rest) (sym (eqb-true 0xEF a one.0)) ∙ ap (λ (x : ℕ). 0xEF ∷ x ∷ c ∷ rest) (sym (eqb-true 0xBB b two.0)) ∙ ap (λ (x : ℕ). 0xEF ∷ 0xBB ∷ x ∷ rest) (sym (eqb-true 0xBF c three.0)) in
+    ap (λ (x : ℕ). x ∷ b ∷ c ∷ rest) (sym (eqb-true 0xEF a one.0)) ∙ ap (λ (x : ℕ). 0xEF ∷ x ∷ c ∷ rest) (sym (eqb-true 0xBB b two.0)) ∙ ap (λ (x : ℕ). 0xEF ∷ 0xBB ∷ x ∷ rest) (sym (eqb-true 0xBF c three.0)) in
     IsUtf8-drop (a ∷ b ∷ c ∷ rest) 3 utf8 (IsCharBoundary-past_char (a ∷ b ∷ c ∷ rest) rest 0 0xFEFF (omega arith) utf8 is)
 
 pub source-of : (source : List ℕ) → (tokens source true).fault ≡ None → IsUtf8 source → Source source

@@ -1,8 +1,7 @@
 -- The parts of shown tokens spell the printed text.
-use Rattle.std.proofs.Common.{◌≡◌, ◌≢◌, ◌⊎◌, inl, inr, ℕ, zero, suc, ◌==◌, Bool, true, false, not, cond, List, [], ◌∷◌, ◌++◌, map, length, Option, Some, None, refl, sym, ◌∙◌, ap, subst}
-use Rattle.std.specs.Prelude.{⊤, ◌&&◌, codes}
+use Rattle.std.proofs.Common.{◌≡◌, ◌⊎◌, inl, inr, ℕ, Bool, true, false, not, cond, List, [], ◌∷◌, ◌++◌, map, refl, sym, ◌∙◌, ap, subst}
+use Rattle.std.specs.Prelude.{◌&&◌}
 use Rattle.std.specs.List.{AllByRecursion, flat_map, join_with_byte}
-use Rattle.std.proofs.lemmas.Bool.{false≢true}
 use Rattle.std.proofs.lemmas.List.{append-nil, append_assoc}
 use Rattle.css_model.specs.declared.sheet.DeclItem.{DeclItem}
 use Rattle.css_model.specs.declared.sheet.Item.{Item}
@@ -20,7 +19,7 @@ use Rattle.css_model.specs.RuleParts.{RuleParts}
 use Rattle.css_model.specs.Source.{text_at}
 use Rattle.css_model.specs.Spelling.{tokens_in}
 use Rattle.css_model.specs.Tokens.{Part, text_of}
-use Rattle.css_print.proofs.BackTokens.{Shown, all_shown, closed, colon_gap, declaration_shown, importance_shown, inner, is_before_white, item_shown, joined, kept_shown, last_gap, last_of_item, last_of_value, printed_bytes, rule_shown, selector_shown, selector_token, sheet_shown, sign_shown, value_shown}
+use Rattle.css_print.proofs.BackTokens.{Shown, all_shown, closed, colon_gap, declaration_shown, importance_shown, inner, item_shown, joined, kept_shown, last_of_item, last_of_value, printed_bytes, rule_shown, selector_shown, selector_token, sheet_shown, sign_shown, value_shown}
 use Rattle.css_print.proofs.FrontChain.{gap_parts, parts_of, token_part}
 
 pub text-append : (ps qs : List Part) → text_of (ps ++ qs) ≡ text_of ps ++ text_of qs
@@ -131,11 +130,11 @@ declaration-text source d told =
     let important = importance_shown d.decl.important in
     let sign : Shown = record { kind = kind.Sign colon; bytes = colon ∷ []; gap = colon_gap d.decl.value (tokens_in source d.value); level = 1 } in
     let after : shown_text (sign ∷ (value ++ important)) ≡ colon ∷ (d.decl.value ++ importance d.decl.important) =
-        shown-first sign (value ++ important)
-        ∙ ap (λ (cs : List ℕ). colon ∷ (text_of (gap_parts sign.kind sign.gap) ++ cs)) (shown-append value important)
-        ∙ ap (λ (cs : List ℕ). colon ∷ cs) (sym (append_assoc (text_of (gap_parts sign.kind sign.gap)) (shown_text value) (shown_text important)))
-        ∙ ap (λ (cs : List ℕ). colon ∷ (cs ++ shown_text important)) (colon-text source d told)
-        ∙ ap (λ (cs : List ℕ). colon ∷ (d.decl.value ++ cs)) (importance-text d.decl.important) in
+    shown-first sign (value ++ important)
+    ∙ ap (λ (cs : List ℕ). colon ∷ (text_of (gap_parts sign.kind sign.gap) ++ cs)) (shown-append value important)
+    ∙ ap (λ (cs : List ℕ). colon ∷ cs) (sym (append_assoc (text_of (gap_parts sign.kind sign.gap)) (shown_text value) (shown_text important)))
+    ∙ ap (λ (cs : List ℕ). colon ∷ (cs ++ shown_text important)) (colon-text source d told)
+    ∙ ap (λ (cs : List ℕ). colon ∷ (d.decl.value ++ cs)) (importance-text d.decl.important) in
     ap (λ (cs : List ℕ). text_at source d.name ++ cs) after ∙ sym (append_assoc (text_at source d.name) (colon ∷ d.decl.value) (importance d.decl.important))
 
 -- a rule's parts, and how they are joined
@@ -168,7 +167,7 @@ rule-text source r each =
     ∙ ap (λ (cs : List ℕ). cs ++ close_curly ∷ []) (shown-append prelude (sign_shown open_curly 0 ∷ inside))
     ∙ ap (λ (cs : List ℕ). (cs ++ (open_curly ∷ shown_text inside)) ++ close_curly ∷ []) (joined-text comma 0 (selector_shown source) (printed_selector source) r.selectors (selectors-text source r.selectors))
     ∙ ap (λ (cs : List ℕ). (join_with_byte comma (map (printed_selector source) r.selectors) ++ (open_curly ∷ cs)) ++ close_curly ∷ [])
-        (joined-text semicolon 1 (declaration_shown source) (printed_declaration source) r.decls (declarations-text source r.decls each))
+    (joined-text semicolon 1 (declaration_shown source) (printed_declaration source) r.decls (declarations-text source r.decls each))
 
 -- what is printed for an item is its tokens' text
 abbrev pub IsTextOfItem : List ℕ → Item → Type 0

@@ -1,13 +1,10 @@
 -- The printed text of a sheet in UTF-8 is UTF-8.
-use Rattle.std.proofs.Common.{◌≡◌, ℕ, zero, suc, ◌==◌, Bool, true, false, not, cond, if◌then◌else◌, nat_eq, List, [], ◌∷◌, ◌++◌, map, length, Option, Some, None, refl, sym, ◌∙◌, ap, subst}
-use Rattle.std.specs.Prelude.{⊤, ◌&&◌}
-use Rattle.std.specs.List.{AllByRecursion, flat_map, starts_with}
+use Rattle.std.proofs.Common.{ℕ, Bool, true, false, cond, if◌then◌else◌, List, [], ◌∷◌, ◌++◌, map, refl, sym, subst}
+use Rattle.std.specs.List.{AllByRecursion}
 use Rattle.std.specs.Str.{IsUtf8}
 use Rattle.std.proofs.lemmas.Str.{IsUtf8-append, IsUtf8-nil}
 use Rattle.std.proofs.Math.Utf8.{encode}
 use Rattle.css_model.specs.declared.sheet.DeclItem.{DeclItem}
-use Rattle.css_model.specs.declared.sheet.Item.{Item}
-use Rattle.css_model.specs.declared.sheet.Item.TheVariants.{Rule, KeptRule, KeptBlock}
 use Rattle.css_model.specs.declared.sheet.Piece.{Piece}
 use Rattle.css_model.specs.declared.sheet.SelItem.{SelItem}
 use Rattle.css_model.specs.declared.token.Gap.{Gap}
@@ -15,15 +12,15 @@ use Rattle.css_model.specs.declared.token.Gap.TheVariants as gap
 use Rattle.css_model.specs.declared.token.Lexeme.{Lexeme}
 use Rattle.css_model.specs.declared.token.TokenKind.{TokenKind}
 use Rattle.css_model.specs.Characters.{comma, line_feed, open_curly, close_curly, semicolon, space}
-use Rattle.css_model.specs.Kept.{is_lone, is_open, is_white_gap}
+use Rattle.css_model.specs.Kept.{is_lone, is_open}
 use Rattle.css_model.specs.RuleParts.{RuleParts}
 use Rattle.css_model.specs.Source.{text_at}
 use Rattle.css_model.specs.Spelling.{tokens_in}
-use Rattle.css_model.specs.Tokens.{Part, text_of}
-use Rattle.css_print.proofs.BackTokens.{Shown, all_shown, declaration_shown, importance_shown, inner, is_before_white, item_shown, joined, kept_shown, last_of_item, last_of_value, printed_bytes, rule_shown, selector_shown, selector_token, sheet_shown, sign_shown, value_shown}
-use Rattle.css_print.proofs.FrontChain.{gap_parts, parts_of}
+use Rattle.css_model.specs.Tokens.{text_of}
+use Rattle.css_print.proofs.BackTokens.{Shown, all_shown, declaration_shown, importance_shown, inner, is_before_white, joined, kept_shown, last_of_item, last_of_value, printed_bytes, rule_shown, selector_shown, selector_token, sign_shown, value_shown}
+use Rattle.css_print.proofs.FrontChain.{gap_parts}
 use Rattle.css_print.proofs.FrontSource.{IsGoodLexeme}
-use Rattle.css_print.proofs.FrontTexts.{shown-first, shown_text, text-append}
+use Rattle.css_print.proofs.FrontTexts.{shown-first, shown_text}
 
 pub one-space : IsUtf8 (space ∷ [])
 unfolding encode
@@ -43,7 +40,7 @@ pub shown-utf8 : (ss : List Shown) → AllByRecursion (λ s. IsUtf8 s.bytes) ss 
 shown-utf8 [] each = IsUtf8-nil
 shown-utf8 (s ∷ ss) (one, rest) =
     subst IsUtf8 (sym (shown-first s ss)) (IsUtf8-append s.bytes (text_of (gap_parts s.kind s.gap) ++ shown_text ss) one
-      (IsUtf8-append (text_of (gap_parts s.kind s.gap)) (shown_text ss) (gap-utf8 s.kind s.gap) (shown-utf8 ss rest)))
+    (IsUtf8-append (text_of (gap_parts s.kind s.gap)) (shown_text ss) (gap-utf8 s.kind s.gap) (shown-utf8 ss rest)))
 
 pub each-append : {A : Type 0} (P : A → Type 0) (xs ys : List A) → AllByRecursion P xs → AllByRecursion P ys → AllByRecursion P (xs ++ ys)
 each-append P [] ys first second = second
@@ -88,9 +85,17 @@ pub record IsUtf8Declaration (source : List ℕ) (d : DeclItem) : Type 0 where
 declarations-utf8 : (source : List ℕ) (ds : List DeclItem) → AllByRecursion (IsUtf8Declaration source) ds → AllByRecursion (λ ss. AllByRecursion (λ s. IsUtf8 s.bytes) ss) (map (declaration_shown source) ds)
 unfolding encode
 declarations-utf8 source [] each = tt
-declarations-utf8 source (d ∷ ds) (one, rest) =
-    ((one.named, ((58 ∷ [], (refl, refl)), each-append (λ s. IsUtf8 s.bytes) (value_shown source (tokens_in source d.value)) (importance_shown d.decl.important)
-      (value-utf8 source (tokens_in source d.value) one.value) (importance-utf8 d.decl.important))), declarations-utf8 source ds rest)
+declarations-utf8 source (d ∷ ds) (one, rest) = (
+  (
+    one.named,
+    (
+      (58 ∷ [], (refl, refl)),
+      each-append (λ s. IsUtf8 s.bytes) (value_shown source (tokens_in source d.value)) (importance_shown d.decl.important)
+          (value-utf8 source (tokens_in source d.value) one.value) (importance-utf8 d.decl.important),
+    ),
+  ),
+  declarations-utf8 source ds rest,
+)
 
 selector-utf8 : (source : List ℕ) (xs : List Lexeme) → AllByRecursion (IsGoodLexeme source) xs → AllByRecursion (λ s. IsUtf8 s.bytes) (map (selector_token source) xs)
 selector-utf8 source [] each = tt
@@ -108,7 +113,7 @@ rule-utf8 source good r each =
     let prelude = joined (sign_shown comma 0) (map (selector_shown source) r.selectors) in
     let inside = joined (sign_shown semicolon 1) (map (declaration_shown source) r.decls) in
     each-append (λ s. IsUtf8 s.bytes) (prelude ++ sign_shown open_curly 0 ∷ inside) (sign_shown close_curly 1 ∷ [])
-      (each-append (λ s. IsUtf8 s.bytes) prelude (sign_shown open_curly 0 ∷ inside)
-        (joined-utf8 comma 0 (44 ∷ [], (refl, refl)) (map (selector_shown source) r.selectors) (selectors-utf8 source good r.selectors))
-        ((123 ∷ [], (refl, refl)), joined-utf8 semicolon 1 (59 ∷ [], (refl, refl)) (map (declaration_shown source) r.decls) (declarations-utf8 source r.decls each)))
-      ((125 ∷ [], (refl, refl)), tt)
+    (each-append (λ s. IsUtf8 s.bytes) prelude (sign_shown open_curly 0 ∷ inside)
+    (joined-utf8 comma 0 (44 ∷ [], (refl, refl)) (map (selector_shown source) r.selectors) (selectors-utf8 source good r.selectors))
+    ((123 ∷ [], (refl, refl)), joined-utf8 semicolon 1 (59 ∷ [], (refl, refl)) (map (declaration_shown source) r.decls) (declarations-utf8 source r.decls each)))
+    ((125 ∷ [], (refl, refl)), tt)

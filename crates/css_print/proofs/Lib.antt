@@ -39,13 +39,11 @@ pub mod FrontSound
 pub mod FrontSource
 pub mod FrontTexts
 pub mod FrontUtf8
-mod Inversions
 mod Joining
 mod Lengths
 mod Members
 mod PieceLemmas
 mod PieceWords
-mod RoundTrip
 mod ShortItems
 mod ShortMark
 mod ShortNames
@@ -53,8 +51,5 @@ mod ShortParts
 mod ShortRoom
 mod ShortSheet
 mod ShortTokens
-mod Sound
 mod SoundExamples
-mod Texts
 mod WordLemmas
-mod Words

@@ -1,15 +1,15 @@
 -- What the first byte of a token tells of its kind.
-use Rattle.std.proofs.Common.{ℕ, zero, suc, ◌+◌, ◌<◌, ◌≤◌, ◌≡◌, ◌==◌, Bool, true, false, cond, ltb, List, [], ◌∷◌, ◌++◌, length, drop, take, Result, Ok, Err, IfOk, Option, Some, None, refl, sym, ap, ◌∙◌, subst, arith}
-use Rattle.std.specs.Prelude.{◌&&◌, ◌||◌}
+use Rattle.std.proofs.Common.{ℕ, suc, ◌+◌, ◌<◌, ◌≡◌, ◌==◌, Bool, true, false, cond, ltb, List, [], ◌∷◌, ◌++◌, length, drop, take, Ok, Err, Option, Some, None, refl, sym, ap, ◌∙◌, subst, arith}
+use Rattle.std.specs.Prelude.{◌&&◌}
 use Rattle.std.specs.Char.{is_ascii_digit}
-use Rattle.std.proofs.lemmas.Bool.{ltb-true, ltb-false, eqb-true, and_parts, false≢true, true≢false}
+use Rattle.std.proofs.lemmas.Bool.{ltb-false, eqb-true}
 use Rattle.css_model.specs.declared.token.TokenKind.{TokenKind}
 use Rattle.css_model.specs.declared.token.TokenKind.TheVariants as kind
 use Rattle.css_model.specs.declared.token.TokenFlaw.{TokenFlaw}
 use Rattle.css_model.specs.declared.token.TokenFlaw.TheVariants as flaw
 use Rattle.css_model.specs.Characters.{dash, slash, star, hash, is_white, is_sign, is_newline, less_than, greater_than, at_sign, percent, open_round, close_round, begins, begins_with, is_plus_or_minus}
 use Rattle.css_model.specs.Runs.{run}
-use Rattle.css_model.specs.Units.{white_unit, comment_unit, string_unit, name_unit, name_start, name_len, number_len, digit_unit, decimal, fraction, signed_decimal, url_unit}
+use Rattle.css_model.specs.Units.{white_unit, comment_unit, string_unit, name_unit, name_start, name_len, number_len, digit_unit, signed_decimal, url_unit}
 use Rattle.css_model.specs.TokenAt.{Shape, rule_at, part_at, slash_shape, comment_shape, string_shape, hash_shape, number_shape, less_shape, at_shape, url_shape, url_end, opened_shape, named_shape, word_at, symbol_at, done, is_quote, after_white}
 use Rattle.css_model.specs.Unescaped.{is_url}
 use Rattle.css_tokens.proofs.PartLemmas.{Holds, part_len, part_rule}
@@ -34,6 +34,7 @@ single c d same = record { holds = record { delim = λ e is. (let h : kind.Delim
     code_of : TokenKind → ℕ
     code_of (kind.Delim d) = d
     code_of _ = 0
+
     code : (j k : TokenKind) → j ≡ k → code_of j ≡ code_of k
     code j k is = ap code_of is
 
@@ -54,7 +55,7 @@ not-digit c cs none = which (is_ascii_digit c) refl
 url-told : (c n : ℕ) (rest : List ℕ) → Holds (Told c) (url_end n rest)
 url-told c n rest =
     branch (begins close_round rest) (done kind.Url (n + 1)) _ (λ _. other c (Some kind.Url) (n + 1) (λ d is. absurd cc) (λ is. absurd cc))
-      (λ _. branch (length rest == 0) (Err flaw.EndInside) (Err flaw.BadUrl) (λ _. flawed c _) (λ _. flawed c _))
+    (λ _. branch (length rest == 0) (Err flaw.EndInside) (Err flaw.BadUrl) (λ _. flawed c _) (λ _. flawed c _))
 
 opened-told : (c : ℕ) (name : List ℕ) (n : ℕ) (rest : List ℕ) → Holds (Told c) (opened_shape name n rest)
 opened-told c name n rest =
@@ -62,9 +63,9 @@ opened-told c name n rest =
     let text = after_white rest in
     let inner = drop (run url_unit text) text in
     branch (is_url name) (cond (begins_with is_quote text) (done kind.Function n) (url_shape (n + run white_unit rest) text)) (done kind.Function n)
-      (λ _. branch (begins_with is_quote text) (done kind.Function n) (url_shape (n + run white_unit rest) text) (λ _. call)
-        (λ _. url-told c (n + run white_unit rest + run url_unit text + run white_unit inner) (after_white inner)))
-      (λ _. call)
+    (λ _. branch (begins_with is_quote text) (done kind.Function n) (url_shape (n + run white_unit rest) text) (λ _. call)
+    (λ _. url-told c (n + run white_unit rest + run url_unit text + run white_unit inner) (after_white inner)))
+    (λ _. call)
 
 word-told : (c : ℕ) (cs : List ℕ) → is_ascii_digit c ≡ false → Holds (Told c) (word_at (c ∷ cs))
 word-told c cs no_digit =
@@ -72,10 +73,10 @@ word-told c cs no_digit =
     let n = name_len text in
     branch (c == dash && (begins dash cs && begins greater_than (drop 1 cs))) (done kind.CommentClose 3) _ (λ _. other c (Some kind.CommentClose) 3 (λ d is. absurd cc) (λ is. absurd cc))
     (λ _. branch (ltb 0 (name_start text)) (named_shape text) (done (cond (is_sign c) (kind.Sign c) (kind.Delim c)) 1)
-      (λ _. branch (begins open_round (drop n text)) (opened_shape (take n text) (n + 1) (drop (n + 1) text)) (done kind.Ident n)
-        (λ _. opened-told c (take n text) (n + 1) (drop (n + 1) text))
-        (λ _. record { holds = record { delim = λ d is. absurd cc; ident = λ _. no_digit } }))
-      (λ _. sign-or (is_sign c)))
+    (λ _. branch (begins open_round (drop n text)) (opened_shape (take n text) (n + 1) (drop (n + 1) text)) (done kind.Ident n)
+    (λ _. opened-told c (take n text) (n + 1) (drop (n + 1) text))
+    (λ _. record { holds = record { delim = λ d is. absurd cc; ident = λ _. no_digit } }))
+    (λ _. sign-or (is_sign c)))
   where
     sign-or : (b : Bool) → Holds (Told c) (done (cond b (kind.Sign c) (kind.Delim c)) 1)
     sign-or true = other c (Some (kind.Sign c)) 1 (λ d is. absurd cc) (λ is. absurd cc)
@@ -86,27 +87,27 @@ rule-told c cs =
     let text = c ∷ cs in
     let rest = drop (number_len text) text in
     branch (c == slash) (slash_shape cs) _
-      (λ is. branch (begins star cs) (comment_shape (drop 1 cs)) (done (kind.Delim slash) 1)
-        (λ _. branch (begins star (drop (run comment_unit (drop 1 cs)) (drop 1 cs))) (Ok (None, 4 + run comment_unit (drop 1 cs))) (Err flaw.EndInside)
-          (λ _. other c None _ (λ d is. absurd cc) (λ is. absurd cc)) (λ _. flawed c _))
-        (λ _. single c slash (sym (eqb-true c slash is))))
+    (λ is. branch (begins star cs) (comment_shape (drop 1 cs)) (done (kind.Delim slash) 1)
+    (λ _. branch (begins star (drop (run comment_unit (drop 1 cs)) (drop 1 cs))) (Ok (None, 4 + run comment_unit (drop 1 cs))) (Err flaw.EndInside)
+    (λ _. other c None _ (λ d is. absurd cc) (λ is. absurd cc)) (λ _. flawed c _))
+    (λ _. single c slash (sym (eqb-true c slash is))))
     (λ _. branch (is_white c) (done kind.White (run white_unit text)) _ (λ _. other c (Some kind.White) _ (λ d is. absurd cc) (λ is. absurd cc))
     (λ _. branch (is_quote c) (string_shape c cs) _
-      (λ _. branch (begins c (drop (run (string_unit c) cs) cs)) (done kind.Str (2 + run (string_unit c) cs)) _ (λ _. other c (Some kind.Str) _ (λ d is. absurd cc) (λ is. absurd cc))
-        (λ _. branch (begins_with is_newline (drop (run (string_unit c) cs) cs)) (Err flaw.BadString) (Err flaw.EndInside) (λ _. flawed c _) (λ _. flawed c _)))
+    (λ _. branch (begins c (drop (run (string_unit c) cs) cs)) (done kind.Str (2 + run (string_unit c) cs)) _ (λ _. other c (Some kind.Str) _ (λ d is. absurd cc) (λ is. absurd cc))
+    (λ _. branch (begins_with is_newline (drop (run (string_unit c) cs) cs)) (Err flaw.BadString) (Err flaw.EndInside) (λ _. flawed c _) (λ _. flawed c _)))
     (λ _. branch (c == hash) (hash_shape cs) (symbol_at text)
-      (λ is. branch (ltb 0 (name_unit cs)) (done (cond (ltb 0 (name_start cs)) kind.IdHash kind.Hash) (1 + name_len cs)) (done (kind.Delim hash) 1)
-        (λ _. hash-kind (ltb 0 (name_start cs)) (1 + name_len cs)) (λ _. single c hash (sym (eqb-true c hash is))))
+    (λ is. branch (ltb 0 (name_unit cs)) (done (cond (ltb 0 (name_start cs)) kind.IdHash kind.Hash) (1 + name_len cs)) (done (kind.Delim hash) 1)
+    (λ _. hash-kind (ltb 0 (name_start cs)) (1 + name_len cs)) (λ _. single c hash (sym (eqb-true c hash is))))
     (λ _. branch (ltb 0 (signed_decimal text)) (number_shape (number_len text) rest) _
-      (λ _. branch (ltb 0 (name_start rest)) (done kind.Dimension (number_len text + name_len rest)) _ (λ _. other c (Some kind.Dimension) _ (λ d is. absurd cc) (λ is. absurd cc))
-        (λ _. branch (begins percent rest) (done kind.Percentage (number_len text + 1)) (done kind.Number (number_len text))
-          (λ _. other c (Some kind.Percentage) _ (λ d is. absurd cc) (λ is. absurd cc)) (λ _. other c (Some kind.Number) _ (λ d is. absurd cc) (λ is. absurd cc))))
+    (λ _. branch (ltb 0 (name_start rest)) (done kind.Dimension (number_len text + name_len rest)) _ (λ _. other c (Some kind.Dimension) _ (λ d is. absurd cc) (λ is. absurd cc))
+    (λ _. branch (begins percent rest) (done kind.Percentage (number_len text + 1)) (done kind.Number (number_len text))
+    (λ _. other c (Some kind.Percentage) _ (λ d is. absurd cc) (λ is. absurd cc)) (λ _. other c (Some kind.Number) _ (λ d is. absurd cc) (λ is. absurd cc))))
     (λ none. branch (c == less_than) (less_shape cs) _
-      (λ is. branch (begins 33 cs && (begins dash (drop 1 cs) && begins dash (drop 2 cs))) (done kind.CommentOpen 4) (done (kind.Delim less_than) 1)
-        (λ _. other c (Some kind.CommentOpen) 4 (λ d is. absurd cc) (λ is. absurd cc)) (λ _. single c less_than (sym (eqb-true c less_than is))))
+    (λ is. branch (begins 33 cs && (begins dash (drop 1 cs) && begins dash (drop 2 cs))) (done kind.CommentOpen 4) (done (kind.Delim less_than) 1)
+    (λ _. other c (Some kind.CommentOpen) 4 (λ d is. absurd cc) (λ is. absurd cc)) (λ _. single c less_than (sym (eqb-true c less_than is))))
     (λ _. branch (c == at_sign) (at_shape cs) (word_at text)
-      (λ is. branch (ltb 0 (name_start cs)) (done kind.AtKeyword (1 + name_len cs)) (done (kind.Delim at_sign) 1)
-        (λ _. other c (Some kind.AtKeyword) _ (λ d is. absurd cc) (λ is. absurd cc)) (λ _. single c at_sign (sym (eqb-true c at_sign is))))
+    (λ is. branch (ltb 0 (name_start cs)) (done kind.AtKeyword (1 + name_len cs)) (done (kind.Delim at_sign) 1)
+    (λ _. other c (Some kind.AtKeyword) _ (λ d is. absurd cc) (λ is. absurd cc)) (λ _. single c at_sign (sym (eqb-true c at_sign is))))
     (λ _. word-told c cs (not-digit c cs none))))))))
   where
     hash-kind : (b : Bool) (n : ℕ) → Holds (Told c) (done (cond b kind.IdHash kind.Hash) n)

@@ -24,8 +24,7 @@ use Rattle.css_tokens.proofs.RowsAgain.{ends_front}
 use Rattle.css_tokens.proofs.RulesAgain.{part_again, rule_part}
 use Rattle.css_tokens.proofs.RunLemmas.{run_none}
 use Rattle.css_tokens.proofs.OpenFront.{ends_before_open}
-use Rattle.css_tokens.proofs.OpenKinds.{not_lone}
-use Rattle.css_tokens.proofs.OpenTokens.{space_ends, space_closes, open_is}
+use Rattle.css_tokens.proofs.OpenTokens.{not_lone, space_ends, space_closes, open_is}
 use Rattle.css_tokens.proofs.KeptParts.{part_of, feed, one_space, empty_comment, gap_part, gap_parts, last_parts, last_of}
 use Rattle.css_tokens.proofs.PartFacts.{first_of, white_none_of, after_white_none, from_solid, solid_no_white, quote_behind, slash_unquoted}
 use Rattle.css_tokens.proofs.SolidFacts.{lone_is, plain_of, comment_first, begins_solid}

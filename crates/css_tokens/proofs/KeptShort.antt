@@ -12,7 +12,7 @@ use Rattle.css_model.specs.TokenAt.{part_at}
 use Rattle.css_model.specs.Tokens.{Part, text_of}
 use Rattle.css_tokens.specs.Lexed.{IsLexed}
 use Rattle.css_tokens.specs.Solids.{gap_before, solids, solids_of, KeptIsShort}
-use Rattle.css_tokens.proofs.OpenKinds.{open_apart}
+use Rattle.css_tokens.proofs.OpenTokens.{open_apart}
 use Rattle.css_tokens.proofs.KeptParts.{behind}
 use Rattle.css_tokens.proofs.KeptRows.{IsToken}
 use Rattle.css_tokens.proofs.KeptBack.{rest_of}

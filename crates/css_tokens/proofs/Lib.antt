@@ -1,6 +1,5 @@
 pub mod AlikeLemmas
 pub mod ClosedAgain
-pub mod ClosedTokens
 pub mod CommentLemmas
 pub mod CommentParts
 pub mod EndExamples
@@ -8,13 +7,14 @@ pub mod EndsAnywhere
 pub mod EndsLemmas
 pub mod EscapeLemmas
 pub mod FirstBytes
-pub mod InsideRuns
 pub mod Keeps
 pub mod KeptBack
+pub mod KeptExamples
 pub mod KeptParts
 pub mod KeptRows
 pub mod KeptShort
 pub mod KeptTwice
+pub mod LastBytes
 pub mod LawLemmas
 pub mod LexedLemmas
 pub mod LexemeSolids
@@ -29,7 +29,6 @@ pub mod NumberRule
 pub mod NumbersAgain
 pub mod OneAnd
 pub mod OpenFront
-pub mod OpenKinds
 pub mod OpenRuns
 pub mod OpenTokens
 pub mod OpenUnits

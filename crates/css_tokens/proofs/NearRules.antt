@@ -1,6 +1,6 @@
 -- Tokens before a white space: each is the same, or takes the white space, where it ends in an open escape.
-use Rattle.std.proofs.Common.{ℕ, zero, suc, ◌+◌, ◌<◌, ◌≤◌, ◌≡◌, ◌⊎◌, inl, Bool, true, false, cond, ltb, ◌==◌, ◌&&◌, List, [], ◌∷◌, ◌++◌, Result, Ok, Err, Some, None, Option, length, drop, refl, sym, ap, ◌∙◌, subst, arith}
-use Rattle.std.proofs.lemmas.Bool.{ltb-true, lt-ltb, false≢true}
+use Rattle.std.proofs.Common.{ℕ, zero, suc, ◌+◌, ◌<◌, ◌≤◌, ◌≡◌, ◌⊎◌, inl, inr, Bool, true, false, cond, ltb, ◌==◌, ◌&&◌, List, [], ◌∷◌, ◌++◌, Result, Ok, Err, Some, None, Option, length, drop, refl, sym, ap, ◌∙◌, subst, arith}
+use Rattle.std.proofs.lemmas.Bool.{ltb-true, lt-ltb}
 use Rattle.std.proofs.lemmas.List.{drop-append-le, length-drop}
 use Rattle.css_model.specs.declared.token.TokenKind.{TokenKind}
 use Rattle.css_model.specs.declared.token.TokenFlaw.{TokenFlaw}
@@ -8,40 +8,26 @@ use Rattle.css_model.specs.declared.token.TokenFlaw.TheVariants as flaw
 use Rattle.css_model.specs.declared.token.TokenKind.TheVariants as kind
 use Rattle.css_model.specs.Characters.{space, backslash, dash, slash, star, hash, percent, less_than, at_sign, open_round, begins}
 use Rattle.css_model.specs.Units.{name_unit, name_start, name_len, number_len}
-use Rattle.css_model.specs.TokenAt.{Shape, done, slash_shape, comment_shape, hash_shape, number_shape, less_shape, at_shape, opened_shape}
+use Rattle.css_model.specs.TokenAt.{Shape, done, slash_shape, comment_shape, hash_shape, number_shape, less_shape, at_shape}
 use Rattle.css_tokens.specs.OpenEscape.{ends_open}
 use Rattle.css_tokens.proofs.OpenUnits.{run_zero}
 use Rattle.css_tokens.proofs.OpenRuns.{run_near, name_start_same}
 use Rattle.css_tokens.proofs.NearNumbers.{number_pass}
-use Rattle.css_tokens.proofs.ClosedTokens.{last_closed, only_is, done_len, Closed}
+use Rattle.css_tokens.proofs.LastBytes.{last_closed, only_is, done_len, itself_of, IsShut}
 use Rattle.css_tokens.proofs.RunLemmas.{run_none}
 
 -- how many bytes a token takes before a white space
 abbrev pub near_len : List ℕ → ℕ
 near_len v = cond (ends_open v) (suc (length v)) (length v)
 
--- a function, whose name may be `url`
-pub record IsOpened (k : TokenKind) (v old new : List ℕ) (shape : Result Shape TokenFlaw) : Type 0 where
-  pub name : List ℕ
-  pub closed : ends_open v ≡ false
-  pub before : opened_shape name (length v) old ≡ done k (length v)
-  pub behind : shape ≡ opened_shape name (length v) new
-
--- what is read before `new`, where a token of this kind was read before `old`
-abbrev pub Nearly : TokenKind → List ℕ → List ℕ → List ℕ → Result Shape TokenFlaw → Type 0
-Nearly k v old new shape = (shape ≡ done k (near_len v)) ⊎ IsOpened k v old new shape
+-- what is read before `new`, where a token of this kind was read; if it ends itself, that is known without it
+abbrev pub Nearly : TokenKind → List ℕ → Result Shape TokenFlaw → Type 0
+Nearly k v shape = (shape ≡ done k (near_len v)) ⊎ IsShut k v
 
 -- where a token takes the white space, no name goes on behind it, and nothing is called
 pub record Apart (v more : List ℕ) : Type 0 where
   pub no_name : ends_open v ≡ true → name_unit more ≡ 0
   pub no_round : ends_open v ≡ true → begins open_round more ≡ false
-
-pub chosen : (P : Result Shape TokenFlaw → Type 0) (b b' : Bool) (x y x' y' z : Result Shape TokenFlaw) → b' ≡ b → (b ≡ true → x ≡ z → P x') → (b ≡ false → y ≡ z → P y')
-    → cond b x y ≡ z → P (cond b' x' y')
-chosen P true true x y x' y' z same left right is = left refl is
-chosen P true false x y x' y' z same left right is = absurd (false≢true same)
-chosen P false true x y x' y' z same left right is = absurd (false≢true (sym same))
-chosen P false false x y x' y' z same left right is = right refl is
 
 pub closed_len : (v : List ℕ) → ends_open v ≡ false → near_len v ≡ length v
 closed_len v closed = rw closed refl
@@ -72,10 +58,7 @@ module _ (old more : List ℕ) (k : TokenKind) where
   abbrev pub new : List ℕ
   new = space ∷ more
 
-  pub is_closed : (v : List ℕ) (before behind : Result Shape TokenFlaw) → before ≡ done k (length v) → Closed v before behind → Nearly k v old new behind
-  is_closed v before behind is closed = inl (closed.same ∙ is ∙ ap (done k) (sym (closed_len v closed.closed)))
-
-  pub slash_near : (cs : List ℕ) → slash_shape (cs ++ old) ≡ done k (suc (length cs)) → Nearly k (slash ∷ cs) old new (slash_shape (cs ++ new))
+  pub slash_near : (cs : List ℕ) → slash_shape (cs ++ old) ≡ done k (suc (length cs)) → Nearly k (slash ∷ cs) (slash_shape (cs ++ new))
   slash_near cs is = which (begins star (cs ++ old)) is
     where
       comment : (b : Bool) (n : ℕ) → cond b (Ok (None, n)) (Err flaw.EndInside) ≡ done k (suc (length cs)) → ⊥
@@ -85,11 +68,11 @@ module _ (old more : List ℕ) (k : TokenKind) where
           cc
       comment false n is = cc
 
-      which : (b : Bool) → cond b (comment_shape (drop 1 (cs ++ old))) (done (kind.Delim slash) 1) ≡ done k (suc (length cs)) → Nearly k (slash ∷ cs) old new (slash_shape (cs ++ new))
+      which : (b : Bool) → cond b (comment_shape (drop 1 (cs ++ old))) (done (kind.Delim slash) 1) ≡ done k (suc (length cs)) → Nearly k (slash ∷ cs) (slash_shape (cs ++ new))
       which true is = absurd (comment _ _ is)
       which false is = single cs is
         where
-          single : (cs : List ℕ) → done (kind.Delim slash) 1 ≡ done k (suc (length cs)) → Nearly k (slash ∷ cs) old new (slash_shape (cs ++ new))
+          single : (cs : List ℕ) → done (kind.Delim slash) 1 ≡ done k (suc (length cs)) → Nearly k (slash ∷ cs) (slash_shape (cs ++ new))
           single [] is = inl is
           single (c ∷ cs) is = absurd (let len = done_len (kind.Delim slash) k 1 (suc (suc (length cs))) is in omega (arith, len))
 
@@ -117,16 +100,16 @@ module _ (old more : List ℕ) (k : TokenKind) where
       which zero none = absurd (omega (arith, run_none name_unit (u ++ new) none, is, long (ends_open u)))
       which (suc n) first = lt-ltb 0 (name_unit (u ++ new)) (omega (arith, first))
 
-  pub hash_near : (cs : List ℕ) → (ends_open cs ≡ true → name_unit more ≡ 0) → hash_shape (cs ++ old) ≡ done k (suc (length cs)) → Nearly k (hash ∷ cs) old new (hash_shape (cs ++ new))
+  pub hash_near : (cs : List ℕ) → (ends_open cs ≡ true → name_unit more ≡ 0) → hash_shape (cs ++ old) ≡ done k (suc (length cs)) → Nearly k (hash ∷ cs) (hash_shape (cs ++ new))
   hash_near cs apart is = which (ltb 0 (name_unit (cs ++ old))) refl is
     where
-      single : (cs : List ℕ) → ltb 0 (name_unit (cs ++ old)) ≡ false → done (kind.Delim hash) 1 ≡ done k (suc (length cs)) → Nearly k (hash ∷ cs) old new (hash_shape (cs ++ new))
+      single : (cs : List ℕ) → ltb 0 (name_unit (cs ++ old)) ≡ false → done (kind.Delim hash) 1 ≡ done k (suc (length cs)) → Nearly k (hash ∷ cs) (hash_shape (cs ++ new))
       single [] other is = inl is
       single (c ∷ cs) other is = absurd (let len = done_len (kind.Delim hash) k 1 (suc (suc (length cs))) is in omega (arith, len))
 
       which : (b : Bool) → ltb 0 (name_unit (cs ++ old)) ≡ b
           → cond b (done (cond (ltb 0 (name_start (cs ++ old))) kind.IdHash kind.Hash) (1 + name_len (cs ++ old))) (done (kind.Delim hash) 1) ≡ done k (suc (length cs))
-          → Nearly k (hash ∷ cs) old new (hash_shape (cs ++ new))
+          → Nearly k (hash ∷ cs) (hash_shape (cs ++ new))
       which false first is = single cs first is
       which true first is =
           let hashed : Bool → TokenKind = λ (b : Bool). cond b kind.IdHash kind.Hash in
@@ -139,15 +122,15 @@ module _ (old more : List ℕ) (k : TokenKind) where
           let kinds : done (hashed (ltb 0 (name_start (cs ++ old)))) (near_len (hash ∷ cs)) ≡ done k (near_len (hash ∷ cs)) = kind_of _ k (1 + name_len (cs ++ old)) (suc (length cs)) (near_len (hash ∷ cs)) is in
           inl (here ∙ ap (λ (n : ℕ). done (hashed (ltb 0 (name_start (cs ++ new)))) n) size ∙ ap (λ (b : Bool). done (hashed b) (near_len (hash ∷ cs))) near.starts ∙ kinds)
 
-  pub at_near : (cs : List ℕ) → (ends_open cs ≡ true → name_unit more ≡ 0) → at_shape (cs ++ old) ≡ done k (suc (length cs)) → Nearly k (at_sign ∷ cs) old new (at_shape (cs ++ new))
+  pub at_near : (cs : List ℕ) → (ends_open cs ≡ true → name_unit more ≡ 0) → at_shape (cs ++ old) ≡ done k (suc (length cs)) → Nearly k (at_sign ∷ cs) (at_shape (cs ++ new))
   at_near cs apart is = which (ltb 0 (name_start (cs ++ old))) refl is
     where
-      single : (cs : List ℕ) → done (kind.Delim at_sign) 1 ≡ done k (suc (length cs)) → Nearly k (at_sign ∷ cs) old new (at_shape (cs ++ new))
+      single : (cs : List ℕ) → done (kind.Delim at_sign) 1 ≡ done k (suc (length cs)) → Nearly k (at_sign ∷ cs) (at_shape (cs ++ new))
       single [] is = inl is
       single (c ∷ cs) is = absurd (let len = done_len (kind.Delim at_sign) k 1 (suc (suc (length cs))) is in omega (arith, len))
 
       which : (b : Bool) → ltb 0 (name_start (cs ++ old)) ≡ b → cond b (done kind.AtKeyword (1 + name_len (cs ++ old))) (done (kind.Delim at_sign) 1) ≡ done k (suc (length cs))
-          → Nearly k (at_sign ∷ cs) old new (at_shape (cs ++ new))
+          → Nearly k (at_sign ∷ cs) (at_shape (cs ++ new))
       which false first is = single cs is
       which true first is =
           let len : 1 + name_len (cs ++ old) ≡ suc (length cs) = done_len kind.AtKeyword k (1 + name_len (cs ++ old)) (suc (length cs)) is in
@@ -159,20 +142,20 @@ module _ (old more : List ℕ) (k : TokenKind) where
 
   -- what stands behind a number of n bytes
   unit_near : (n : ℕ) (v u : List ℕ) → length v ≡ n + length u → ends_open u ≡ ends_open v → (ends_open v ≡ true → name_unit more ≡ 0) → number_shape n (u ++ old) ≡ done k (length v)
-      → Nearly k v old new (number_shape n (u ++ new))
+      → Nearly k v (number_shape n (u ++ new))
   unit_near n v u size ends apart is = which (ltb 0 (name_start (u ++ old))) (begins percent (u ++ old)) refl refl is
     where
       wide : (b : Bool) → ends_open v ≡ b → n + near_len u ≡ near_len v
       wide true open_end = rw (ends ∙ open_end, open_end) (omega (arith, size))
       wide false open_end = rw (ends ∙ open_end, open_end) (omega (arith, size))
 
-      bare : (u : List ℕ) → length u ≡ 0 → ends_open u ≡ ends_open v → done kind.Number n ≡ done k (length v) → Nearly k v old new (number_shape n (u ++ new))
+      bare : (u : List ℕ) → length u ≡ 0 → ends_open u ≡ ends_open v → done kind.Number n ≡ done k (length v) → Nearly k v (number_shape n (u ++ new))
       bare [] none ends is = inl (is ∙ ap (done k) (sym (closed_len v (sym ends))))
       bare (c ∷ cs) none ends is = absurd (omega arith)
 
       which : (b p : Bool) → ltb 0 (name_start (u ++ old)) ≡ b → begins percent (u ++ old) ≡ p
           → cond b (done kind.Dimension (n + name_len (u ++ old))) (cond p (done kind.Percentage (n + 1)) (done kind.Number n)) ≡ done k (length v)
-          → Nearly k v old new (number_shape n (u ++ new))
+          → Nearly k v (number_shape n (u ++ new))
       which true p starts hundred is =
           let len : n + name_len (u ++ old) ≡ length v = done_len kind.Dimension k (n + name_len (u ++ old)) (length v) is in
           let near = name_near u (λ (open_end : ends_open u ≡ true). apart (sym ends ∙ open_end)) (omega (arith, len, size)) in
@@ -191,7 +174,7 @@ module _ (old more : List ℕ) (k : TokenKind) where
 
   -- a number
   pub number_near : (v : List ℕ) → (ends_open v ≡ true → name_unit more ≡ 0) → number_shape (number_len (v ++ old)) (drop (number_len (v ++ old)) (v ++ old)) ≡ done k (length v)
-      → Nearly k v old new (number_shape (number_len (v ++ new)) (drop (number_len (v ++ new)) (v ++ new)))
+      → Nearly k v (number_shape (number_len (v ++ new)) (drop (number_len (v ++ new)) (v ++ new)))
   number_near v apart is =
       let n = number_len (v ++ old) in
       let fits : n ≤ length v = number_least n (drop n (v ++ old)) k (length v) is in
@@ -201,12 +184,12 @@ module _ (old more : List ℕ) (k : TokenKind) where
       let near = unit_near n v (drop n v) (omega (arith, fits, length-drop n v)) pass.ends apart here in
       let whole : number_shape (number_len (v ++ new)) (drop (number_len (v ++ new)) (v ++ new)) ≡ number_shape n (drop n v ++ new) =
       ap (λ (n : ℕ). number_shape n (drop n (v ++ new))) pass.same ∙ ap (number_shape n) (cut new) in
-      subst (Nearly k v old new) (sym whole) near
+      subst (Nearly k v) (sym whole) near
 
-  pub less_near : (cs : List ℕ) → less_shape (cs ++ old) ≡ done k (suc (length cs)) → Nearly k (less_than ∷ cs) old new (less_shape (cs ++ new))
+  pub less_near : (cs : List ℕ) → less_shape (cs ++ old) ≡ done k (suc (length cs)) → Nearly k (less_than ∷ cs) (less_shape (cs ++ new))
   less_near [] is = which (begins 33 old && (begins dash (drop 1 old) && begins dash (drop 2 old))) is
     where
-      which : (b : Bool) → cond b (done kind.CommentOpen 4) (done (kind.Delim less_than) 1) ≡ done k 1 → Nearly k (less_than ∷ []) old new (less_shape new)
+      which : (b : Bool) → cond b (done kind.CommentOpen 4) (done (kind.Delim less_than) 1) ≡ done k 1 → Nearly k (less_than ∷ []) (less_shape new)
       which true is = absurd (let len = done_len kind.CommentOpen k 4 1 is in omega (arith, len))
       which false is = inl is
   less_near (a ∷ []) is = absurd (which (a == 33 && (begins dash old && begins dash (drop 1 old))) is)
@@ -217,13 +200,14 @@ module _ (old more : List ℕ) (k : TokenKind) where
   less_near (a ∷ b ∷ cs) is = which (a == 33) (b == dash) (begins dash (cs ++ old)) refl is
     where
       which : (x y z : Bool) → begins dash (cs ++ old) ≡ z → cond (x && (y && z)) (done kind.CommentOpen 4) (done (kind.Delim less_than) 1) ≡ done k (suc (suc (suc (length cs))))
-          → Nearly k (less_than ∷ a ∷ b ∷ cs) old new (less_shape (a ∷ b ∷ cs ++ new))
+          → Nearly k (less_than ∷ a ∷ b ∷ cs) (less_shape (a ∷ b ∷ cs ++ new))
       which false y z third is = absurd (let len = done_len (kind.Delim less_than) k 1 _ is in omega (arith, len))
       which true false z third is = absurd (let len = done_len (kind.Delim less_than) k 1 _ is in omega (arith, len))
       which true true false third is = absurd (let len = done_len (kind.Delim less_than) k 1 _ is in omega (arith, len))
       which true true true third here =
           let len : ◌≡◌ {A = ℕ} 4 (suc (suc (suc (length cs)))) = done_len kind.CommentOpen k 4 _ here in
           let last : cs ≡ dash ∷ [] = only_is dash cs old (omega (arith, len)) third in
-          let same : less_shape (a ∷ b ∷ cs ++ new) ≡ less_shape (a ∷ b ∷ cs ++ old) = rw last refl in
-          is_closed (less_than ∷ a ∷ b ∷ cs) (less_shape (a ∷ b ∷ cs ++ old)) (less_shape (a ∷ b ∷ cs ++ new)) is
-          (record { same = same; closed = last_closed dash (less_than ∷ a ∷ b ∷ cs) (record { no_digit = refl; no_backslash = refl }) (record { at = 3; is = last }) })
+          inr (record {
+            itself = itself_of kind.CommentOpen k 4 _ here refl;
+            closed = last_closed dash (less_than ∷ a ∷ b ∷ cs) (record { no_digit = refl; no_backslash = refl }) (record { at = 3; is = last });
+          })

@@ -1,19 +1,20 @@
 -- A token before a white space: it is the same, or takes the white space, where it ends in an open escape.
-use Rattle.std.proofs.Common.{ℕ, suc, ◌≤◌, ◌≡◌, inl, Bool, true, false, cond, ltb, ◌==◌, ◌&&◌, List, [], ◌∷◌, ◌++◌, Some, Option, length, drop, refl, sym, ap, ◌∙◌, subst, arith}
+use Rattle.std.proofs.Common.{ℕ, suc, ◌≤◌, ◌≡◌, inl, Bool, true, false, cond, ltb, ◌==◌, ◌&&◌, List, [], ◌∷◌, ◌++◌, Some, Option, length, drop, refl, sym, ap, ◌∙◌, subst, arith, ◌⊎◌, inr}
 use Rattle.std.proofs.lemmas.Bool.{eqb-true, ltb-false, false≢true}
 use Rattle.css_model.specs.declared.token.TokenKind.{TokenKind}
 use Rattle.css_model.specs.declared.token.TokenKind.TheVariants as kind
-use Rattle.css_model.specs.Characters.{space, backslash, dash, slash, hash, less_than, greater_than, at_sign, is_white, is_sign, is_start, begins}
+use Rattle.css_model.specs.Characters.{space, backslash, dash, slash, hash, less_than, greater_than, at_sign, is_white, is_sign, begins}
 use Rattle.css_model.specs.Kept.{is_lone}
 use Rattle.css_model.specs.Lexemes.{is_white_kind}
 use Rattle.css_model.specs.Runs.{run}
-use Rattle.css_model.specs.Units.{white_unit, name_unit, start_unit, name_start, escape_after, signed_decimal, number_len, one_and}
+use Rattle.css_model.specs.Units.{white_unit, name_unit, name_start, signed_decimal, number_len}
 use Rattle.css_model.specs.TokenAt.{Shape, rule_at, done, is_quote, slash_shape, string_shape, hash_shape, number_shape, less_shape, at_shape, named_shape, word_at, symbol_at}
 use Rattle.css_tokens.specs.OpenEscape.{ends_open}
 use Rattle.css_tokens.proofs.NearNumbers.{signed_decimal_pass}
-use Rattle.css_tokens.proofs.ClosedTokens.{last_closed, done_len, string_closed}
-use Rattle.css_tokens.proofs.NearRules.{near_len, Nearly, Apart, closed_len, kind_of, is_closed, slash_near, hash_near, at_near, number_near, number_least, less_near}
-use Rattle.css_tokens.proofs.NearNames.{named_near}
+use Rattle.css_tokens.specs.Alike.{ends_itself}
+use Rattle.css_tokens.proofs.LastBytes.{last_closed, done_len, itself_of, string_shut, IsShut}
+use Rattle.css_tokens.proofs.NearRules.{Nearly, Apart, slash_near, hash_near, at_near, number_near, number_least, less_near}
+use Rattle.css_tokens.proofs.NearNames.{IdentNear, named_near}
 
 -- what is read of a text by its first byte and the tests that look further
 word_close : (c : ℕ) (cs : List ℕ) → (c == dash && (begins dash cs && begins greater_than (drop 1 cs))) ≡ true → word_at (c ∷ cs) ≡ done kind.CommentClose 3
@@ -89,109 +90,103 @@ module _ (old more : List ℕ) (k : TokenKind) where
       which false d = refl
   close_same c (a ∷ b ∷ cs) is = is
 
-  close_near : (c : ℕ) (cs : List ℕ) → (c == dash && (begins dash (cs ++ old) && begins greater_than (drop 1 (cs ++ old)))) ≡ true → done kind.CommentClose 3 ≡ done k (suc (length cs))
-      → ((c == dash && (begins dash (cs ++ new) && begins greater_than (drop 1 (cs ++ new)))) ≡ true) × (near_len (c ∷ cs) ≡ 3)
-  close_near c [] first is = absurd (let len = done_len kind.CommentClose k 3 1 is in omega (arith, len))
-  close_near c (a ∷ []) first is = absurd (let len = done_len kind.CommentClose k 3 2 is in omega (arith, len))
-  close_near c (a ∷ b ∷ []) first is =
+  close_shut : (c : ℕ) (cs : List ℕ) → (c == dash && (begins dash (cs ++ old) && begins greater_than (drop 1 (cs ++ old)))) ≡ true → done kind.CommentClose 3 ≡ done k (suc (length cs)) → IsShut k (c ∷ cs)
+  close_shut c [] first is = absurd (let len = done_len kind.CommentClose k 3 1 is in omega (arith, len))
+  close_shut c (a ∷ []) first is = absurd (let len = done_len kind.CommentClose k 3 2 is in omega (arith, len))
+  close_shut c (a ∷ b ∷ []) first is =
       let last : b ≡ greater_than = eqb-true b greater_than (third (c == dash) (a == dash) (b == greater_than) first) in
-      (first, closed_len (c ∷ a ∷ b ∷ []) (last_closed greater_than (c ∷ a ∷ b ∷ []) (record { no_digit = refl; no_backslash = refl }) (record { at = 2; is = ap (λ (b : ℕ). b ∷ []) last })))
+      record {
+        itself = itself_of kind.CommentClose k 3 3 is refl;
+        closed = last_closed greater_than (c ∷ a ∷ b ∷ []) (record { no_digit = refl; no_backslash = refl }) (record { at = 2; is = ap (λ (b : ℕ). b ∷ []) last });
+      }
     where
       third : (x y z : Bool) → (x && (y && z)) ≡ true → z ≡ true
       third true true z is = is
       third true false z is = absurd (false≢true is)
       third false y z is = absurd (false≢true is)
-  close_near c (a ∷ b ∷ d ∷ cs) first is = absurd (let len = done_len kind.CommentClose k 3 _ is in omega (arith, len))
+  close_shut c (a ∷ b ∷ d ∷ cs) first is = absurd (let len = done_len kind.CommentClose k 3 (suc (suc (suc (suc (length cs))))) is in omega (arith, len))
 
   -- a sign, or a code point by itself
-  single_near : (c : ℕ) (cs : List ℕ) → is_lone k ≡ false → ltb 0 (name_start (c ∷ cs ++ old)) ≡ false → done (cond (is_sign c) (kind.Sign c) (kind.Delim c)) 1 ≡ done k (suc (length cs))
-      → (ltb 0 (name_start (c ∷ cs ++ new)) ≡ false) × (near_len (c ∷ cs) ≡ 1)
-  single_near c (d ∷ ds) other starts is = absurd (let len = done_len (cond (is_sign c) (kind.Sign c) (kind.Delim c)) k 1 (suc (suc (length ds))) is in omega (arith, len))
-  single_near c [] other starts is = which (c == backslash) refl
+  single_shut : (c : ℕ) (cs : List ℕ) → is_lone k ≡ false → done (cond (is_sign c) (kind.Sign c) (kind.Delim c)) 1 ≡ done k (suc (length cs)) → IsShut k (c ∷ cs)
+  single_shut c (d ∷ ds) other is = absurd (let len = done_len (cond (is_sign c) (kind.Sign c) (kind.Delim c)) k 1 (suc (suc (length ds))) is in omega (arith, len))
+  single_shut c [] other is = record { itself = itself_of (cond (is_sign c) (kind.Sign c) (kind.Delim c)) k 1 1 is (alone (is_sign c)); closed = which (c == backslash) refl }
     where
-      begun : (d s : Bool) (m : ℕ) → ltb 0 (cond d m (cond s 1 (cond false (escape_after old) 0))) ≡ false → ltb 0 (cond d 0 (cond s 1 0)) ≡ false
-      begun true s m is = refl
-      begun false true m is = is
-      begun false false m is = refl
+      alone : (b : Bool) → ends_itself (Some (cond b (kind.Sign c) (kind.Delim c))) ≡ true
+      alone true = refl
+      alone false = refl
 
-      which : (b : Bool) → (c == backslash) ≡ b → (ltb 0 (name_start (c ∷ new)) ≡ false) × (near_len (c ∷ []) ≡ 1)
+      which : (b : Bool) → (c == backslash) ≡ b → ends_open (c ∷ []) ≡ false
       which true slash = absurd (false≢true (sym other ∙ lone_kind k (rw (eqb-true c backslash slash) at is)))
-      which false slash =
-          (rw slash (begun (c == dash) (is_start c) (cond (begins dash old) 2 (one_and (start_unit old))) (rw slash at starts)), rw slash refl)
+      which false slash = rw slash refl
 
-  word_near : (c : ℕ) (cs : List ℕ) → Apart (c ∷ cs) more → is_lone k ≡ false → word_at (c ∷ cs ++ old) ≡ done k (suc (length cs)) → Nearly k (c ∷ cs) old new (word_at (c ∷ cs ++ new))
+  word_near : (c : ℕ) (cs : List ℕ) → Apart (c ∷ cs) more → is_lone k ≡ false → word_at (c ∷ cs ++ old) ≡ done k (suc (length cs)) → Nearly k (c ∷ cs) (word_at (c ∷ cs ++ new))
   word_near c cs apart other is = which (c == dash && (begins dash (cs ++ old) && begins greater_than (drop 1 (cs ++ old)))) (ltb 0 (name_start (c ∷ cs ++ old))) refl refl
     where
+      named : (c == dash && (begins dash (cs ++ old) && begins greater_than (drop 1 (cs ++ old)))) ≡ false → IdentNear old more k (c ∷ cs) ⊎ IsShut k (c ∷ cs) → Nearly k (c ∷ cs) (word_at (c ∷ cs ++ new))
+      named close (inl ident) = inl (word_named c (cs ++ new) (close_same c cs close) ident.starts ∙ ident.near)
+      named close (inr shut) = inr shut
+
       which : (b s : Bool) → (c == dash && (begins dash (cs ++ old) && begins greater_than (drop 1 (cs ++ old)))) ≡ b → ltb 0 (name_start (c ∷ cs ++ old)) ≡ s
-          → Nearly k (c ∷ cs) old new (word_at (c ∷ cs ++ new))
-      which true s close starts =
-          let here : done kind.CommentClose 3 ≡ done k (suc (length cs)) = sym (word_close c (cs ++ old) close) ∙ is in
-          let near = close_near c cs close here in
-          inl (word_close c (cs ++ new) near.0 ∙ kind_of kind.CommentClose k 3 (suc (length cs)) 3 here ∙ ap (done k) (sym near.1))
+          → Nearly k (c ∷ cs) (word_at (c ∷ cs ++ new))
+      which true s close starts = inr (close_shut c cs close (sym (word_close c (cs ++ old) close) ∙ is))
       which false true close starts =
           let here : named_shape (c ∷ cs ++ old) ≡ done k (suc (length cs)) = sym (word_named c (cs ++ old) close starts) ∙ is in
-          let near = named_near old more k (c ∷ cs) apart starts here in
-          subst (Nearly k (c ∷ cs) old new) (sym (word_named c (cs ++ new) (close_same c cs close) near.starts)) near.near
-      which false false close starts =
-          let single : TokenKind = cond (is_sign c) (kind.Sign c) (kind.Delim c) in
-          let here : done single 1 ≡ done k (suc (length cs)) = sym (word_single c (cs ++ old) close starts) ∙ is in
-          let near = single_near c cs other starts here in
-          inl (word_single c (cs ++ new) (close_same c cs close) near.0 ∙ kind_of single k 1 (suc (length cs)) 1 here ∙ ap (done k) (sym near.1))
+          named close (named_near old more k (c ∷ cs) apart starts here)
+      which false false close starts = inr (single_shut c cs other (sym (word_single c (cs ++ old) close starts) ∙ is))
 
-  symbol_near : (c : ℕ) (cs : List ℕ) → Apart (c ∷ cs) more → is_lone k ≡ false → symbol_at (c ∷ cs ++ old) ≡ done k (suc (length cs)) → Nearly k (c ∷ cs) old new (symbol_at (c ∷ cs ++ new))
+  symbol_near : (c : ℕ) (cs : List ℕ) → Apart (c ∷ cs) more → is_lone k ≡ false → symbol_at (c ∷ cs ++ old) ≡ done k (suc (length cs)) → Nearly k (c ∷ cs) (symbol_at (c ∷ cs ++ new))
   symbol_near c cs apart other is = which (ltb 0 (signed_decimal (c ∷ cs ++ old))) (c == less_than) (c == at_sign) refl refl refl
     where
       same : signed_decimal (c ∷ cs ++ old) ≤ suc (length cs) → ltb 0 (signed_decimal (c ∷ cs ++ new)) ≡ ltb 0 (signed_decimal (c ∷ cs ++ old))
       same fits = ap (ltb 0) (signed_decimal_pass old more (c ∷ cs) fits).same
 
-      which : (n l a : Bool) → ltb 0 (signed_decimal (c ∷ cs ++ old)) ≡ n → (c == less_than) ≡ l → (c == at_sign) ≡ a → Nearly k (c ∷ cs) old new (symbol_at (c ∷ cs ++ new))
+      which : (n l a : Bool) → ltb 0 (signed_decimal (c ∷ cs ++ old)) ≡ n → (c == less_than) ≡ l → (c == at_sign) ≡ a → Nearly k (c ∷ cs) (symbol_at (c ∷ cs ++ new))
       which true l a number less sign =
           let here : number_shape (number_len (c ∷ cs ++ old)) (drop (number_len (c ∷ cs ++ old)) (c ∷ cs ++ old)) ≡ done k (suc (length cs)) = sym (symbol_number c (cs ++ old) number) ∙ is in
           let least = number_least (number_len (c ∷ cs ++ old)) (drop (number_len (c ∷ cs ++ old)) (c ∷ cs ++ old)) k (suc (length cs)) here in
           let near = number_near old more k (c ∷ cs) apart.no_name here in
-          subst (Nearly k (c ∷ cs) old new) (sym (symbol_number c (cs ++ new) (same (omega (arith, least)) ∙ number))) near
+          subst (Nearly k (c ∷ cs)) (sym (symbol_number c (cs ++ new) (same (omega (arith, least)) ∙ number))) near
       which false true a number less sign =
           let none = ltb-false 0 (signed_decimal (c ∷ cs ++ old)) number in
           let here : less_shape (cs ++ old) ≡ done k (suc (length cs)) = sym (symbol_less c (cs ++ old) number less) ∙ is in
           let near = less_near old more k cs here in
-          let N : ℕ → Type 0 = λ (c : ℕ). Nearly k (c ∷ cs) old new (less_shape (cs ++ new)) in
-          subst (Nearly k (c ∷ cs) old new) (sym (symbol_less c (cs ++ new) (same (omega (arith, none)) ∙ number) less)) (subst N (sym (eqb-true c less_than less)) near)
+          let N : ℕ → Type 0 = λ (c : ℕ). Nearly k (c ∷ cs) (less_shape (cs ++ new)) in
+          subst (Nearly k (c ∷ cs)) (sym (symbol_less c (cs ++ new) (same (omega (arith, none)) ∙ number) less)) (subst N (sym (eqb-true c less_than less)) near)
       which false false true number less sign =
           let none = ltb-false 0 (signed_decimal (c ∷ cs ++ old)) number in
           let here : at_shape (cs ++ old) ≡ done k (suc (length cs)) = sym (symbol_keyword c (cs ++ old) number less sign) ∙ is in
           let is_sign : c ≡ at_sign = eqb-true c at_sign sign in
           let named : ends_open cs ≡ true → name_unit more ≡ 0 = λ open_end. apart.no_name (rw is_sign open_end) in
           let near = at_near old more k cs named here in
-          let N : ℕ → Type 0 = λ (c : ℕ). Nearly k (c ∷ cs) old new (at_shape (cs ++ new)) in
-          subst (Nearly k (c ∷ cs) old new) (sym (symbol_keyword c (cs ++ new) (same (omega (arith, none)) ∙ number) less sign)) (subst N (sym is_sign) near)
+          let N : ℕ → Type 0 = λ (c : ℕ). Nearly k (c ∷ cs) (at_shape (cs ++ new)) in
+          subst (Nearly k (c ∷ cs)) (sym (symbol_keyword c (cs ++ new) (same (omega (arith, none)) ∙ number) less sign)) (subst N (sym is_sign) near)
       which false false false number less sign =
           let none = ltb-false 0 (signed_decimal (c ∷ cs ++ old)) number in
           let here : word_at (c ∷ cs ++ old) ≡ done k (suc (length cs)) = sym (symbol_word c (cs ++ old) number less sign) ∙ is in
-          subst (Nearly k (c ∷ cs) old new) (sym (symbol_word c (cs ++ new) (same (omega (arith, none)) ∙ number) less sign)) (word_near c cs apart other here)
+          subst (Nearly k (c ∷ cs)) (sym (symbol_word c (cs ++ new) (same (omega (arith, none)) ∙ number) less sign)) (word_near c cs apart other here)
 
   pub rule_near : (c : ℕ) (cs : List ℕ) → Apart (c ∷ cs) more → is_lone k ≡ false → is_white_kind k ≡ false → rule_at (c ∷ cs ++ old) ≡ done k (suc (length cs))
-      → Nearly k (c ∷ cs) old new (rule_at (c ∷ cs ++ new))
+      → Nearly k (c ∷ cs) (rule_at (c ∷ cs ++ new))
   rule_near c cs apart other solid is = which (c == slash) (is_white c) (is_quote c) (c == hash) refl refl refl refl
     where
-      which : (s w q h : Bool) → (c == slash) ≡ s → is_white c ≡ w → is_quote c ≡ q → (c == hash) ≡ h → Nearly k (c ∷ cs) old new (rule_at (c ∷ cs ++ new))
+      which : (s w q h : Bool) → (c == slash) ≡ s → is_white c ≡ w → is_quote c ≡ q → (c == hash) ≡ h → Nearly k (c ∷ cs) (rule_at (c ∷ cs ++ new))
       which true w q h first white quoted hashed =
           let here : slash_shape (cs ++ old) ≡ done k (suc (length cs)) = sym (rule_slash c (cs ++ old) first) ∙ is in
           let near = slash_near old more k cs here in
-          let N : ℕ → Type 0 = λ (c : ℕ). Nearly k (c ∷ cs) old new (slash_shape (cs ++ new)) in
-          subst (Nearly k (c ∷ cs) old new) (sym (rule_slash c (cs ++ new) first)) (subst N (sym (eqb-true c slash first)) near)
+          let N : ℕ → Type 0 = λ (c : ℕ). Nearly k (c ∷ cs) (slash_shape (cs ++ new)) in
+          subst (Nearly k (c ∷ cs)) (sym (rule_slash c (cs ++ new) first)) (subst N (sym (eqb-true c slash first)) near)
       which false true q h first white quoted hashed =
           absurd (false≢true (sym solid ∙ white_kind k (run white_unit (c ∷ cs ++ old)) (suc (length cs)) (sym (rule_white c (cs ++ old) first white) ∙ is)))
       which false false true h first white quoted hashed =
           let here : string_shape c (cs ++ old) ≡ done k (suc (length cs)) = sym (rule_string c (cs ++ old) first white quoted) ∙ is in
-          let near = is_closed old more k (c ∷ cs) (string_shape c (cs ++ old)) (string_shape c (cs ++ new)) here (string_closed c cs old new k quoted here) in
-          subst (Nearly k (c ∷ cs) old new) (sym (rule_string c (cs ++ new) first white quoted)) near
+          inr (string_shut c cs old k quoted here)
       which false false false true first white quoted hashed =
           let here : hash_shape (cs ++ old) ≡ done k (suc (length cs)) = sym (rule_hash c (cs ++ old) first white quoted hashed) ∙ is in
           let is_hash : c ≡ hash = eqb-true c hash hashed in
           let named : ends_open cs ≡ true → name_unit more ≡ 0 = λ open_end. apart.no_name (rw is_hash open_end) in
           let near = hash_near old more k cs named here in
-          let N : ℕ → Type 0 = λ (c : ℕ). Nearly k (c ∷ cs) old new (hash_shape (cs ++ new)) in
-          subst (Nearly k (c ∷ cs) old new) (sym (rule_hash c (cs ++ new) first white quoted hashed)) (subst N (sym is_hash) near)
+          let N : ℕ → Type 0 = λ (c : ℕ). Nearly k (c ∷ cs) (hash_shape (cs ++ new)) in
+          subst (Nearly k (c ∷ cs)) (sym (rule_hash c (cs ++ new) first white quoted hashed)) (subst N (sym is_hash) near)
       which false false false false first white quoted hashed =
           let here : symbol_at (c ∷ cs ++ old) ≡ done k (suc (length cs)) = sym (rule_symbol c (cs ++ old) first white quoted hashed) ∙ is in
-          subst (Nearly k (c ∷ cs) old new) (sym (rule_symbol c (cs ++ new) first white quoted hashed)) (symbol_near c cs apart other here)
+          subst (Nearly k (c ∷ cs)) (sym (rule_symbol c (cs ++ new) first white quoted hashed)) (symbol_near c cs apart other here)

@@ -1,15 +1,17 @@
 -- Rows of name units before a white space, and how they begin.
-use Rattle.std.proofs.Common.{ℕ, zero, suc, ◌+◌, ◌<◌, ◌≤◌, ◌≡◌, Bool, true, false, cond, ltb, ◌==◌, ◌||◌, List, [], ◌∷◌, ◌++◌, length, refl, sym, ap, ◌∙◌, arith}
+use Rattle.std.proofs.Common.{ℕ, zero, suc, ◌+◌, ◌<◌, ◌≤◌, ◌≡◌, Bool, true, false, cond, ltb, ◌==◌, List, [], ◌∷◌, ◌++◌, length, refl, sym, ap, ◌∙◌, arith}
 use Rattle.std.proofs.lemmas.Bool.{eqb-true, false≢true, lt-ltb}
 use Rattle.std.proofs.lemmas.List.{append-nil}
-use Rattle.std.specs.Char.{is_ascii_digit, is_ascii_hexdigit}
+use Rattle.std.specs.Char.{is_ascii_hexdigit}
 use Rattle.css_model.specs.Characters.{space, backslash, dash, is_newline, is_name, is_start, begins}
 use Rattle.css_model.specs.Runs.{run_from, run}
 use Rattle.css_model.specs.Units.{hex_rest, escape_after, name_unit, start_unit, name_start, one_and}
 use Rattle.css_model.specs.Unescaped.{less_one}
+use Rattle.css_tokens.proofs.NamesAgain.{start_le_unit, name_start_le}
+use Rattle.css_tokens.proofs.UnitsAgain.{escape_two}
 use Rattle.css_tokens.proofs.RunLemmas.{run_none}
 use Rattle.css_tokens.specs.OpenEscape.{is_open_escape, ends_open_from}
-use Rattle.css_tokens.proofs.OpenUnits.{follows_none, follows_space, escape_near, FirstUnit, first_unit, left_below, run_zero, at_least_two}
+use Rattle.css_tokens.proofs.OpenUnits.{follows_none, follows_space, escape_near, FirstUnit, first_unit, left_below, run_zero}
 
 -- a row that takes the white space too
 past_space : (cs more : List ℕ) → name_unit more ≡ 0 → run_from name_unit (suc (length cs)) (cs ++ space ∷ more) ≡ suc (length cs)
@@ -79,14 +81,7 @@ escape_some c cs ds = which (is_newline c) (is_ascii_hexdigit c) (hex_rest 5 cs)
     which false false m n = refl
 
 start_none : (text : List ℕ) → name_unit text ≡ 0 → start_unit text ≡ 0
-start_none [] apart = refl
-start_none (c ∷ cs) apart = which (is_start c) (is_ascii_digit c) (c == dash) (c == backslash) (escape_after cs) apart
-  where
-    which : (s d e b : Bool) (n : ℕ) → cond (s || d || e) 1 (cond b n 0) ≡ 0 → ◌≡◌ {A = ℕ} (cond s 1 (cond b n 0)) 0
-    which true d e b n apart = absurd (omega arith)
-    which false true e b n apart = absurd (omega arith)
-    which false false true b n apart = absurd (omega arith)
-    which false false false b n apart = apart
+start_none text apart = omega (arith, start_le_unit text, apart)
 
 no_dash : (text : List ℕ) → name_unit text ≡ 0 → begins dash text ≡ false
 no_dash [] apart = refl
@@ -96,9 +91,8 @@ no_dash (c ∷ cs) apart = which (c == dash) refl
     which false is = is
     which true is = absurd (let one : ◌≡◌ {A = ℕ} 1 0 = rw (eqb-true c dash is) at apart in omega (arith, one))
 
-pub name_start_none : (text : List ℕ) → name_unit text ≡ 0 → name_start text ≡ 0
-name_start_none [] apart = refl
-name_start_none (c ∷ cs) apart = let dashed : (c == dash) ≡ false = no_dash (c ∷ cs) apart in rw dashed (start_none (c ∷ cs) apart)
+name_start_none : (text : List ℕ) → name_unit text ≡ 0 → name_start text ≡ 0
+name_start_none text apart = omega (arith, name_start_le text, run_none name_unit text apart)
 
 -- whether an ident sequence begins, where the row of name units ends with the text and none begins behind it
 start_unit_same : (old new : List ℕ) → name_unit new ≡ 0 → (v : List ℕ) → run name_unit (v ++ old) ≡ length v → ltb 0 (start_unit (v ++ new)) ≡ ltb 0 (start_unit (v ++ old))
@@ -114,7 +108,7 @@ start_unit_same old new apart (c ∷ cs) is = which cs (is_start c) (c == backsl
     which cs false false start slash first = rw (start, slash) refl
     which [] false true start slash first =
         let len : escape_after old ≡ suc first.more = rw (eqb-true c backslash slash) at first.is in
-        absurd (omega (arith, at_least_two old (omega (arith, len)), len, first.fits))
+        absurd (omega (arith, escape_two old (omega (arith, len)), len, first.fits))
     which (d ∷ ds) false true start slash first = rw (start, slash) (escape_some d (ds ++ new) (ds ++ old))
 
 one_and_some : (n : ℕ) → ltb 0 (one_and n) ≡ ltb 0 n

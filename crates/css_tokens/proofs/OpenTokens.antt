@@ -1,26 +1,30 @@
 -- Which tokens end in an open escape, and what is read of a token and white space.
-use Rattle.std.proofs.Common.{ℕ, suc, ◌+◌, ◌≤◌, ◌≡◌, inl, inr, Bool, true, false, cond, ltb, ◌==◌, List, [], ◌∷◌, ◌++◌, Result, Err, Some, length, refl, sym, ap, ◌∙◌, arith, append_assoc}
-use Rattle.std.proofs.lemmas.Bool.{eq-eqb, ne_eqb, false≢true, le-ltb}
+use Rattle.std.proofs.Common.{ℕ, suc, ◌<◌, ◌+◌, ◌≤◌, ◌≡◌, inl, inr, Bool, true, false, cond, ltb, ◌==◌, List, [], ◌∷◌, ◌++◌, Result, Err, Some, length, refl, sym, ap, ◌∙◌, arith, append_assoc, Option, Ok}
+use Rattle.std.proofs.lemmas.Bool.{eq-eqb, ne_eqb, false≢true, le-ltb, eqb-true}
 use Rattle.std.proofs.lemmas.List.{length-append, drop_at}
 use Rattle.css_model.specs.declared.token.TokenKind.{TokenKind}
 use Rattle.css_model.specs.declared.token.TokenFlaw.{TokenFlaw}
-use Rattle.css_model.specs.declared.token.TokenFlaw.TheVariants as flaw
 use Rattle.css_model.specs.declared.token.TokenKind.TheVariants as kind
-use Rattle.css_model.specs.Characters.{space, begins_with}
+use Rattle.css_model.specs.Characters.{space, quote, backslash}
 use Rattle.css_model.specs.Kept.{is_lone, is_open, length_of}
 use Rattle.css_model.specs.Lexemes.{is_white_kind}
-use Rattle.css_model.specs.Unescaped.{is_url}
-use Rattle.css_model.specs.TokenAt.{Shape, rule_at, part_at, within, done, is_quote, opened_shape, after_white}
+use Rattle.css_model.specs.Units.{white_unit}
+use Rattle.css_model.specs.TokenAt.{Shape, rule_at, part_at, within, done}
 use Rattle.css_tokens.specs.OpenEscape.{ends_open}
 use Rattle.css_tokens.proofs.NearRules.{near_len, Nearly, Apart}
+use Rattle.css_tokens.specs.Alike.{ends_itself}
 use Rattle.css_tokens.proofs.NearTokens.{rule_near}
-use Rattle.css_tokens.specs.Open.{IsRead, KeepsQuote, SpaceEnds, SpaceCloses, LastCloses}
-use Rattle.css_tokens.proofs.ClosedTokens.{LastIs, last_closed, opened_string}
+use Rattle.css_tokens.specs.Open.{IsRead, KeepsQuote, SpaceEnds, SpaceCloses, SelfEndedAreShut, LastCloses}
+use Rattle.css_tokens.proofs.LastBytes.{LastIs, last_closed, done_len}
+use Rattle.css_tokens.proofs.AlikeLemmas.{alike_first, alike_space}
+use Rattle.css_tokens.proofs.EndsLemmas.{looks_byte}
+use Rattle.css_tokens.proofs.RulesAgain.{part_again}
+use Rattle.css_tokens.proofs.Shapes.{shape_parts}
 use Rattle.css_tokens.proofs.PartLemmas.{part_rule, part_len}
 
 -- what is read of a token before a white space
 part_nearly : (v old more : List ℕ) (k : TokenKind) → Apart v more → is_lone k ≡ false → is_white_kind k ≡ false → part_at (v ++ old) ≡ done k (length v)
-    → Nearly k v old (space ∷ more) (rule_at (v ++ space ∷ more))
+    → Nearly k v (rule_at (v ++ space ∷ more))
 part_nearly [] old more k apart other solid is = absurd (let len = part_len old (Some k, 0) is in omega (arith, len.0))
 part_nearly (c ∷ cs) old more k apart other solid is = rule_near old more k c cs apart other solid (part_rule (c ∷ cs ++ old) (Some k, suc (length cs)) is).0
 
@@ -43,59 +47,79 @@ near_test v = which (ends_open v)
     which true = eq-eqb (suc (length v)) (suc (length v)) refl
     which false = ne_eqb (length v) (suc (length v)) (λ (same : length v ≡ suc (length v)). omega (arith, same))
 
--- before two white spaces alone a function is as long as before, or a url that does not end
-opened_short : (name : List ℕ) (n : ℕ) (text : List ℕ) → (length_of (within text (opened_shape name n (space ∷ space ∷ []))) == suc n) ≡ false
-opened_short name n text = which (is_url name)
+pub not_lone : (k : TokenKind) → is_lone k ≡ false → ◌≡◌ {A = Option TokenKind} (Some k) (Some (kind.Delim backslash)) → ⊥
+not_lone k other is = let same : k ≡ kind.Delim backslash = cc in false≢true (sym other ∙ ap is_lone same)
+
+-- a token that ends itself is the same before a white space
+itself_again : (v old rest : List ℕ) (k : TokenKind) → IsRead v old k → ends_itself (Some k) ≡ true → KeepsQuote old rest → part_at (v ++ space ∷ rest) ≡ done k (length v)
+itself_again v old rest k solid itself keeps =
+    part_again v old (space ∷ rest) (Some k) (λ goes_on. absurd (false≢true (sym goes_on ∙ itself)))
+    (looks_byte (Some k) v old space rest refl (not_lone k solid.no_lone) (λ _ _ _ _ quoted. keeps quoted)) solid.read
+
+-- whatever is read before a space is read so before any rest behind that space
+space_again : (v : List ℕ) (j : Option TokenKind) → part_at (v ++ space ∷ []) ≡ Ok (j, length v) → part_at (v ++ space ∷ quote ∷ []) ≡ Ok (j, length v)
+space_again v j is =
+    part_again v (space ∷ []) (space ∷ quote ∷ []) j (λ _. alike_first space [] (quote ∷ []) refl refl refl) (record {
+      at_backslash = λ _ none. absurd (omega (arith, none));
+      at_slash = λ _ _. refl;
+      at_less_than = λ _ _. refl;
+      at_plus_or_minus = λ _ _ _ _. refl;
+      at_dash = λ _ _. refl;
+      at_dot = λ _ _. refl;
+      at_hash = λ _ _. refl;
+      at_at_sign = λ _ _. refl;
+      at_dashes = λ _ _ _. refl;
+      at_url = λ _ _ _ _ _. refl;
+      at_exponent = λ _ _ _ _ _ _. refl;
+    }) is
+
+-- so one that ends itself takes no white space
+itself_shut : (v old : List ℕ) (k : TokenKind) → IsRead v old k → ends_itself (Some k) ≡ true → is_open v ≡ false
+itself_shut v old k solid itself = which (part_at (v ++ space ∷ space ∷ [])) refl
   where
-    none : (0 == suc n) ≡ false
-    none = ne_eqb 0 (suc n) (λ (same : 0 ≡ suc n). omega (arith, same))
+    w : List ℕ
+    w = v ++ space ∷ []
 
-    called : (b : Bool) → (length_of (cond b (Err flaw.EndInside) (done kind.Function n)) == suc n) ≡ false
-    called true = none
-    called false = ne_eqb n (suc n) (λ (same : n ≡ suc n). omega (arith, same))
+    taken : (s : Shape) → part_at (v ++ space ∷ space ∷ []) ≡ Ok s → s.1 ≡ suc (length v) → ⊥
+    taken s is len =
+        let size : length (v ++ space ∷ []) ≡ suc (length v) = omega (arith, length-append v (space ∷ [])) in
+        let moved : (rest : List ℕ) → (v ++ space ∷ []) ++ rest ≡ v ++ space ∷ rest = λ rest. append_assoc v (space ∷ []) rest in
+        let read : part_at ((v ++ space ∷ []) ++ space ∷ []) ≡ Ok (s.0, length (v ++ space ∷ [])) = ap part_at (moved (space ∷ [])) ∙ is ∙ ap (λ (n : ℕ). Ok (s.0, n)) (len ∙ sym size) in
+        let more : part_at (v ++ space ∷ space ∷ quote ∷ []) ≡ Ok (s.0, length (v ++ space ∷ [])) = ap part_at (sym (moved (space ∷ quote ∷ []))) ∙ space_again (v ++ space ∷ []) s.0 read in
+        let same : part_at (v ++ space ∷ space ∷ quote ∷ []) ≡ done k (length v) = itself_again v old (space ∷ quote ∷ []) k solid itself (λ _. refl) in
+        let lengths : length v ≡ length (v ++ space ∷ []) = (shape_parts (Some k) s.0 (length v) (length (v ++ space ∷ [])) (sym same ∙ more)).1 in
+        omega (arith, lengths, size)
 
-    which : (b : Bool) → (length_of (within text (cond b (Err flaw.EndInside) (done kind.Function n))) == suc n) ≡ false
-    which true = none
-    which false = called (ltb (length text) n)
+    test : (s : Shape) → part_at (v ++ space ∷ space ∷ []) ≡ Ok s → (b : Bool) → (s.1 == suc (length v)) ≡ b → (s.1 == suc (length v)) ≡ false
+    test s is true len = absurd (taken s is (eqb-true s.1 (suc (length v)) len))
+    test s is false len = len
+
+    which : (r : Result Shape TokenFlaw) → part_at (v ++ space ∷ space ∷ []) ≡ r → is_open v ≡ false
+    which (Err f) is = ap (λ (r : Result Shape TokenFlaw). length_of r == suc (length v)) is ∙ ne_eqb 0 (suc (length v)) (λ (same : 0 ≡ suc (length v)). omega (arith, same))
+    which (Ok s) is = ap (λ (r : Result Shape TokenFlaw). length_of r == suc (length v)) is ∙ test s is (s.1 == suc (length v)) refl
 
 -- a token is open where its bytes end in an open escape
 pub open_is : (v old : List ℕ) (k : TokenKind) → is_lone k ≡ false → is_white_kind k ≡ false → part_at (v ++ old) ≡ done k (length v) → is_open v ≡ ends_open v
 open_is v old k other solid is = which (part_nearly v old (space ∷ []) k (record { no_name = λ _. refl; no_round = λ _. refl }) other solid is)
   where
-    which : Nearly k v old (space ∷ space ∷ []) (rule_at (v ++ space ∷ space ∷ [])) → is_open v ≡ ends_open v
+    which : Nearly k v (rule_at (v ++ space ∷ space ∷ [])) → is_open v ≡ ends_open v
     which (inl same) =
         let here : part_at (v ++ space ∷ space ∷ []) ≡ done k (near_len v) = within_done (v ++ space ∷ space ∷ []) k (near_len v) (near_fits v (space ∷ [])) same in
         ap (λ (r : Result Shape TokenFlaw). length_of r == suc (length v)) here ∙ near_test v
-    which (inr opened) =
-        let text = v ++ space ∷ space ∷ [] in
-        ap (λ (r : Result Shape TokenFlaw). length_of (within text r) == suc (length v)) opened.behind
-        ∙ opened_short opened.name (length v) text ∙ sym opened.closed
+    which (inr shut) = itself_shut v old k (record { no_white = solid; no_lone = other; read = is }) shut.itself ∙ sym shut.closed
 
 closed_apart : (v more : List ℕ) → ends_open v ≡ false → Apart v more
 closed_apart v more closed = record { no_name = λ is. absurd (false≢true (sym closed ∙ is)); no_round = λ is. absurd (false≢true (sym closed ∙ is)) }
-
--- a function stays one
-opened_stays : (name : List ℕ) (n : ℕ) (old rest : List ℕ) (k : TokenKind) → KeepsQuote old rest → opened_shape name n old ≡ done k n → opened_shape name n (space ∷ rest) ≡ done k n
-opened_stays name n old rest k keeps is = which (is_url name) refl
-  where
-    which : (b : Bool) → is_url name ≡ b → opened_shape name n (space ∷ rest) ≡ done k n
-    which false url = let called : opened_shape name n old ≡ done kind.Function n = rw url refl in rw url (sym called ∙ is)
-    which true url =
-        let quoted = opened_string name n old k url is in
-        let still : begins_with is_quote (after_white rest) ≡ true = keeps quoted in
-        let called : opened_shape name n old ≡ done kind.Function n = rw (url, quoted) refl in
-        rw (url, still) (sym called ∙ is)
 
 pub space_ends : SpaceEnds
 space_ends v old rest k solid shut keeps =
     let closed : ends_open v ≡ false = sym (open_is v old k solid.no_lone solid.no_white solid.read) ∙ shut in
     let len : near_len v ≡ length v = rw closed refl in
-    let read : rule_at (v ++ space ∷ rest) ≡ done k (length v) = which len (part_nearly v old rest k (closed_apart v rest closed) solid.no_lone solid.no_white solid.read) in
-    within_done (v ++ space ∷ rest) k (length v) (omega (arith, len, near_fits v rest)) read
+    which len (part_nearly v old rest k (closed_apart v rest closed) solid.no_lone solid.no_white solid.read)
   where
-    which : near_len v ≡ length v → Nearly k v old (space ∷ rest) (rule_at (v ++ space ∷ rest)) → rule_at (v ++ space ∷ rest) ≡ done k (length v)
-    which len (inl same) = same ∙ ap (done k) len
-    which len (inr opened) = opened.behind ∙ opened_stays opened.name (length v) old rest k keeps opened.before
+    which : near_len v ≡ length v → Nearly k v (rule_at (v ++ space ∷ rest)) → part_at (v ++ space ∷ rest) ≡ done k (length v)
+    which len (inl same) = within_done (v ++ space ∷ rest) k (length v) (omega (arith, len, near_fits v rest)) (same ∙ ap (done k) len)
+    which len (inr shut) = itself_again v old rest k solid shut.itself keeps
 
 open_takes : (v old rest : List ℕ) (k : TokenKind) → IsRead v old k → ends_open v ≡ true → part_at (v ++ space ∷ space ∷ rest) ≡ done k (suc (length v))
 open_takes v old rest k solid open_end =
@@ -103,9 +127,12 @@ open_takes v old rest k solid open_end =
     let read = which len (part_nearly v old (space ∷ rest) k (record { no_name = λ _. refl; no_round = λ _. refl }) solid.no_lone solid.no_white solid.read) in
     within_done (v ++ space ∷ space ∷ rest) k (suc (length v)) (omega (arith, len, near_fits v (space ∷ rest))) read
   where
-    which : near_len v ≡ suc (length v) → Nearly k v old (space ∷ space ∷ rest) (rule_at (v ++ space ∷ space ∷ rest)) → rule_at (v ++ space ∷ space ∷ rest) ≡ done k (suc (length v))
+    which : near_len v ≡ suc (length v) → Nearly k v (rule_at (v ++ space ∷ space ∷ rest)) → rule_at (v ++ space ∷ space ∷ rest) ≡ done k (suc (length v))
     which len (inl same) = same ∙ ap (done k) len
-    which len (inr opened) = absurd (false≢true (sym opened.closed ∙ open_end))
+    which len (inr shut) = absurd (false≢true (sym shut.closed ∙ open_end))
+
+pub self_ended_are_shut : SelfEndedAreShut
+self_ended_are_shut v old k solid itself = itself_shut v old k solid itself
 
 last_at : (w : List ℕ) (x : ℕ) → LastIs x (w ++ x ∷ [])
 last_at w x = record { at = length w; is = drop_at w (x ∷ []) (length w) refl }
@@ -124,3 +151,13 @@ space_closes v old rest k solid is =
       open_takes v old rest k solid open_end,
       last_closes v space (space ∷ []) k (record { no_white = solid.no_white; no_lone = solid.no_lone; read = read }) refl refl,
     )
+
+-- white space right behind an open token would belong to it, if it goes on where more of it follows
+pub open_apart : (v old : List ℕ) (k : TokenKind) → IsRead v old k → is_open v ≡ true → (ends_itself (Some k) ≡ false → 0 < white_unit old) → ⊥
+open_apart v old k solid is white =
+    let new = space ∷ space ∷ quote ∷ [] in
+    let still = part_again v old new (Some k) (λ goes_on. alike_space old (space ∷ quote ∷ []) (white goes_on))
+    (looks_byte (Some k) v old space (space ∷ quote ∷ []) refl (not_lone k solid.no_lone) (λ _ _ _ _ _. refl)) solid.read in
+    let more = (space_closes v old (quote ∷ []) k solid is).0 in
+    let len = done_len k k (length v) (suc (length v)) (sym still ∙ more) in
+    omega (arith, len)

@@ -5,6 +5,8 @@ use Rattle.css_model.specs.Characters.{space, line_feed, carriage_return, is_new
 use Rattle.css_model.specs.Runs.{run_from, run, unit_then}
 use Rattle.css_model.specs.Units.{white_unit, hex_rest, escape_after}
 use Rattle.css_tokens.specs.OpenEscape.{is_open_hex, is_open_escape}
+use Rattle.css_tokens.proofs.Keeps.{unit_le_run}
+use Rattle.css_tokens.proofs.UnitsAgain.{escape_two}
 use Rattle.css_tokens.proofs.RunLemmas.{run_from-drop}
 
 -- how many bytes an escape takes of what follows it: `extra`, however many hex digits may still come
@@ -55,19 +57,10 @@ escape_cases false true true m m' l extra more some fits = omega (arith, more (o
 escape_cases false true false m m' l extra more some fits = omega (arith, more (omega arith))
 escape_cases false false o m m' l extra more some fits = refl
 
-pub at_least_two : (text : List ℕ) → 0 < escape_after text → 2 ≤ escape_after text
-at_least_two [] some = omega arith
-at_least_two (c ∷ cs) some = which (is_newline c) (is_ascii_hexdigit c) (hex_rest 5 cs) some
-  where
-    which : (b h : Bool) (m : ℕ) → 0 < cond b 0 (cond h (2 + m) 2) → 2 ≤ cond b 0 (cond h (2 + m) 2)
-    which true h m some = absurd (omega arith)
-    which false true m some = omega arith
-    which false false m some = omega arith
-
 -- an escape takes more of what follows it only where it is open
 pub escape_near : (old new : List ℕ) (extra : ℕ) → Follows new extra → (v : List ℕ) → 0 < escape_after (v ++ old) → escape_after (v ++ old) ≤ suc (length v)
     → escape_after (v ++ new) ≡ cond (is_open_escape v) (suc (length v) + extra) (escape_after (v ++ old))
-escape_near old new extra follows [] some fits = absurd (omega (arith, at_least_two old some))
+escape_near old new extra follows [] some fits = absurd (omega (arith, escape_two old some))
 escape_near old new extra follows (c ∷ cs) some fits =
     escape_cases (is_newline c) (is_ascii_hexdigit c) (is_open_hex 5 cs) (hex_rest 5 (cs ++ old)) (hex_rest 5 (cs ++ new)) (length cs) extra
     (hex_near old new extra follows 5 cs) some fits
@@ -90,9 +83,4 @@ first_unit unit c cs len is = which (unit (c ∷ cs)) refl is
     which (suc n) first is = record { more = n; is = first; fits = omega (arith, left_below unit n cs); rest = omega arith }
 
 pub run_zero : (unit : List ℕ → ℕ) (text : List ℕ) → unit [] ≡ 0 → run unit text ≡ 0 → unit text ≡ 0
-run_zero unit [] nil is = nil
-run_zero unit (c ∷ cs) nil is = which (unit (c ∷ cs)) is
-  where
-    which : (m : ℕ) → unit_then m (λ n. run_from unit n cs) ≡ 0 → m ≡ 0
-    which zero is = refl
-    which (suc n) is = absurd (omega arith)
+run_zero unit text nil is = omega (arith, unit_le_run unit text nil, is)

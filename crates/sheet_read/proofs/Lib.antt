@@ -1,4 +1,3 @@
-mod Cutting
 mod Entries
 mod ItemSteps
 mod Nesting
@@ -8,6 +7,3 @@ mod Preludes
 mod ReadSteps
 mod SheetSteps
 mod TokenSteps
-mod Trimming
-mod Utf8Length
-pub mod Listing

@@ -44,32 +44,3 @@ impl<T: Drop> From<AllocFailed<T>> for SheetError {
         SheetError::NoMemory
     }
 }
-
-/// Why a part of a sheet was not read.
-#[derive(Debug, Drop)]
-pub(crate) enum PartError {
-    /// It is not of the plain form.
-    NotPlain,
-    /// There is not enough memory.
-    NoMemory,
-}
-
-impl From<AllocError> for PartError {
-    ghost use Rattle.sheet_read.specs.declared.fault.PartError.TheVariants.{NoMemory};
-
-    ghost from_gives = { λ _ e. e ≡ NoMemory };
-
-    fn from(_: AllocError) -> PartError {
-        PartError::NoMemory
-    }
-}
-
-impl<T: Drop> From<AllocFailed<T>> for PartError {
-    ghost use Rattle.sheet_read.specs.declared.fault.PartError.TheVariants.{NoMemory};
-
-    ghost from_gives = { λ _ e. e ≡ NoMemory };
-
-    fn from(_: AllocFailed<T>) -> PartError {
-        PartError::NoMemory
-    }
-}

@@ -6,14 +6,12 @@ mod fault;
 mod items;
 mod lexing;
 mod names;
-mod plain;
 mod read;
 mod selectors;
 mod signs;
 mod values;
 
 pub use fault::SheetError;
-pub use plain::read_plain_sheet;
 pub use read::read_sheet;
 
 #[cfg(test)]

@@ -1,5 +1,4 @@
-use Rattle.css_tokens.proofs.OpenKinds.{self_ended_are_shut}
-use Rattle.css_tokens.proofs.OpenTokens.{space_ends, space_closes, last_closes}
+use Rattle.css_tokens.proofs.OpenTokens.{space_ends, space_closes, self_ended_are_shut, last_closes}
 use Rattle.css_tokens.proofs.laws.space_behind.Goals as goal
 
 pub returns : goal.returns
