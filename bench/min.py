@@ -16,6 +16,8 @@ import time
 
 ROUNDS = 15
 MIB = 1 << 20
+# The most items that a sheet may have.
+ITEMS = 16_384
 
 
 def one_run(words, path):
@@ -48,20 +50,31 @@ def measure(program, name, path):
     )
 
 
-def filled(rule):
-    """As many rules as fit into 1 MiB, of the text that `rule` gives for each number."""
+def filled(part, most):
+    """At most so many parts as fit into 1 MiB, of the text that `part` gives for each number."""
     parts, size, number = [], 0, 0
-    while size + len(part := rule(number)) <= MIB:
-        parts.append(part)
-        size += len(part)
+    while number < most and size + len(text := part(number)) <= MIB:
+        parts.append(text)
+        size += len(text)
         number += 1
     return "".join(parts)
 
 
+def two_orders():
+    """Two rules with the same selectors, each in an order of its own."""
+    names = [f"a{n:x}" for n in range(84_000)]
+    return ",".join(names) + "{top:0}" + ",".join(reversed(names)) + "{left:0}"
+
+
+# 15 declarations, each another one
+DECLARATIONS = ";".join(f"{name}:{name}" for name in "bcdefghijklmnop")
+
 MADE = {
-    "rules that differ": filled(lambda n: f".c{n} {{\n  color: red;\n  top: {n}px;\n}}\n"),
-    "rules that all join": filled(lambda n: "a{b:c}"),
-    "one rule": "a{" + filled(lambda n: "b:c;")[: MIB - 4] + "}",
+    "rules that differ": filled(lambda n: f".c{n} {{\n  color: red;\n  margin: 0 auto;\n  top: {n}px;\n}}\n", ITEMS),
+    "rules that all join": filled(lambda n: f"a{{{DECLARATIONS}}}", ITEMS),
+    "two orders": two_orders(),
+    "one rule": "a{" + filled(lambda n: "b:c;", MIB // 4 - 1) + "}",
+    "one kept at-rule": "@media print{" + filled(lambda n: "a:hover { b : c }\n", MIB // 18 - 1) + "}",
     "white space": " " * MIB,
 }
 
