@@ -1,8 +1,14 @@
--- Open brackets, of which the last is the innermost.
-use Rattle.std.proofs.Common.{◌≡◌, ◌++◌, List, [], ◌∷◌, reverse, Option, Some, None, refl, ap, ◌∙◌}
+-- Open brackets, of which the last is the innermost, and the lexemes that are still to come inside them.
+use Rattle.std.proofs.Common.{ℕ, suc, ◌≡◌, ◌≤◌, ◌&&◌, ◌++◌, Bool, true, false, cond, eqb, List, [], ◌∷◌, length, drop, get_or, reverse, Option, Some, None, refl, sym, ap, ◌∙◌, arith}
 use Rattle.std.specs.List.{last_or}
 use Rattle.std.proofs.lemmas.List.{reverse-append}
+use Rattle.css_model.specs.declared.fault.TheConstants.{BRACKETS}
 use Rattle.css_model.specs.declared.token.Bracket.{Bracket}
+use Rattle.css_model.specs.declared.token.Lexeme.{Lexeme}
+use Rattle.css_model.specs.declared.token.Token.{Token}
+use Rattle.css_model.specs.Lexemes.{is_white_kind, closer_of, closes, opened, after, after_all, lexeme, lexemes_in}
+use Rattle.css_model.specs.Sheet.{is_some, too_deep}
+use Rattle.sheet_read.specs.Steps.{is_too_deep}
 
 -- the last of a list is the first of the reversed list
 pub last_push : (o : Option Bracket) (xs : List Bracket) (b : Bracket) → last_or o (xs ++ b ∷ []) ≡ Some b
@@ -11,3 +17,42 @@ last_push o (x ∷ xs) b = last_push (Some x) xs b
 
 pub last_reverse : (b : Bracket) (brackets : List Bracket) → last_or None (reverse (b ∷ brackets)) ≡ Some b
 last_reverse b brackets = ap (last_or None) (reverse-append (b ∷ []) brackets) ∙ last_push None (reverse brackets) b
+
+-- what is still to come, from a token that is no white space on
+lexemes_step : (brackets : List Bracket) (t : Token) (ts : List Token) → is_white_kind t.kind ≡ false
+    → lexemes_in brackets (t ∷ ts) ≡ lexeme (length brackets) t ts ∷ lexemes_in (after t brackets) ts
+lexemes_step brackets t ts h = rw h refl
+
+pub lexemes_more : (brackets inside : List Bracket) (rest behind : List Token) (d : Token) (x : Lexeme) → 1 ≤ length rest → is_white_kind (get_or rest 0 d).kind ≡ false
+    → behind ≡ drop 1 rest → x ≡ lexeme (length brackets) (get_or rest 0 d) behind → inside ≡ after (get_or rest 0 d) brackets
+    → x ∷ lexemes_in inside behind ≡ lexemes_in brackets rest
+lexemes_more brackets inside [] behind d x some h is made inner = absurd (omega arith)
+lexemes_more brackets inside (t ∷ ts) behind d x some h is made inner =
+    ap (λ (y : Lexeme). y ∷ lexemes_in inside behind) made
+    ∙ ap (λ (us : List Token). lexeme (length brackets) t us ∷ lexemes_in inside us) is
+    ∙ ap (λ (bs : List Bracket). lexeme (length brackets) t ts ∷ lexemes_in bs ts) inner
+    ∙ sym (lexemes_step brackets t ts h)
+
+pub after_more : (brackets inside : List Bracket) (rest behind : List Token) (d : Token) → 1 ≤ length rest → behind ≡ drop 1 rest → inside ≡ after (get_or rest 0 d) brackets
+    → after_all inside behind ≡ after_all brackets rest
+after_more brackets inside [] behind d some is inner = absurd (omega arith)
+after_more brackets inside (t ∷ ts) behind d some is inner = ap (after_all inside) is ∙ ap (λ (bs : List Bracket). after_all bs ts) inner
+
+-- a lexeme that is not too deep, before others
+pub deep_later : (x : Lexeme) (xs : List Lexeme) → is_too_deep x ≡ false → too_deep (x ∷ xs) ≡ too_deep xs
+deep_later x xs h = rw h refl
+
+-- a token that is not too deep leaves no more brackets open than may be
+short : (c : Bool) (o : Option ℕ) (at : ℕ) (brackets : List Bracket) → length brackets ≤ BRACKETS → is_some o && eqb (length brackets) BRACKETS ≡ false
+    → length (cond c (drop 1 brackets) (opened at o brackets)) ≤ BRACKETS
+short true o at [] le h = omega arith
+short true o at (b ∷ brackets) le h = omega arith
+short false None at brackets le h = le
+short false (Some closer) at brackets le h = below (length brackets) le h
+  where
+    below : (n : ℕ) → n ≤ BRACKETS → eqb n BRACKETS ≡ false → suc n ≤ BRACKETS
+    below n le h = grind arith
+
+pub after_short : (brackets : List Bracket) (t : Token) (ts : List Token) → length brackets ≤ BRACKETS → is_too_deep (lexeme (length brackets) t ts) ≡ false
+    → length (after t brackets) ≤ BRACKETS
+after_short brackets t ts le h = short (closes t.kind brackets) (closer_of t.kind) t.span.start brackets le h
