@@ -1,10 +1,12 @@
 # make            proves and builds the program, and puts it here as ./cssmin
 # make check      the whole gate: every proof, must-fail edit, test and program
 # make install    installs it below PREFIX (/usr/local)
-# make bench      measures it against cat, and its tokens against wc -c, on the same files
+# make examples   checks that the program gives the outputs beside the examples
+# make bench      measures it, and its reading of tokens, against wc -c on the same files
 
 PREFIX ?= /usr/local
 RT ?= rt
+SHEETS := $(filter-out %.min.css,$(wildcard examples/*.css))
 SOURCES := crates.txt $(shell find crates -path '*/out' -prune -o \( -name '*.rt' -o -name '*.antt' \) -print)
 
 all: cssmin
@@ -21,12 +23,15 @@ check:
 install: cssmin
 	install -D -m 755 cssmin '$(DESTDIR)$(PREFIX)/bin/cssmin'
 
+examples: cssmin
+	for sheet in $(SHEETS); do ./cssmin min <$$sheet | cmp - $${sheet%.css}.min.css || exit 1; done
+
 bench: cssmin
 	cd crates/token_count && $(RT) run </dev/null
-	python3 bench/min.py ./cssmin examples/*.css
+	python3 bench/min.py ./cssmin $(SHEETS)
 	python3 bench/tokens.py crates/token_count/out/token_count
 
 clean:
 	rm -rf cssmin crates/*/out
 
-.PHONY: all check install bench clean
+.PHONY: all check install examples bench clean
