@@ -39,7 +39,8 @@ pub record ComesFrom (source : List ℕ) (old new : List Item) : Type 0 where
   pub few_items : length new ≤ ITEMS
   pub few_pairs : pair_count new ≤ PAIRS
 
--- The printed text of such items is read back as them, up to spelling, and printed again it is the same.
+-- The printed text of such items, where it is no longer than a sheet may be, is read back as them, up to
+-- spelling, and printed again it is the same.
 abbrev pub ReadsBack : Type 0
 ReadsBack = (source : List ℕ) (old new : List Item) → sheet_of source ≡ Ok old → ComesFrom source old new → length (printed source new) ≤ LIMIT
     → (again : List Item) × (sheet_of (printed source new) ≡ Ok again) × AreSame source new (printed source new) again

@@ -11,8 +11,8 @@ use css_print::{is_no_longer, print_sheet, reads_back};
 use sheet_read::{SheetError, read_sheet};
 use std::alloc::Global;
 
-/// The text of a style sheet with as little as possible between its tokens, and with neighbouring rules
-/// of the same selectors joined, which has the same winners of the cascade.
+/// The printed text of a style sheet, with neighbouring rules of the same selectors joined, which has the
+/// same winners of the cascade.
 pub(crate) fn minified(alloc: Global, source: &[u8]) -> Result<Vec<u8>, SheetError>
     ensures ok { IfOk result (λ text. IsMinified source.now text.items) }
     ensures err { IfErr result (IsCause source.now) }

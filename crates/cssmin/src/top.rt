@@ -140,8 +140,8 @@ pub fn run<S: Source, O: Sink, E: Sink>(
     ensures done { result ≡ Status.Done → Did (S.left input.old) (S.left input.new) (O.written out.old) (O.written out.new) }
 
     // When each other status comes. No clause tells when memory is short: it may be at any point before
-    // the first byte is written, and a body that always answered so would meet them all. Tests stand
-    // against that.
+    // the first byte is written, and a body that always answered so for the word `min` would meet them
+    // all. Tests stand against that.
     ensures usage { (result ≡ Status.Usage) ↔ (IsMin (map string_bytes words.now.items) → ⊥) }
     ensures refused { (fault : SheetFault) → result ≡ Status.SheetRefused fault → IsRefused fault (S.left input.old) (S.left input.new) }
     ensures read_fault { result ≡ Status.ReadFault → Rose (S.faults input.old) (S.faults input.new) }
