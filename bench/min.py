@@ -12,27 +12,13 @@ import os
 import statistics
 import sys
 import tempfile
-import time
+
+from timing import one_run
 
 ROUNDS = 15
 MIB = 1 << 20
 # The most items that a sheet may have.
 ITEMS = 16_384
-
-
-def one_run(words, path):
-    """The seconds that a run took, and its peak memory in KiB."""
-    begun = time.perf_counter()
-    child = os.fork()
-    if child == 0:
-        os.dup2(os.open(path, os.O_RDONLY), 0)
-        os.dup2(os.open(os.devnull, os.O_WRONLY), 1)
-        os.execvp(words[0], words)
-    _, status, usage = os.wait4(child, 0)
-    took = time.perf_counter() - begun
-    if status != 0:
-        sys.exit(f"{' '.join(words)} ended with {os.waitstatus_to_exitcode(status)} on {path}")
-    return took, usage.ru_maxrss
 
 
 def measure(program, name, path):

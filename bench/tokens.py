@@ -13,7 +13,8 @@ import os
 import statistics
 import sys
 import tempfile
-import time
+
+from timing import one_run
 
 ROUNDS = 15
 MIB = 1 << 20
@@ -37,27 +38,12 @@ TEXTS = {
 }
 
 
-def one_run(words, path):
-    """The seconds that a run took."""
-    begun = time.perf_counter()
-    child = os.fork()
-    if child == 0:
-        os.dup2(os.open(path, os.O_RDONLY), 0)
-        os.dup2(os.open(os.devnull, os.O_WRONLY), 1)
-        os.execvp(words[0], words)
-    _, status = os.waitpid(child, 0)
-    took = time.perf_counter() - begun
-    if status != 0:
-        sys.exit(f"{' '.join(words)} ended with {os.waitstatus_to_exitcode(status)} on {path}")
-    return took
-
-
 def medians(program, text):
     """The medians of the times of PROGRAM and of `wc -c` on a text."""
     with tempfile.NamedTemporaryFile("w", suffix=".css", encoding="utf-8") as sheet:
         sheet.write(text)
         sheet.flush()
-        pairs = [(one_run([program], sheet.name), one_run(["wc", "-c"], sheet.name)) for _ in range(ROUNDS)]
+        pairs = [(one_run([program], sheet.name)[0], one_run(["wc", "-c"], sheet.name)[0]) for _ in range(ROUNDS)]
     return [statistics.median(times) for times in zip(*pairs)]
 
 
