@@ -1,3 +1,5 @@
+//! Bytes of a source.
+
 ghost use Rattle.std.specs.Prelude.{◌≡◌, List, ℕ, IfOk, IsTrue, ◌↔◌};
 
 use std::alloc::AllocError;

@@ -1,6 +1,8 @@
+//! The specificity of a selector.
+
 ghost use Rattle.std.specs.Prelude.{◌≡◌, ◌≤◌, if◌then◌else◌, length};
 ghost use Rattle.std.specs.List.{All, count_by};
-ghost use Rattle.css_model.specs.Specificity.{is_id, is_class, is_type, specificity_of};
+ghost use Rattle.css_model.specs.Documents.Specificity.{is_id, is_class, is_type, specificity_of};
 
 use crate::selector::{Compound, Selector, Specificity, Test};
 

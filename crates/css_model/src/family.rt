@@ -1,5 +1,6 @@
+//! Families of properties.
+
 ghost use Rattle.std.specs.Prelude.{◌≡◌, IfOk};
-ghost use Rattle.css_model.specs.Family.{RelatingIsDecided};
 
 use crate::text::Text;
 use std::alloc::AllocError;
@@ -28,8 +29,3 @@ impl Family {
         }
     }
 }
-
-/// Names are related, in the words of their families, exactly where the test `related` says so.
-pub fn relating_is_decided()
-    ensures { RelatingIsDecided }
-{}

@@ -1,19 +1,9 @@
+//! Why a style sheet is refused, and where.
+
 ghost use Rattle.std.specs.Prelude.{Some};
-ghost use Rattle.css_model.specs.Fault.{name_of, text_of};
+ghost use Rattle.css_model.specs.Sheets.Fault.{fault_name, fault_text};
 
 use std::fmt;
-
-/// The greatest length of a style sheet that is read, in bytes.
-pub const LIMIT: u32 = 1_048_576;
-
-/// How many brackets may be open at once.
-pub const BRACKETS: u32 = 256;
-
-/// How many items a style sheet may have.
-pub const ITEMS: u32 = 16_384;
-
-/// How many pairs of a selector and a declaration the style rules of a sheet may have together.
-pub const PAIRS: u32 = 262_144;
 
 /// Why a style sheet is refused. It is displayed as its name.
 #[derive(Clone, Copy, Debug, PartialEq, Eq, Hash)]
@@ -39,7 +29,7 @@ pub enum FaultKind {
 }
 
 impl fmt::Display for FaultKind {
-    ghost output = { λ kind. Some (name_of kind) };
+    ghost output = { λ kind. Some (fault_name kind) };
 
     fn fmt<W: fmt::Write>(&self, f: &mut fmt::Formatter<W>) -> fmt::Result {
         f.write_str(match self {
@@ -66,7 +56,7 @@ pub struct SheetFault {
 }
 
 impl fmt::Display for SheetFault {
-    ghost output = { λ fault. Some (text_of fault) };
+    ghost output = { λ fault. Some (fault_text fault) };
 
     fn fmt<W: fmt::Write>(&self, f: &mut fmt::Formatter<W>) -> fmt::Result {
         let kind = self.kind;

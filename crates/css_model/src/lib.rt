@@ -3,9 +3,10 @@
 
 mod bytes;
 mod counting;
+mod document;
 mod family;
 mod fault;
-mod laws;
+mod limits;
 mod position;
 mod selector;
 mod sheet;
@@ -15,13 +16,12 @@ mod token;
 
 pub use bytes::Bytes;
 pub use counting::specificity;
-pub use family::{Family, relating_is_decided};
-pub use fault::{BRACKETS, FaultKind, ITEMS, LIMIT, PAIRS, SheetFault};
-pub use laws::{
-    alike_behind_an_item, alike_wins_alike, applied_is_what_applies, greatest_is_winner,
-    joining_a_set_keeps_winners, joining_applies_alike, joining_keeps_winners, matching_is_decided,
-    no_winner_is_none_understood, order_decides_winner, outranking_is_decided, passing_is_decided,
-    pieces_do_not_count, read_is_sound, understanding_is_decided, winner_is_greatest,
+pub use document::Features;
+pub use family::Family;
+pub use fault::{FaultKind, SheetFault};
+pub use limits::{
+    MAX_BYTES, MAX_COMPOUNDS, MAX_DEPTH, MAX_ITEMS, MAX_PAIRS, MAX_SIMPLES, MAX_STEPPED,
+    limits_are_defined,
 };
 pub use position::AnB;
 pub use selector::{

@@ -1,3 +1,5 @@
+//! Selectors, their parts, and their specificities.
+
 ghost use Rattle.std.specs.Prelude.{◌≡◌, List, ℕ, IfOk, IsTrue, ◌↔◌};
 
 use crate::position::AnB;
@@ -77,10 +79,9 @@ pub enum Flag {
 }
 
 /// What a simple selector tests (Selectors 3, section 6).
-#[derive(Debug, Default, PartialEq, Eq, Hash, Drop)]
+#[derive(Debug, PartialEq, Eq, Hash, Drop)]
 pub enum Test {
     /// `*`
-    #[default]
     Any,
     /// A type selector, by its name.
     Kind(Text),
@@ -100,6 +101,14 @@ pub enum Test {
     Empty,
     /// `:link`, `:hover` and their kin.
     State(Flag),
+}
+
+impl Default for Test {
+    fn default() -> Test
+        ensures { result ≡ Test.Any }
+    {
+        Test::Any
+    }
 }
 
 impl Test {
@@ -248,7 +257,7 @@ pub struct Selector {
 }
 
 impl Model for Selector {
-    ghost use Rattle.css_model.specs.SelectorParts.{SelectorParts};
+    ghost use Rattle.css_model.specs.Documents.SelectorParts.{SelectorParts};
 
     ghost Value = { SelectorParts };
 
@@ -295,7 +304,7 @@ impl Hash for Selector {
     ghost use Rattle.std.specs.Prelude.{◌++◌};
     ghost use Rattle.std.specs.Hash as fed;
     ghost use Rattle.std.specs.Hash.{and-Alike, on_Alike, items_Alike};
-    ghost use Rattle.css_model.specs.OptionHash.{option_Alike};
+    ghost use Rattle.list_facts.proofs.OptionHash.{option_Alike};
     ghost use Rattle.css_model.specs.contracts.selector.CompoundHash.TheImpl.Laws.{respects_eq-law as compounds_fed};
     ghost use Rattle.css_model.specs.contracts.selector.CombinatorHash.TheImpl.Laws.{respects_eq-law as links_fed};
     ghost use Rattle.css_model.specs.contracts.selector.PseudoHash.TheImpl.Laws.{respects_eq-law as pseudo_fed};
@@ -339,8 +348,8 @@ fn copy_compounds(chain: &Vec<Compound>) -> Result<Vec<Compound>, AllocError>
     Ok(copies)
 }
 
-/// How specific a selector is (Selectors 3, section 9): compared by `a`, then by `b`, then by `c`.
-#[derive(Clone, Copy, Debug, PartialEq, Eq, PartialOrd, Ord, Hash)]
+/// How specific a selector is (Selectors 3, section 9). The cascade compares `a`, then `b`, then `c`.
+#[derive(Clone, Copy, Debug, PartialEq, Eq, Hash)]
 pub struct Specificity {
     /// How many ids it tests.
     pub a: u32,

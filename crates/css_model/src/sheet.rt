@@ -1,3 +1,5 @@
+//! Style sheets, their items, and pieces of their source.
+
 ghost use Rattle.std.specs.Prelude.{◌≡◌, List, ℕ, IfOk, IsTrue, ◌↔◌};
 
 use crate::bytes::Bytes;
@@ -95,7 +97,7 @@ pub struct Rule {
 }
 
 impl Model for Rule {
-    ghost use Rattle.css_model.specs.RuleParts.{RuleParts};
+    ghost use Rattle.css_model.specs.Sheets.RuleParts.{RuleParts};
 
     ghost Value = { RuleParts };
 
@@ -176,7 +178,7 @@ pub struct KeptRule {
 }
 
 impl Model for KeptRule {
-    ghost use Rattle.css_model.specs.KeptRuleParts.{KeptRuleParts};
+    ghost use Rattle.css_model.specs.Sheets.KeptRuleParts.{KeptRuleParts};
 
     ghost Value = { KeptRuleParts };
 
@@ -249,8 +251,8 @@ pub enum Item {
     Rule(Rule),
     /// A rule that applies its own declarations, to what nobody here can tell.
     KeptRule(KeptRule),
-    /// An at-rule, or a rule with a block that is not plain, by its text in the source. It may apply
-    /// anything.
+    /// An at-rule, a rule with a nested entry, or what stands before an `@import`, by its text in the
+    /// source. It may apply anything.
     KeptBlock(Piece),
 }
 
@@ -275,7 +277,7 @@ pub struct Sheet {
 }
 
 impl Model for Sheet {
-    ghost use Rattle.css_model.specs.SheetParts.{SheetParts};
+    ghost use Rattle.css_model.specs.Sheets.SheetParts.{SheetParts};
 
     ghost Value = { SheetParts };
 

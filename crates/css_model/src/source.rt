@@ -1,7 +1,7 @@
 //! Pieces of a source.
 
 ghost use Rattle.std.specs.Prelude.{◌≡◌};
-ghost use Rattle.css_model.specs.Source.{IsWithin, text_at};
+ghost use Rattle.css_model.specs.Text.Source.{IsWithin, text_at};
 
 use crate::sheet::Piece;
 

@@ -1,4 +1,8 @@
+//! Texts as lists of code points.
+
 ghost use Rattle.std.specs.Prelude.{◌≡◌, List, ℕ, IfOk, IsTrue, ◌↔◌};
+ghost use Rattle.std.specs.Char.{IsScalar};
+ghost use Rattle.css_model.specs.Documents.Document.{IsText};
 
 use std::alloc::AllocError;
 use std::hash::{Hash, Hasher};
@@ -12,10 +16,13 @@ pub struct Text {
 
 impl Model for Text {
     ghost use Rattle.std.specs.Prelude.{List, ℕ};
+    ghost use Rattle.css_model.specs.Documents.Document.{IsText};
 
     ghost Value = { List ℕ };
 
     ghost view = { λ t. t.codes.items };
+
+    ghost invariant = { λ t. IsText t.codes.items };
 }
 
 impl PartialEq for Text {
@@ -60,12 +67,14 @@ impl Text {
     pub fn new(codes: Vec<char>) -> Text
         ensures { result ≡ codes.items }
     {
+        see_scalars(codes.as_slice());
         Text { codes }
     }
 
     /// The code points of the text, in order. Takes no memory.
     pub fn codes(&self) -> &[char]
-        ensures { result.now ≡ self.now }
+        ensures value { result.now ≡ self.now }
+        ensures text { IsText self.now }
     {
         self.codes.as_slice()
     }
@@ -77,4 +86,19 @@ impl Text {
         let codes = Vec::from_slice(*self.codes.allocator(), self.codes.as_slice())?;
         Ok(Text { codes })
     }
+}
+
+/// Looks at each code point: one that is read is known as a scalar value.
+fn see_scalars(codes: &[char])
+    ensures { IsText codes.now }
+{
+    for c in codes {
+        see(*c);
+    }
+}
+
+fn see(c: char)
+    ensures { IsScalar c }
+{
+    let _seen = c;
 }

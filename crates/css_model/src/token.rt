@@ -1,3 +1,5 @@
+//! The tokens of a text.
+
 use crate::sheet::Piece;
 
 /// What a token is (CSS Syntax 3, section 4).

@@ -6,12 +6,12 @@ use Rattle.std.specs.List.{AllZip, AllByRecursion}
 use Rattle.css_model.specs.declared.token.Lexeme.{Lexeme}
 use Rattle.css_model.specs.declared.token.TokenKind.{TokenKind}
 use Rattle.css_model.specs.declared.token.TokenKind.TheVariants as kind
-use Rattle.css_model.specs.Attribute.{begins_with}
-use Rattle.css_model.specs.Characters.{space}
-use Rattle.css_model.specs.Document.{same_text}
-use Rattle.css_model.specs.Kept.{is_open}
-use Rattle.css_model.specs.Source.{text_at}
-use Rattle.css_model.specs.Unescaped.{unescaped}
+use Rattle.css_model.specs.Lists.{begins_with}
+use Rattle.css_model.specs.Text.Characters.{space}
+use Rattle.css_model.specs.Lists.{same_text}
+use Rattle.css_model.specs.Text.Kept.{is_open}
+use Rattle.css_model.specs.Text.Source.{text_at}
+use Rattle.css_model.specs.Text.Names.{unescaped}
 use Rattle.css_print.proofs.BackLists.{AllLast}
 use Rattle.css_print.proofs.BackTokens.{closed, is_before_white, printed_bytes}
 use Rattle.css_print.proofs.BackValues.{IsShut, IsInner, IsLastOfValue, IsLastOfItem, AreShut}

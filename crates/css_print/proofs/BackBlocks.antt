@@ -10,14 +10,16 @@ use Rattle.css_model.specs.declared.token.Gap.{Gap}
 use Rattle.css_model.specs.declared.token.Gap.TheVariants as gap
 use Rattle.css_model.specs.declared.token.Lexeme.{Lexeme}
 use Rattle.css_model.specs.declared.token.TokenKind.TheVariants as kind
-use Rattle.css_model.specs.Characters.{colon, semicolon, open_curly, close_curly, exclamation_mark, space}
-use Rattle.css_model.specs.Declarations.{is_ident, is_delim_of, is_custom, is_named, property_of, is_importance, is_important, without_importance, text_of_value, declared, declaration, declares_custom, is_nested}
-use Rattle.css_model.specs.Items.{closes_block, is_at_keyword}
-use Rattle.css_model.specs.Kept.{is_white_gap}
-use Rattle.css_model.specs.Lexemes.{is_sign_of, is_sign_at}
-use Rattle.css_model.specs.Source.{text_at}
-use Rattle.css_model.specs.Spelling.{tokens_in}
-use Rattle.css_model.specs.Unescaped.{unescaped, decoded}
+use Rattle.css_model.specs.Text.Characters.{colon, semicolon, open_curly, close_curly, exclamation_mark, space}
+use Rattle.css_model.specs.Text.Lexemes.{is_ident, is_delim_of}
+use Rattle.css_model.specs.Sheets.Declarations.{is_custom, property_of, is_importance, is_important, without_importance, text_of_value, decl_item, declaration, declares_custom, is_nested}
+use Rattle.css_model.specs.Text.Names.{is_named}
+use Rattle.css_model.specs.Sheets.Items.{closes_block, is_at_keyword}
+use Rattle.css_model.specs.Text.Kept.{is_white_gap}
+use Rattle.css_model.specs.Text.Lexemes.{is_sign_of, is_sign_at}
+use Rattle.css_model.specs.Text.Source.{text_at}
+use Rattle.css_model.specs.Sheets.Spelling.{tokens_in}
+use Rattle.css_model.specs.Text.Names.{unescaped, decoded}
 use Rattle.css_print.proofs.BackAlike.{and_false, IsClosable, AreClosable, all_shut, value_like}
 use Rattle.css_print.proofs.BackCuts.{None_of, none_append}
 use Rattle.css_print.proofs.BackEntries.{important_like, declared_same}
@@ -140,7 +142,7 @@ record IsOfParts (source : List ℕ) (d : DeclItem) : Type 0 where
   value : List Lexeme
   ident : is_ident name.kind ≡ true
   reads : declaration source (name ∷ sign ∷ value) ≡ Some d
-  is : declared source name sign value ≡ d
+  is : decl_item source name sign value ≡ d
   plain : is_nested source (name ∷ sign ∷ value) ≡ false
   single : None_of (is_sign_at semicolon 1) value
   inside : None_of closes_block value
@@ -158,7 +160,7 @@ parts_of source d sound = by_entry sound.entry sound.reads sound.plain sound.sin
     by_entry (name ∷ sign ∷ value) reads plain single inside closable alone = which (is_ident name.kind && is_sign_of colon sign.kind) refl
       where
         which : (b : Bool) → (is_ident name.kind && is_sign_of colon sign.kind) ≡ b → IsOfParts source d
-        which false is = absurd (no_declaration (sym (ap (λ (b : Bool). if b then Some (declared source name sign value) else None) is) ∙ reads))
+        which false is = absurd (no_declaration (sym (ap (λ (b : Bool). if b then Some (decl_item source name sign value) else None) is) ∙ reads))
           where
             no_declaration : None ≡ Some d → ⊥
             no_declaration e = absurd (cc)
@@ -168,7 +170,7 @@ parts_of source d sound = by_entry sound.entry sound.reads sound.plain sound.sin
           value = value;
           ident = (and_parts (is_ident name.kind) (is_sign_of colon sign.kind) is).0;
           reads = reads;
-          is = some_same (declared source name sign value) d (sym (ap (λ (b : Bool). if b then Some (declared source name sign value) else None) is) ∙ reads);
+          is = some_same (decl_item source name sign value) d (sym (ap (λ (b : Bool). if b then Some (decl_item source name sign value) else None) is) ∙ reads);
           plain = plain;
           single = single.1.1;
           inside = inside.1.1;
@@ -253,7 +255,7 @@ entry_again new old [] d parts e = absurd (omega (arith, ap length e))
 entry_again new old (y ∷ []) d parts e = absurd (omega (arith, ap length e))
 entry_again new old (y ∷ a ∷ ys) d parts e =
     record {
-      item = declared new y a ys;
+      item = decl_item new y a ys;
       reads = reads;
       plain = nested;
       again = record { same = same; name = ap (λ s. s.bytes) first };
@@ -289,7 +291,7 @@ entry_again new old (y ∷ a ∷ ys) d parts e =
     colon_white : a.gap ≡ colon_gap (text_of_value old custom parts.sign (without_importance old value)) (without_importance old value)
     colon_white = ap (λ s. s.gap) second ∙ ap (λ xs. colon_gap d.decl.value xs) parts.alone ∙ ap (λ t. colon_gap t (without_importance old value)) text
 
-    same : (declared new y a ys).decl ≡ d.decl
+    same : (decl_item new y a ys).decl ≡ d.decl
     same =
         declared_same new old parts.name parts.sign value y a ys
         (ap (λ s. unescaped s.bytes) first ∙ sym (ap (λ x. unescaped (text_at old x.name)) parts.is))
@@ -298,10 +300,10 @@ entry_again new old (y ∷ a ∷ ys) d parts e =
         (all_shut old (without_importance old value) (each_without (IsClosable old) old value parts.closable)))
         ∙ ap (λ x. x.decl) parts.is
 
-    reads : declaration new (y ∷ a ∷ ys) ≡ Some (declared new y a ys)
+    reads : declaration new (y ∷ a ∷ ys) ≡ Some (decl_item new y a ys)
     reads =
-        ap (λ s. if is_ident s.kind && is_sign_of colon a.kind then Some (declared new y a ys) else None) first
-        ∙ ap (λ s. if is_sign_of colon s.kind then Some (declared new y a ys) else None) second
+        ap (λ s. if is_ident s.kind && is_sign_of colon a.kind then Some (decl_item new y a ys) else None) first
+        ∙ ap (λ s. if is_sign_of colon s.kind then Some (decl_item new y a ys) else None) second
 
     unless_custom : (is_custom d.decl.name ≡ true) ⊎ (list_any (is_sign_at open_curly 1) (parts.name ∷ parts.sign ∷ value) ≡ false) → (list_any (is_sign_at open_curly 1) (y ∷ a ∷ ys) && not (is_custom d.decl.name)) ≡ false
     unless_custom (inl is) = ap (λ b. list_any (is_sign_at open_curly 1) (y ∷ a ∷ ys) && not b) is ∙ and_false (list_any (is_sign_at open_curly 1) (y ∷ a ∷ ys))

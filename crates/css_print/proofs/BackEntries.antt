@@ -9,13 +9,15 @@ use Rattle.css_model.specs.declared.sheet.DeclItem.{DeclItem}
 use Rattle.css_model.specs.declared.token.Lexeme.{Lexeme}
 use Rattle.css_model.specs.declared.token.TokenKind.{TokenKind}
 use Rattle.css_model.specs.declared.token.TokenKind.TheVariants as kind
-use Rattle.css_model.specs.Characters.{colon, exclamation_mark, open_curly, space}
-use Rattle.css_model.specs.Declarations.{is_ident, is_delim_of, is_named, is_custom, property_of, is_importance, is_important, without_importance, text_of_value, declared, declaration, declares_custom, is_nested}
-use Rattle.css_model.specs.Items.{is_at_rule, is_at_keyword}
-use Rattle.css_model.specs.Kept.{solid, is_white_gap, value_text}
-use Rattle.css_model.specs.Lexemes.{is_sign_of, is_sign_at}
-use Rattle.css_model.specs.Source.{text_at}
-use Rattle.css_model.specs.Unescaped.{unescaped, decoded, code_points}
+use Rattle.css_model.specs.Text.Characters.{colon, exclamation_mark, open_curly, space}
+use Rattle.css_model.specs.Text.Lexemes.{is_ident, is_delim_of}
+use Rattle.css_model.specs.Text.Names.{is_named}
+use Rattle.css_model.specs.Sheets.Declarations.{is_custom, property_of, is_importance, is_important, without_importance, text_of_value, decl_item, declaration, declares_custom, is_nested}
+use Rattle.css_model.specs.Sheets.Items.{is_at_rule, is_at_keyword}
+use Rattle.css_model.specs.Text.Kept.{solid, is_white_gap, value_text}
+use Rattle.css_model.specs.Text.Lexemes.{is_sign_of, is_sign_at}
+use Rattle.css_model.specs.Text.Source.{text_at}
+use Rattle.css_model.specs.Text.Names.{unescaped, decoded, code_points}
 use Rattle.css_print.proofs.BackAlike.{IsClosable, IsLike, name_in, like_inner}
 use Rattle.css_print.proofs.BackLists.{AreBoth, zip_length, zip_drop, zip_take, zip_any, zip_map}
 use Rattle.css_print.proofs.BackValues.{IsInner, AreShut, inner_value_same}
@@ -84,7 +86,7 @@ pub declared_same : (new old : List ℕ) (name sign : Lexeme) (value : List Lexe
     → unescaped (text_at new name'.span) ≡ unescaped (text_at old name.span) → is_important new value' ≡ is_important old value
     → (let custom = is_custom (property_of (decoded (text_at old name.span))) in
     text_of_value new custom sign' (without_importance new value') ≡ text_of_value old custom sign (without_importance old value))
-    → (declared new name' sign' value').decl ≡ (declared old name sign value).decl
+    → (decl_item new name' sign' value').decl ≡ (decl_item old name sign value).decl
 declared_same new old name sign value name' sign' value' same important text =
     let property' = property_of (decoded (text_at new name'.span)) in
     let property = property_of (decoded (text_at old name.span)) in
@@ -141,11 +143,11 @@ declaration_printed new old (y ∷ a ∷ ys) (x ∷ b ∷ xs) z =
     values = important_like new old ys xs (like_of new old ys xs z.1.1)
 
     which : (t : Bool) → (is_ident x.kind && is_sign_of colon b.kind) ≡ t → (t' : Bool) → t' ≡ (is_ident x.kind && is_sign_of colon b.kind)
-        → AreBoth SaySame (if t' then Some (declared new y a ys) else None) (if is_ident x.kind && is_sign_of colon b.kind then Some (declared old x b xs) else None)
+        → AreBoth SaySame (if t' then Some (decl_item new y a ys) else None) (if is_ident x.kind && is_sign_of colon b.kind then Some (decl_item old x b xs) else None)
     which t is t' same = rw same (inside t is)
       where
         inside : (t : Bool) → (is_ident x.kind && is_sign_of colon b.kind) ≡ t
-            → AreBoth SaySame (if is_ident x.kind && is_sign_of colon b.kind then Some (declared new y a ys) else None) (if is_ident x.kind && is_sign_of colon b.kind then Some (declared old x b xs) else None)
+            → AreBoth SaySame (if is_ident x.kind && is_sign_of colon b.kind then Some (decl_item new y a ys) else None) (if is_ident x.kind && is_sign_of colon b.kind then Some (decl_item old x b xs) else None)
         inside false is = rw is tt
         inside true is = rw is (declared_same new old x b xs y a ys (ident_like new old y x (and_parts (is_ident x.kind) (is_sign_of colon b.kind) is).0 name) values
             (text_printed new old (is_custom (property_of (decoded (text_at old x.span)))) a b (without_importance new ys) (without_importance old xs) (ap (λ s. s.gap) z.1.0.0) (without_like new old (IsPrinted new old) ys xs values z.1.1)))

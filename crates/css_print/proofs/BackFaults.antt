@@ -8,7 +8,7 @@ use Rattle.std.specs.Option.{option_map}
 use Rattle.std.specs.Str.Lossy.{utf8_valid_len}
 use Rattle.css_model.specs.declared.fault.FaultKind.TheVariants.{TooLong, NotUtf8, EndInside, TooDeep, Namespace, TooManyItems, TooManyPairs}
 use Rattle.css_model.specs.declared.fault.SheetFault.{SheetFault}
-use Rattle.css_model.specs.declared.fault.TheConstants.{LIMIT, BRACKETS, ITEMS, PAIRS}
+use Rattle.css_model.specs.declared.limits.TheConstants.{MAX_BYTES, MAX_DEPTH, MAX_ITEMS, MAX_PAIRS}
 use Rattle.css_model.specs.declared.sheet.DeclItem.{DeclItem}
 use Rattle.css_model.specs.declared.sheet.Item.{Item}
 use Rattle.css_model.specs.declared.sheet.Item.TheVariants.{Rule, KeptRule, KeptBlock}
@@ -16,13 +16,15 @@ use Rattle.css_model.specs.declared.sheet.Piece.{Piece}
 use Rattle.css_model.specs.declared.sheet.SelItem.{SelItem}
 use Rattle.css_model.specs.declared.token.Lexeme.{Lexeme}
 use Rattle.css_model.specs.declared.token.Token.{Token}
-use Rattle.css_model.specs.Characters.{comma, semicolon, open_curly, close_curly}
-use Rattle.css_model.specs.Lexemes.{piece_of}
-use Rattle.css_model.specs.Printed.{printed}
-use Rattle.css_model.specs.Sheet.{is_namespace, read_items, start_of, pairs_of, too_many_pairs, opens, too_deep, unclosed, namespace_at, too_many_items, fault_of, unless, sheet_of_tokens, sheet_of_stream, sheet_of}
-use Rattle.css_model.specs.Sound.{raw_items}
-use Rattle.css_model.specs.Spelling.{stands_in, lexemes_of, tokens_in, all_said}
-use Rattle.css_model.specs.Tokens.{tokens}
+use Rattle.css_model.specs.Text.Characters.{comma, semicolon, open_curly, close_curly}
+use Rattle.css_model.specs.Text.Lexemes.{piece_of}
+use Rattle.css_model.specs.Sheets.Printed.{printed}
+use Rattle.css_model.specs.Sheets.Sheet.{is_namespace, read_items, start_of, pairs_of, too_many_pairs, too_deep, unclosed, namespace_at, too_many_items, sheet_of_tokens, sheet_of_stream, sheet_of}
+use Rattle.css_model.specs.Text.Lexemes.{opens}
+use Rattle.css_model.specs.Sheets.Fault.{fault_of, unless}
+use Rattle.css_model.specs.Sheets.Sound.{raw_items}
+use Rattle.css_model.specs.Sheets.Spelling.{stands_in, lexemes_of, tokens_in, all_content}
+use Rattle.css_model.specs.Text.Tokens.{tokens}
 use Rattle.css_print.proofs.BackAlike.{and_false}
 use Rattle.css_print.proofs.BackCuts.{None_of, none_append}
 use Rattle.css_print.proofs.BackJoins.{none_joined}
@@ -33,10 +35,10 @@ use Rattle.css_print.proofs.BackTokens.{Shown, shown, all_shown, inner, last_of_
 
 -- a token that opens a bracket too many, and one that is shown so
 abbrev pub is_deep : Lexeme → Bool
-is_deep x = opens x.kind && x.level == BRACKETS
+is_deep x = opens x.kind && x.level == MAX_DEPTH
 
 abbrev is_shown_deep : Shown → Bool
-is_shown_deep s = opens s.kind && s.level == BRACKETS
+is_shown_deep s = opens s.kind && s.level == MAX_DEPTH
 
 deep_filter : (p : Lexeme → Bool) (xs : List Lexeme) → None_of is_deep xs → None_of is_deep (filter p xs)
 deep_filter p [] fail = tt
@@ -116,21 +118,21 @@ find_none p (x ∷ xs) e = which (p x) refl (find_none p xs)
 pairs_fit : (n : ℕ) (its' its : List Item) → map pairs_of its' ≡ map pairs_of its → too_many_pairs n its ≡ None → too_many_pairs n its' ≡ None
 pairs_fit n [] its e fits = refl
 pairs_fit n (item' ∷ its') [] e fits = absurd (omega (arith, ap length e))
-pairs_fit n (item' ∷ its') (item ∷ its) e fits = which (nat_lt PAIRS (n + pairs_of item)) refl (pairs_fit (n + pairs_of item) its' its (cons_tail (pairs_of item') (pairs_of item) (map pairs_of its') (map pairs_of its) e))
+pairs_fit n (item' ∷ its') (item ∷ its) e fits = which (nat_lt MAX_PAIRS (n + pairs_of item)) refl (pairs_fit (n + pairs_of item) its' its (cons_tail (pairs_of item') (pairs_of item) (map pairs_of its') (map pairs_of its) e))
   where
     same : pairs_of item' ≡ pairs_of item
     same = cons_head (pairs_of item') (pairs_of item) (map pairs_of its') (map pairs_of its) e
 
-    which : (b : Bool) → nat_lt PAIRS (n + pairs_of item) ≡ b → (too_many_pairs (n + pairs_of item) its ≡ None → too_many_pairs (n + pairs_of item) its' ≡ None) → too_many_pairs n (item' ∷ its') ≡ None
+    which : (b : Bool) → nat_lt MAX_PAIRS (n + pairs_of item) ≡ b → (too_many_pairs (n + pairs_of item) its ≡ None → too_many_pairs (n + pairs_of item) its' ≡ None) → too_many_pairs n (item' ∷ its') ≡ None
     which true is again = absurd (some_not_none (start_of item) (sym (ap (λ b. if b then Some (start_of item) else too_many_pairs (n + pairs_of item) its) is) ∙ fits))
     which false is again =
-        ap (λ m. if nat_lt PAIRS (n + m) then Some (start_of item') else too_many_pairs (n + m) its') same
+        ap (λ m. if nat_lt MAX_PAIRS (n + m) then Some (start_of item') else too_many_pairs (n + m) its') same
         ∙ ap (λ b. if b then Some (start_of item') else too_many_pairs (n + pairs_of item) its') is
         ∙ again (sym (ap (λ b. if b then Some (start_of item) else too_many_pairs (n + pairs_of item) its) is) ∙ fits)
 
 -- a text whose tokens are those that are shown for a sheet
 pub record IsPrintOf (new old : List ℕ) (its : List Item) : Type 0 where
-  pub short : length new ≤ LIMIT
+  pub short : length new ≤ MAX_BYTES
   pub valid : length new ≤ utf8_valid_len new
   pub clean : (tokens new true).fault ≡ None
   pub closed : unclosed (tokens new true).tokens ≡ None
@@ -139,13 +141,13 @@ pub record IsPrintOf (new old : List ℕ) (its : List Item) : Type 0 where
 
 -- the items of a sheet fit, and so do the pairs of its rules
 pub record DoFit (its : List Item) : Type 0 where
-  pub items : length its ≤ ITEMS
+  pub items : length its ≤ MAX_ITEMS
   pub pairs : too_many_pairs 0 its ≡ None
 
 pub record IsSameSheet (new old : List ℕ) (its : List Item) : Type 0 where
   pub read : List Item
   pub reads : sheet_of new ≡ Ok read
-  pub says : all_said new read ≡ all_said old its
+  pub says : all_content new read ≡ all_content old its
   pub prints : printed new read ≡ printed old its
 
 length-pairs : (its : List Item) → length (map pairs_of its) ≡ length its
@@ -182,7 +184,7 @@ sheet_reads_back new old its sound order fit shallow print =
     number = sym (length-pairs back.read) ∙ ap length back.pairs ∙ length-pairs its
 
     few_items : too_many_items back.read ≡ None
-    few_items = ap (option_map start_of) (slice_get_past back.read ITEMS (omega (arith, number, fit.items)))
+    few_items = ap (option_map start_of) (slice_get_past back.read MAX_ITEMS (omega (arith, number, fit.items)))
 
     few_pairs : too_many_pairs 0 back.read ≡ None
     few_pairs = pairs_fit 0 back.read its back.pairs fit.pairs
@@ -198,8 +200,8 @@ sheet_reads_back new old its sound order fit shallow print =
 
     reads : sheet_of new ≡ Ok back.read
     reads =
-        ap (λ b. if b then Err (record { kind = TooLong; at = LIMIT }) else if nat_lt (utf8_valid_len new) (length new) then Err (record { kind = NotUtf8; at = utf8_valid_len new }) else sheet_of_stream new (tokens new true).fault ts)
-        (le-ltb LIMIT (length new) print.short)
+        ap (λ b. if b then Err (record { kind = TooLong; at = MAX_BYTES }) else if nat_lt (utf8_valid_len new) (length new) then Err (record { kind = NotUtf8; at = utf8_valid_len new }) else sheet_of_stream new (tokens new true).fault ts)
+        (le-ltb MAX_BYTES (length new) print.short)
         ∙ ap (λ b. if b then Err (record { kind = NotUtf8; at = utf8_valid_len new }) else sheet_of_stream new (tokens new true).fault ts)
         (le-ltb (utf8_valid_len new) (length new) print.valid)
         ∙ ap (λ f. sheet_of_stream new f ts) print.clean

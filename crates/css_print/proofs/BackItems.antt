@@ -5,10 +5,10 @@ use Rattle.std.proofs.Math.Seq.{take-append_seam}
 use Rattle.std.specs.Prelude.{⊤, ◌&&◌, ◌||◌, if◌then◌else◌}
 use Rattle.std.specs.List.{AllZip, position_or_len, before_first, after_first, slice_split, list_any}
 use Rattle.css_model.specs.declared.token.Lexeme.{Lexeme}
-use Rattle.css_model.specs.Characters.{comma, semicolon, open_curly, close_curly}
-use Rattle.css_model.specs.Items.{is_at_keyword, is_between_items, opens_block, closes_block, ends_prelude, end_len, item_len, items_from, items, is_at_rule, selector_parts, entries}
-use Rattle.css_model.specs.Lexemes.{is_sign_at}
-use Rattle.css_model.specs.Unescaped.{less_one}
+use Rattle.css_model.specs.Text.Characters.{comma, semicolon, open_curly, close_curly}
+use Rattle.css_model.specs.Sheets.Items.{is_at_keyword, is_between_items, opens_block, closes_block, ends_prelude, end_len, item_len, items_from, items, is_at_rule, selector_parts, entries}
+use Rattle.css_model.specs.Text.Lexemes.{is_sign_at}
+use Rattle.css_model.specs.Lists.{less_one}
 use Rattle.css_print.proofs.BackAlike.{IsLike}
 use Rattle.css_print.proofs.BackCuts.{position_here, position_later, before_some, after_some, before_stop}
 use Rattle.css_print.proofs.BackEntries.{sign_like}

@@ -3,7 +3,7 @@ use Rattle.std.proofs.Common.{◌≡◌, subst, ℕ, ◌==◌, Bool, true, false
 use Rattle.std.specs.Prelude.{◌&&◌}
 use Rattle.std.specs.List.{AllZip, AllByRecursion, slice_split}
 use Rattle.css_model.specs.declared.token.Lexeme.{Lexeme}
-use Rattle.css_model.specs.Lexemes.{is_sign_of, is_sign_at}
+use Rattle.css_model.specs.Text.Lexemes.{is_sign_of, is_sign_at}
 use Rattle.css_print.proofs.BackCuts.{None_of, none_append, split_none, split_at}
 use Rattle.css_print.proofs.BackLists.{cut_at, cons_head, cons_tail, cons_not_empty}
 use Rattle.css_print.proofs.BackTokens.{Shown, shown, joined}

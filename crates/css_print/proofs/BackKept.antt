@@ -8,12 +8,13 @@ use Rattle.css_model.specs.declared.sheet.Item.TheVariants.{Rule, KeptRule, Kept
 use Rattle.css_model.specs.declared.sheet.Piece.{Piece}
 use Rattle.css_model.specs.declared.sheet.SelItem.{SelItem}
 use Rattle.css_model.specs.declared.token.Lexeme.{Lexeme}
-use Rattle.css_model.specs.Characters.{open_curly, close_curly}
-use Rattle.css_model.specs.Declarations.{declaration, declarations, is_nested}
-use Rattle.css_model.specs.Items.{is_at_rule, opens_block, closes_block, selector_parts, entries}
-use Rattle.css_model.specs.Lexemes.{piece_of}
-use Rattle.css_model.specs.Selectors.{all_of, selector_item}
-use Rattle.css_model.specs.Sheet.{rule_of, rule_or_block, item_of}
+use Rattle.css_model.specs.Text.Characters.{open_curly, close_curly}
+use Rattle.css_model.specs.Sheets.Declarations.{declaration, declarations, is_nested}
+use Rattle.css_model.specs.Sheets.Items.{is_at_rule, opens_block, closes_block, selector_parts, entries}
+use Rattle.css_model.specs.Text.Lexemes.{piece_of}
+use Rattle.css_model.specs.Lists.{all_of}
+use Rattle.css_model.specs.Sheets.Selectors.{selector_item}
+use Rattle.css_model.specs.Sheets.Sheet.{rule_of, rule_or_block, item_of}
 use Rattle.css_print.proofs.BackAlike.{IsLike, AreClosable, like_last_of_item, item_like}
 use Rattle.css_print.proofs.BackEntries.{IsPrinted, SaySame, at_rule_like, sign_like, like_of}
 use Rattle.css_print.proofs.BackItems.{IsClosedRule, is_ended, closed_rule, parts_without_last, entries_without_last}

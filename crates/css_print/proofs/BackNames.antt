@@ -7,16 +7,17 @@ use Rattle.css_model.specs.declared.token.TokenKind.{TokenKind}
 use Rattle.css_model.specs.declared.token.TokenKind.TheVariants as kind
 use Rattle.css_model.specs.declared.token.TokenFlaw.{TokenFlaw}
 use Rattle.css_model.specs.declared.token.TokenFlaw.TheVariants as flaw
-use Rattle.css_model.specs.Characters.{backslash, space, slash, star, dash, hash, at_sign, less_than, greater_than, percent, open_round, close_round, is_newline, is_white, is_name, is_sign, begins, begins_with}
+use Rattle.css_model.specs.Text.Characters.{backslash, space, slash, star, dash, hash, at_sign, less_than, greater_than, percent, open_round, close_round, is_newline, is_white, is_name, is_sign, begins, first_passes}
 use Rattle.css_model.specs.declared.token.Lexeme.{Lexeme}
-use Rattle.css_model.specs.Kept.{is_open, length_of}
-use Rattle.css_model.specs.Source.{text_at}
+use Rattle.css_model.specs.Text.Kept.{is_open, length_of}
+use Rattle.css_model.specs.Text.Source.{text_at}
 use Rattle.css_print.proofs.BackAlike.{IsClosable, name_in}
 use Rattle.css_print.proofs.BackValues.{IsShut}
-use Rattle.css_model.specs.Runs.{run, run_from, unit_then}
-use Rattle.css_model.specs.TokenAt.{Shape, done, comment_shape, slash_shape, string_shape, hash_shape, number_shape, less_shape, at_shape, after_white, url_end, url_shape, is_quote, opened_shape, named_shape, word_at, symbol_at, rule_at, within, part_at}
-use Rattle.css_model.specs.Units.{white_unit, hex_rest, escape_after, name_unit, name_start, name_len, string_unit, comment_unit, url_unit, signed_decimal, number_len}
-use Rattle.css_model.specs.Unescaped.{is_url, hex_value, escaped_code, byte_text, after_backslash_len, after_backslash_text, first_len, first_text, less_one, unescaped_from, unescaped}
+use Rattle.css_model.specs.Text.Runs.{run, run_from, unit_then}
+use Rattle.css_model.specs.Text.TokenAt.{Shape, done, comment_shape, slash_shape, string_shape, hash_shape, number_shape, less_shape, at_shape, after_white, url_end, url_shape, is_quote, opened_shape, named_shape, word_at, symbol_at, rule_at, within, part_at}
+use Rattle.css_model.specs.Text.Units.{white_unit, hex_rest, escape_after, name_unit, name_start, name_len, string_unit, comment_unit, url_unit, signed_decimal, number_len}
+use Rattle.css_model.specs.Text.Names.{is_url, hex_value, escaped_code, byte_text, after_backslash_len, after_backslash_text, first_len, first_text, unescaped_from, unescaped}
+use Rattle.css_model.specs.Lists.{less_one}
 
 white_near : (e : ℕ) (es : List ℕ) → (white_unit (e ∷ es ++ space ∷ []) ≡ white_unit (e ∷ es)) × (white_unit (e ∷ es ++ space ∷ space ∷ []) ≡ white_unit (e ∷ es))
 white_near e [] = (refl, refl)
@@ -180,8 +181,8 @@ slash_name c cs =
 string_name : (c q : ℕ) (cs : List ℕ) → HasName (c ∷ cs) (string_shape q cs)
 string_name c q cs =
     let rest = drop (run (string_unit q) cs) cs in
-    either_name (c ∷ cs) (begins q rest) (done kind.Str (2 + run (string_unit q) cs)) (if begins_with is_newline rest then Err flaw.BadString else Err flaw.EndInside) tt
-    (either_name (c ∷ cs) (begins_with is_newline rest) (Err flaw.BadString) (Err flaw.EndInside) tt tt)
+    either_name (c ∷ cs) (begins q rest) (done kind.Str (2 + run (string_unit q) cs)) (if first_passes is_newline rest then Err flaw.BadString else Err flaw.EndInside) tt
+    (either_name (c ∷ cs) (first_passes is_newline rest) (Err flaw.BadString) (Err flaw.EndInside) tt tt)
 
 hash_name : (c : ℕ) (cs : List ℕ) → HasName (c ∷ cs) (hash_shape cs)
 hash_name c cs =
@@ -216,8 +217,8 @@ url_shape_name text n rest =
 opened_name : (text name : List ℕ) (n : ℕ) (rest : List ℕ) → HasName text (opened_shape name n rest)
 opened_name text name n rest =
     let url = url_shape (n + run white_unit rest) (after_white rest) in
-    either_name text (is_url name) (if begins_with is_quote (after_white rest) then done kind.Function n else url) (done kind.Function n)
-    (either_name text (begins_with is_quote (after_white rest)) (done kind.Function n) url tt (url_shape_name text (n + run white_unit rest) (after_white rest))) tt
+    either_name text (is_url name) (if first_passes is_quote (after_white rest) then done kind.Function n else url) (done kind.Function n)
+    (either_name text (first_passes is_quote (after_white rest)) (done kind.Function n) url tt (url_shape_name text (n + run white_unit rest) (after_white rest))) tt
 
 word_name : (c : ℕ) (cs : List ℕ) → HasName (c ∷ cs) (word_at (c ∷ cs))
 word_name c cs =

@@ -10,17 +10,19 @@ use Rattle.css_model.specs.declared.sheet.Item.{Item}
 use Rattle.css_model.specs.declared.sheet.Item.TheVariants.{Rule, KeptRule, KeptBlock}
 use Rattle.css_model.specs.declared.sheet.SelItem.{SelItem}
 use Rattle.css_model.specs.declared.token.Lexeme.{Lexeme}
-use Rattle.css_model.specs.Characters.{comma, colon, semicolon}
-use Rattle.css_model.specs.Declarations.{is_ident, is_custom, is_important, property_of, without_importance, piece_of_value, declared, declaration, declarations, is_nested}
-use Rattle.css_model.specs.Items.{item_len, is_at_rule, is_whole, opens_block, closes_block, selector_parts, block, entries}
-use Rattle.css_model.specs.Kept.{is_white_gap}
-use Rattle.css_model.specs.KeptRuleParts.{KeptRuleParts}
-use Rattle.css_model.specs.Lexemes.{is_sign_of, is_sign_at, piece_of}
-use Rattle.css_model.specs.Selectors.{of_one_test, simple_of, selector_item, before_all, all_of, selectors}
-use Rattle.css_model.specs.Sheet.{is_import, is_namespace, not_read, rule_or_block, item_of, read_items}
-use Rattle.css_model.specs.Source.{text_at}
-use Rattle.css_model.specs.Spelling.{lexemes_of, tokens_in}
-use Rattle.css_model.specs.Unescaped.{decoded}
+use Rattle.css_model.specs.Text.Characters.{comma, colon, semicolon}
+use Rattle.css_model.specs.Text.Lexemes.{is_ident}
+use Rattle.css_model.specs.Sheets.Declarations.{is_custom, is_important, property_of, without_importance, piece_of_value, decl_item, declaration, declarations, is_nested}
+use Rattle.css_model.specs.Sheets.Items.{item_len, is_at_rule, is_whole, opens_block, closes_block, selector_parts, block, entries}
+use Rattle.css_model.specs.Text.Kept.{is_white_gap}
+use Rattle.css_model.specs.Sheets.KeptRuleParts.{KeptRuleParts}
+use Rattle.css_model.specs.Text.Lexemes.{is_sign_of, is_sign_at, piece_of}
+use Rattle.css_model.specs.Sheets.Selectors.{of_one_test, simple_of, selector_item, selectors}
+use Rattle.css_model.specs.Lists.{before_all, all_of}
+use Rattle.css_model.specs.Sheets.Sheet.{is_import, is_namespace, not_read, rule_or_block, item_of, read_items}
+use Rattle.css_model.specs.Text.Source.{text_at}
+use Rattle.css_model.specs.Sheets.Spelling.{lexemes_of, tokens_in}
+use Rattle.css_model.specs.Text.Names.{decoded}
 use Rattle.css_print.proofs.BackAlike.{IsClosable, AreClosable}
 use Rattle.css_print.proofs.BackBlocks.{IsOfDeclaration, plain_value, or_false}
 use Rattle.css_print.proofs.BackCuts.{None_of}
@@ -80,7 +82,7 @@ some_selectors source (part ∷ parts) read some reads none = which (selector_it
 
 -- the value of a declaration alone stands in its piece
 pub value_alone : (source : List ℕ) → HasGoodTokens source → (name sign : Lexeme) (value : List Lexeme) → StandsIn (lexemes_of source) (name ∷ sign ∷ value)
-    → tokens_in source (declared source name sign value).value ≡ without_importance source value
+    → tokens_in source (decl_item source name sign value).value ≡ without_importance source value
 value_alone source good name sign value stands =
     by_plain (without_importance source value) (stands_inside (lexemes_of source) value (without_importance source value) in_value (plain_in value))
   where
@@ -116,9 +118,9 @@ declaration_from source good entry d stands single inside plain reads =
     by_entry (x ∷ []) stands reads = absurd (some_not_none d (sym reads))
     by_entry (name ∷ sign ∷ value) stands reads = which (is_ident name.kind && is_sign_of colon sign.kind) reads
       where
-        which : (b : Bool) → (if b then Some (declared source name sign value) else None) ≡ Some d → tokens_in source d.value ≡ without_importance source value
+        which : (b : Bool) → (if b then Some (decl_item source name sign value) else None) ≡ Some d → tokens_in source d.value ≡ without_importance source value
         which false e = absurd (some_not_none d (sym e))
-        which true e = ap (λ (d : DeclItem). tokens_in source d.value) (sym (some_same (declared source name sign value) d e)) ∙ value_alone source good name sign value stands
+        which true e = ap (λ (d : DeclItem). tokens_in source d.value) (sym (some_same (decl_item source name sign value) d e)) ∙ value_alone source good name sign value stands
 
 declarations_from : (source : List ℕ) → HasGoodTokens source → (outer : List Lexeme) → StandsIn (lexemes_of source) outer → None_of closes_block outer → (parts : List (List Lexeme))
     → AllByRecursion (IsPart (is_sign_at semicolon 1) outer) parts → list_any (is_nested source) parts ≡ false → AllByRecursion (IsOfDeclaration source) (filter_map (declaration source) parts)

@@ -6,8 +6,8 @@ use Rattle.std.specs.Prelude.{⊤, ◌&&◌, if◌then◌else◌, nat_le}
 use Rattle.std.specs.List.{AllByRecursion, filter}
 use Rattle.css_model.specs.declared.sheet.Piece.{Piece}
 use Rattle.css_model.specs.declared.token.Lexeme.{Lexeme}
-use Rattle.css_model.specs.Lexemes.{end_of, piece_of}
-use Rattle.css_model.specs.Spelling.{stands_in}
+use Rattle.css_model.specs.Text.Lexemes.{end_of, piece_of}
+use Rattle.css_model.specs.Sheets.Spelling.{stands_in}
 use Rattle.css_print.proofs.BackAlike.{and_false}
 use Rattle.css_print.proofs.BackJoins.{StandsIn}
 

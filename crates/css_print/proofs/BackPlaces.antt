@@ -5,9 +5,9 @@ use Rattle.std.specs.List.{AllByRecursion, starts_with}
 use Rattle.css_model.specs.declared.token.Bracket.{Bracket}
 use Rattle.css_model.specs.declared.token.Token.{Token}
 use Rattle.css_model.specs.declared.token.TokenKind.{TokenKind}
-use Rattle.css_model.specs.Lexemes.{is_white_kind, after, white_of, lexeme, lexemes_in}
-use Rattle.css_model.specs.Spelling.{lexemes_of}
-use Rattle.css_model.specs.Tokens.{Part, parts, token_then, tokens_at, is_comment, byte_order_mark, stream, tokens}
+use Rattle.css_model.specs.Text.Lexemes.{is_white_kind, after, white_of, lexeme, lexemes_in}
+use Rattle.css_model.specs.Sheets.Spelling.{lexemes_of}
+use Rattle.css_model.specs.Text.Tokens.{Part, parts, token_then, tokens_at, is_comment, byte_order_mark, stream, tokens}
 use Rattle.css_print.proofs.BackPieces.{AreAscending, AreSpaced}
 
 -- tokens from this place on, white space too

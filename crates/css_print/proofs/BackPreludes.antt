@@ -11,17 +11,18 @@ use Rattle.css_model.specs.declared.token.Gap.TheVariants as gap
 use Rattle.css_model.specs.declared.token.Lexeme.{Lexeme}
 use Rattle.css_model.specs.declared.token.TokenKind.{TokenKind}
 use Rattle.css_model.specs.declared.token.TokenKind.TheVariants as kind
-use Rattle.css_model.specs.Characters.{dot}
-use Rattle.css_model.specs.Declarations.{is_ident, is_delim_of}
-use Rattle.css_model.specs.Document.{same_text}
-use Rattle.css_model.specs.Items.{is_at_keyword, is_between_items}
-use Rattle.css_model.specs.Kept.{is_white_gap}
-use Rattle.css_model.specs.Lexemes.{is_sign_of, piece_of}
-use Rattle.css_model.specs.Printed.{printed_selector}
-use Rattle.css_model.specs.Selectors.{class_test, of_one_test, test_of_one, class_of, simple_of, selector_item, before_all, all_of}
-use Rattle.css_model.specs.Source.{text_at}
-use Rattle.css_model.specs.Spelling.{tokens_in}
-use Rattle.css_model.specs.Unescaped.{decoded}
+use Rattle.css_model.specs.Text.Characters.{dot}
+use Rattle.css_model.specs.Text.Lexemes.{is_ident, is_delim_of}
+use Rattle.css_model.specs.Lists.{same_text}
+use Rattle.css_model.specs.Sheets.Items.{is_at_keyword, is_between_items}
+use Rattle.css_model.specs.Text.Kept.{is_white_gap}
+use Rattle.css_model.specs.Text.Lexemes.{is_sign_of, piece_of}
+use Rattle.css_model.specs.Sheets.Printed.{printed_selector}
+use Rattle.css_model.specs.Sheets.Selectors.{class_test, of_one_test, test_of_one, class_of, simple_of, selector_item}
+use Rattle.css_model.specs.Lists.{before_all, all_of}
+use Rattle.css_model.specs.Text.Source.{text_at}
+use Rattle.css_model.specs.Sheets.Spelling.{tokens_in}
+use Rattle.css_model.specs.Text.Names.{decoded}
 use Rattle.css_print.proofs.BackCuts.{None_of}
 use Rattle.css_print.proofs.BackJoins.{StandsIn, ArePartsOf, is_shown_sign}
 use Rattle.css_print.proofs.BackLists.{cons_head, cons_tail, cons_not_empty}

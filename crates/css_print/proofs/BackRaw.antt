@@ -6,10 +6,10 @@ use Rattle.std.proofs.lemmas.List.{take-append-drop}
 use Rattle.std.specs.Prelude.{⊤, ◌&&◌, ◌||◌, if◌then◌else◌}
 use Rattle.std.specs.List.{AllByRecursion, list_any, position_or_len, filter}
 use Rattle.css_model.specs.declared.token.Lexeme.{Lexeme}
-use Rattle.css_model.specs.Characters.{semicolon}
-use Rattle.css_model.specs.Items.{is_at_keyword, is_between_items, opens_block, closes_block, ends_prelude, item_len, items_from, items, is_at_rule, is_whole}
-use Rattle.css_model.specs.Lexemes.{is_sign_at}
-use Rattle.css_model.specs.Unescaped.{less_one}
+use Rattle.css_model.specs.Text.Characters.{semicolon}
+use Rattle.css_model.specs.Sheets.Items.{is_at_keyword, is_between_items, opens_block, closes_block, ends_prelude, item_len, items_from, items, is_at_rule, is_whole}
+use Rattle.css_model.specs.Text.Lexemes.{is_sign_at}
+use Rattle.css_model.specs.Lists.{less_one}
 use Rattle.css_print.proofs.BackCuts.{position_here, position_later}
 use Rattle.css_print.proofs.BackItems.{begins_item, is_nil, ends_with_block, ends_in, is_ended, len_of, len_here, len_later, at_block, at_semi, at_other, ends_first, ends_second, ended_item_len}
 use Rattle.css_print.proofs.BackJoins.{StandsIn, stands_front, stands_behind, stands_inside}

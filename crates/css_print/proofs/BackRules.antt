@@ -7,12 +7,12 @@ use Rattle.css_model.specs.declared.sheet.DeclItem.{DeclItem}
 use Rattle.css_model.specs.declared.sheet.Item.TheVariants.{Rule, KeptBlock}
 use Rattle.css_model.specs.declared.sheet.SelItem.{SelItem}
 use Rattle.css_model.specs.declared.token.Lexeme.{Lexeme}
-use Rattle.css_model.specs.Characters.{comma, semicolon, open_curly, close_curly}
-use Rattle.css_model.specs.Declarations.{declaration, is_nested}
-use Rattle.css_model.specs.Items.{opens_block, closes_block, is_at_rule, is_whole, selector_parts, entries}
-use Rattle.css_model.specs.Lexemes.{is_sign_at, piece_of}
-use Rattle.css_model.specs.RuleParts.{RuleParts}
-use Rattle.css_model.specs.Sheet.{item_of, rule_or_block}
+use Rattle.css_model.specs.Text.Characters.{comma, semicolon, open_curly, close_curly}
+use Rattle.css_model.specs.Sheets.Declarations.{declaration, is_nested}
+use Rattle.css_model.specs.Sheets.Items.{opens_block, closes_block, is_at_rule, is_whole, selector_parts, entries}
+use Rattle.css_model.specs.Text.Lexemes.{is_sign_at, piece_of}
+use Rattle.css_model.specs.Sheets.RuleParts.{RuleParts}
+use Rattle.css_model.specs.Sheets.Sheet.{item_of, rule_or_block}
 use Rattle.css_print.proofs.BackBlocks.{IsOfDeclaration, IsDeclarationAgain, AreDeclarationsAgain, declarations_again, declarations_no_semicolon, declarations_no_close}
 use Rattle.css_print.proofs.BackCuts.{None_of, before_at, after_at}
 use Rattle.css_print.proofs.BackItems.{or_true, begins_item, ends_in, ends_with_block, is_ended, is_nil}

@@ -7,14 +7,14 @@ use Rattle.css_model.specs.declared.sheet.Item.TheVariants.{Rule, KeptRule, Kept
 use Rattle.css_model.specs.declared.sheet.Piece.{Piece}
 use Rattle.css_model.specs.declared.sheet.SelItem.{SelItem}
 use Rattle.css_model.specs.declared.token.Lexeme.{Lexeme}
-use Rattle.css_model.specs.Characters.{comma, colon, semicolon, open_curly, close_curly}
-use Rattle.css_model.specs.Items.{items, is_whole}
-use Rattle.css_model.specs.Kept.{solid, kept}
-use Rattle.css_model.specs.Printed.{printed_selector, importance, printed_declaration, printed_item, behind_mark, printed}
-use Rattle.css_model.specs.Sheet.{is_namespace, read_items, pairs_of}
-use Rattle.css_model.specs.Source.{text_at}
-use Rattle.css_model.specs.Spelling.{Style, Kept, Block, said, all_said, lexemes_of, tokens_in, kept_text}
-use Rattle.css_model.specs.StyleRule.{selectors_of}
+use Rattle.css_model.specs.Text.Characters.{comma, colon, semicolon, open_curly, close_curly}
+use Rattle.css_model.specs.Sheets.Items.{items, is_whole}
+use Rattle.css_model.specs.Text.Kept.{solid, kept}
+use Rattle.css_model.specs.Sheets.Printed.{printed_selector, importance, printed_declaration, printed_item, behind_mark, printed}
+use Rattle.css_model.specs.Sheets.Sheet.{is_namespace, read_items, pairs_of}
+use Rattle.css_model.specs.Text.Source.{text_at}
+use Rattle.css_model.specs.Sheets.Spelling.{Style, Kept, Block, content, all_content, lexemes_of, tokens_in, kept_text}
+use Rattle.css_model.specs.Sheets.StyleRule.{selectors_of}
 use Rattle.css_print.proofs.BackBlocks.{IsDeclarationAgain}
 use Rattle.css_print.proofs.BackLists.{zip_length}
 use Rattle.css_print.proofs.BackPieces.{AreAscending, stand_alone}
@@ -67,7 +67,7 @@ kept_says new old order p' p again =
 
 -- what an item says, and what is printed for it
 record SaysAlike (new old : List ℕ) (item' item : Item) : Type 0 where
-  says : said new item' ≡ said old item
+  says : content new item' ≡ content old item
   prints : printed_item new item' ≡ printed_item old item
   pairs : pairs_of item' ≡ pairs_of item
 
@@ -105,7 +105,7 @@ item_says new old order (KeptBlock p') (KeptBlock p) again =
 
 -- the same of all items of a sheet
 record SayAlike (new old : List ℕ) (its' its : List Item) : Type 0 where
-  says : all_said new its' ≡ all_said old its
+  says : all_content new its' ≡ all_content old its
   prints : flat_map (printed_item new) its' ≡ flat_map (printed_item old) its
   pairs : map pairs_of its' ≡ map pairs_of its
 
@@ -117,7 +117,7 @@ items_say new old order (item' ∷ its') (item ∷ its) z =
     let here = item_says new old order item' item z.0 in
     let rest = items_say new old order its' its z.1 in
     record {
-      says = ap (λ t. t ∷ all_said new its') here.says ∙ ap (λ ts. said old item ∷ ts) rest.says;
+      says = ap (λ t. t ∷ all_content new its') here.says ∙ ap (λ ts. content old item ∷ ts) rest.says;
       prints = ap (λ t. t ++ flat_map (printed_item new) its') here.prints ∙ ap (λ t. printed_item old item ++ t) rest.prints;
       pairs = ap (λ (n : ℕ). n ∷ map pairs_of its') here.pairs ∙ ap (λ (ns : List ℕ). pairs_of item ∷ ns) rest.pairs;
     }
@@ -129,7 +129,7 @@ pub record IsReadBack (new old : List ℕ) (its : List Item) : Type 0 where
   pub no_namespace : find (is_namespace new) raw ≡ None
   pub read : List Item
   pub reads : read_items new raw ≡ read
-  pub says : all_said new read ≡ all_said old its
+  pub says : all_content new read ≡ all_content old its
   pub prints : printed new read ≡ printed old its
   pub pairs : map pairs_of read ≡ map pairs_of its
 

@@ -10,16 +10,19 @@ use Rattle.css_model.specs.declared.sheet.SelItem.{SelItem}
 use Rattle.css_model.specs.declared.token.Lexeme.{Lexeme}
 use Rattle.css_model.specs.declared.token.TokenKind.{TokenKind}
 use Rattle.css_model.specs.declared.token.TokenKind.TheVariants as kind
-use Rattle.css_model.specs.Attribute.{begins_with}
-use Rattle.css_model.specs.Characters.{dot, comma, semicolon, open_curly, close_curly}
-use Rattle.css_model.specs.Declarations.{is_ident, is_delim_of, lower, declaration, declarations, is_nested}
-use Rattle.css_model.specs.Document.{same_text}
-use Rattle.css_model.specs.Items.{opens_block, closes_block, selector_parts, entries}
-use Rattle.css_model.specs.Kept.{is_white_gap}
-use Rattle.css_model.specs.Lexemes.{is_sign_at, piece_of}
-use Rattle.css_model.specs.Selectors.{class_test, of_one_test, type_test, test_of_one, class_of, simple_of, selector_item, before_all, all_of, selectors}
-use Rattle.css_model.specs.Source.{text_at}
-use Rattle.css_model.specs.Unescaped.{unescaped, decoded, code_points}
+use Rattle.css_model.specs.Lists.{begins_with}
+use Rattle.css_model.specs.Text.Characters.{dot, comma, semicolon, open_curly, close_curly}
+use Rattle.css_model.specs.Text.Lexemes.{is_ident, is_delim_of}
+use Rattle.css_model.specs.Text.Names.{lower}
+use Rattle.css_model.specs.Sheets.Declarations.{declaration, declarations, is_nested}
+use Rattle.css_model.specs.Lists.{same_text}
+use Rattle.css_model.specs.Sheets.Items.{opens_block, closes_block, selector_parts, entries}
+use Rattle.css_model.specs.Text.Kept.{is_white_gap}
+use Rattle.css_model.specs.Text.Lexemes.{is_sign_at, piece_of}
+use Rattle.css_model.specs.Sheets.Selectors.{class_test, of_one_test, type_test, test_of_one, class_of, simple_of, selector_item, selectors}
+use Rattle.css_model.specs.Lists.{before_all, all_of}
+use Rattle.css_model.specs.Text.Source.{text_at}
+use Rattle.css_model.specs.Text.Names.{unescaped, decoded, code_points}
 use Rattle.css_print.proofs.BackAlike.{IsLike, name_in}
 use Rattle.css_print.proofs.BackEntries.{IsPrinted, SaySame, printed_like, sign_like, ident_like, declaration_printed, nested_printed}
 use Rattle.css_print.proofs.BackLists.{Agree, AreBoth, zip_before, zip_after, zip_split, zip_any, zip_filter_map}

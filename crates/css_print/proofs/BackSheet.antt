@@ -10,16 +10,16 @@ use Rattle.css_model.specs.declared.sheet.SelItem.{SelItem}
 use Rattle.css_model.specs.declared.token.Lexeme.{Lexeme}
 use Rattle.css_model.specs.declared.token.TokenKind.{TokenKind}
 use Rattle.css_model.specs.declared.token.TokenKind.TheVariants as kind
-use Rattle.css_model.specs.Characters.{open_curly}
-use Rattle.css_model.specs.Declarations.{is_named}
-use Rattle.css_model.specs.Items.{is_at_keyword, item_len, items, is_at_rule, is_whole, opens_block}
-use Rattle.css_model.specs.Kept.{solid, kept}
-use Rattle.css_model.specs.KeptRuleParts.{KeptRuleParts}
-use Rattle.css_model.specs.Lexemes.{piece_of}
-use Rattle.css_model.specs.Sheet.{is_at_rule_named, is_import, is_namespace, item_of, read_items}
-use Rattle.css_model.specs.Source.{text_at}
-use Rattle.css_model.specs.Spelling.{tokens_in, kept_text}
-use Rattle.css_model.specs.Unescaped.{unescaped}
+use Rattle.css_model.specs.Text.Characters.{open_curly}
+use Rattle.css_model.specs.Text.Names.{is_named}
+use Rattle.css_model.specs.Sheets.Items.{is_at_keyword, item_len, items, is_at_rule, is_whole, opens_block}
+use Rattle.css_model.specs.Text.Kept.{solid, kept}
+use Rattle.css_model.specs.Sheets.KeptRuleParts.{KeptRuleParts}
+use Rattle.css_model.specs.Text.Lexemes.{piece_of}
+use Rattle.css_model.specs.Sheets.Sheet.{is_at_rule_named, is_import, is_namespace, item_of, read_items}
+use Rattle.css_model.specs.Text.Source.{text_at}
+use Rattle.css_model.specs.Sheets.Spelling.{tokens_in, kept_text}
+use Rattle.css_model.specs.Text.Names.{unescaped}
 use Rattle.css_print.proofs.BackAlike.{IsLike, AreClosable, name_in, all_shut, item_like}
 use Rattle.css_print.proofs.BackEntries.{at_rule_like, sign_like}
 use Rattle.css_print.proofs.BackItems.{begins_item, is_ended, ended_item_len, all_of_them, StandAsItems, items_again, ended_like, begins_like, item_len_like}

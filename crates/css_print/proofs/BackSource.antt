@@ -9,10 +9,10 @@ use Rattle.css_model.specs.declared.token.Lexeme.{Lexeme}
 use Rattle.css_model.specs.declared.token.Token.{Token}
 use Rattle.css_model.specs.declared.token.TokenKind.{TokenKind}
 use Rattle.css_model.specs.declared.token.TokenKind.TheVariants as kind
-use Rattle.css_model.specs.Characters.{open_curly, close_curly}
-use Rattle.css_model.specs.Items.{opens_block, closes_block}
-use Rattle.css_model.specs.Lexemes.{is_white_kind, is_sign_of, closer_of, closer_of_sign, closes, opened, after, after_all, lexeme, lexemes_in}
-use Rattle.css_model.specs.Sheet.{unclosed}
+use Rattle.css_model.specs.Text.Characters.{open_curly, close_curly}
+use Rattle.css_model.specs.Sheets.Items.{opens_block, closes_block}
+use Rattle.css_model.specs.Text.Lexemes.{is_white_kind, is_sign_of, closer_of, closer_of_sign, closes, opened, after, after_all, lexeme, lexemes_in}
+use Rattle.css_model.specs.Sheets.Sheet.{unclosed}
 use Rattle.css_print.proofs.BackItems.{or_true}
 use Rattle.css_print.proofs.BackLists.{cons_not_empty, some_not_none}
 

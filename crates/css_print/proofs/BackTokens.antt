@@ -11,11 +11,11 @@ use Rattle.css_model.specs.declared.token.Gap.TheVariants as gap
 use Rattle.css_model.specs.declared.token.Lexeme.{Lexeme}
 use Rattle.css_model.specs.declared.token.TokenKind.{TokenKind}
 use Rattle.css_model.specs.declared.token.TokenKind.TheVariants as kind
-use Rattle.css_model.specs.Characters.{comma, colon, semicolon, open_curly, close_curly, exclamation_mark, space}
-use Rattle.css_model.specs.Kept.{is_open, is_lone, is_white_gap}
-use Rattle.css_model.specs.RuleParts.{RuleParts}
-use Rattle.css_model.specs.Source.{text_at}
-use Rattle.css_model.specs.Spelling.{tokens_in}
+use Rattle.css_model.specs.Text.Characters.{comma, colon, semicolon, open_curly, close_curly, exclamation_mark, space}
+use Rattle.css_model.specs.Text.Kept.{is_open, is_lone, is_white_gap}
+use Rattle.css_model.specs.Sheets.RuleParts.{RuleParts}
+use Rattle.css_model.specs.Text.Source.{text_at}
+use Rattle.css_model.specs.Sheets.Spelling.{tokens_in}
 use Rattle.css_print.proofs.BackLists.{AllLast, cons_head, cons_tail, cons_not_empty}
 
 -- a token apart from where it stands

@@ -6,9 +6,9 @@ use Rattle.std.proofs.lemmas.List.{append_assoc}
 use Rattle.css_model.specs.declared.token.Gap.{Gap}
 use Rattle.css_model.specs.declared.token.Gap.TheVariants as gap
 use Rattle.css_model.specs.declared.token.Lexeme.{Lexeme}
-use Rattle.css_model.specs.Characters.{line_feed, space}
-use Rattle.css_model.specs.Kept.{Solid, solid, is_open, is_lone, is_white_gap, gap_text, between, behind_last, behind_value, spelled, kept, value_text}
-use Rattle.css_model.specs.Source.{text_at}
+use Rattle.css_model.specs.Text.Characters.{line_feed, space}
+use Rattle.css_model.specs.Text.Kept.{Solid, solid, is_open, is_lone, is_white_gap, gap_text, between, behind_last, behind_value, spelled, kept, value_text}
+use Rattle.css_model.specs.Text.Source.{text_at}
 use Rattle.css_print.proofs.BackLists.{AllLast, last_from_zip}
 use Rattle.css_print.proofs.BackTokens.{Shown, shown, closed, inner, last_of_value, last_of_item}
 

@@ -5,17 +5,17 @@ use Rattle.std.specs.List.{AllByRecursion, find, list_any}
 use Rattle.std.specs.Option.{option_map}
 use Rattle.std.specs.Str.Lossy.{utf8_valid_len}
 use Rattle.css_model.specs.declared.fault.FaultKind.TheVariants.{TooLong, NotUtf8}
-use Rattle.css_model.specs.declared.fault.TheConstants.{LIMIT, ITEMS}
+use Rattle.css_model.specs.declared.limits.TheConstants.{MAX_BYTES, MAX_ITEMS}
 use Rattle.css_model.specs.declared.sheet.Item.{Item}
 use Rattle.css_model.specs.declared.sheet.Item.TheVariants.{Rule, KeptRule, KeptBlock}
 use Rattle.css_model.specs.declared.token.TokenFault.{TokenFault}
-use Rattle.css_model.specs.Lexemes.{piece_of}
-use Rattle.css_model.specs.RuleParts.{RuleParts}
-use Rattle.css_model.specs.Sheet.{is_namespace, read_items, start_of, too_many_pairs, too_deep, unclosed, namespace_at, too_many_items, token_fault, sheet_of_tokens, sheet_of_stream, sheet_of}
-use Rattle.css_model.specs.Sound.{raw_items}
-use Rattle.css_model.specs.Spelling.{lexemes_of}
-use Rattle.css_model.specs.Tokens.{tokens}
-use Rattle.css_print.specs.ReadBack.{Follows}
+use Rattle.css_model.specs.Text.Lexemes.{piece_of}
+use Rattle.css_model.specs.Sheets.RuleParts.{RuleParts}
+use Rattle.css_model.specs.Sheets.Sheet.{is_namespace, read_items, start_of, too_many_pairs, too_deep, unclosed, namespace_at, too_many_items, token_fault, sheet_of_tokens, sheet_of_stream, sheet_of}
+use Rattle.css_model.specs.Sheets.Sound.{raw_items}
+use Rattle.css_model.specs.Sheets.Spelling.{lexemes_of}
+use Rattle.css_model.specs.Text.Tokens.{tokens}
+use Rattle.css_model.specs.Sheets.ComesFrom.{Follows}
 use Rattle.css_print.proofs.BackBlocks.{IsOfDeclaration}
 use Rattle.css_print.proofs.BackFaults.{DoFit, IsPrintOf, IsSameSheet, by_tests, is_deep, find_none, sheet_reads_back}
 use Rattle.css_print.proofs.BackLists.{cons_not_empty, some_not_none}
@@ -58,7 +58,7 @@ tested None None None None None read its e =
 
 -- the items of a source, by the tests that were made
 pub tokens_tested : (source : List ℕ) (its : List Item) → sheet_of source ≡ Ok its → sheet_of_tokens source (tokens source true).tokens ≡ Ok its
-tokens_tested source its e = long (nat_lt LIMIT (length source)) e
+tokens_tested source its e = long (nat_lt MAX_BYTES (length source)) e
   where
     clean : (f : Option TokenFault) → sheet_of_stream source f (tokens source true).tokens ≡ Ok its → sheet_of_tokens source (tokens source true).tokens ≡ Ok its
     clean None e = e
@@ -70,7 +70,7 @@ tokens_tested source its e = long (nat_lt LIMIT (length source)) e
     valid false e = clean (tokens source true).fault e
 
     long : (b : Bool)
-        → (if b then Err (record { kind = TooLong; at = LIMIT })
+        → (if b then Err (record { kind = TooLong; at = MAX_BYTES })
         else if nat_lt (utf8_valid_len source) (length source) then Err (record { kind = NotUtf8; at = utf8_valid_len source })
         else sheet_of_stream source (tokens source true).fault (tokens source true).tokens) ≡ Ok its
         → sheet_of_tokens source (tokens source true).tokens ≡ Ok its
@@ -94,7 +94,7 @@ read_from source its good e = record {
   from = subst (AllByRecursion (IsFrom source)) is_read all.from;
   order = subst (AreInOrder source) is_read all.order;
   fit = record {
-    items = short_by_get its ITEMS (no_map start_of (slice_get its ITEMS) (ap too_many_items (sym is_read) ∙ tests.no_many));
+    items = short_by_get its MAX_ITEMS (no_map start_of (slice_get its MAX_ITEMS) (ap too_many_items (sym is_read) ∙ tests.no_many));
     pairs = ap (too_many_pairs 0) (sym is_read) ∙ tests.no_pairs;
   };
   shallow = no_map (λ x. x.span.start) (find is_deep (lexemes_of source)) tests.no_deep;

@@ -8,23 +8,24 @@ use Rattle.std.specs.Str.Lossy.{utf8_valid_len}
 use Rattle.std.proofs.lemmas.Bool.{false≢true, and_parts, eqb-true, ltb-true, ltb-false}
 use Rattle.std.proofs.lemmas.Str.{IsUtf8-append, utf8_valid_len-IsUtf8, utf8_valid_len_le}
 use Rattle.css_model.specs.declared.fault.FaultKind.TheVariants.{TooLong, NotUtf8}
-use Rattle.css_model.specs.declared.fault.TheConstants.{LIMIT, PAIRS}
+use Rattle.css_model.specs.declared.limits.TheConstants.{MAX_BYTES, MAX_PAIRS}
 use Rattle.css_model.specs.declared.sheet.Item.{Item}
 use Rattle.css_model.specs.declared.sheet.Item.TheVariants.{Rule, KeptRule, KeptBlock}
 use Rattle.css_model.specs.declared.token.Lexeme.{Lexeme}
 use Rattle.css_model.specs.declared.token.TokenFault.{TokenFault}
 use Rattle.css_model.specs.declared.token.TokenKind.{TokenKind}
 use Rattle.css_model.specs.declared.token.TokenKind.TheVariants as kind
-use Rattle.css_model.specs.Characters.{close_curly, semicolon, space}
-use Rattle.css_model.specs.Items.{closes_block, opens_block}
-use Rattle.css_model.specs.Lexemes.{is_sign_at, is_sign_of, piece_of}
-use Rattle.css_model.specs.Printed.{behind_mark, printed, printed_item}
-use Rattle.css_model.specs.Sheet.{is_namespace, namespace_at, pairs_of, read_items, sheet_of, sheet_of_stream, sheet_of_tokens, start_of, too_deep, too_many_items, too_many_pairs, unclosed}
-use Rattle.css_model.specs.Sound.{IsSoundItem, raw_items}
-use Rattle.css_model.specs.Spelling.{lexemes_of, tokens_in}
-use Rattle.css_model.specs.Tokens.{byte_order_mark, text_of, tokens}
+use Rattle.css_model.specs.Text.Characters.{close_curly, semicolon, space}
+use Rattle.css_model.specs.Sheets.Items.{closes_block, opens_block}
+use Rattle.css_model.specs.Text.Lexemes.{is_sign_at, is_sign_of, piece_of}
+use Rattle.css_model.specs.Sheets.Printed.{behind_mark, printed, printed_item}
+use Rattle.css_model.specs.Sheets.Sheet.{is_namespace, namespace_at, pairs_of, read_items, sheet_of, sheet_of_stream, sheet_of_tokens, start_of, too_deep, too_many_items, too_many_pairs, unclosed}
+use Rattle.css_model.specs.Sheets.Sound.{IsSoundItem, raw_items}
+use Rattle.css_model.specs.Sheets.Spelling.{lexemes_of, tokens_in}
+use Rattle.css_model.specs.Text.Tokens.{byte_order_mark, text_of, tokens}
 use Rattle.css_tokens.proofs.Utf8Length.{whole_is_utf8}
-use Rattle.css_print.specs.ReadBack.{ReadsBack, pair_count}
+use Rattle.css_model.specs.Sheets.ComesFrom.{pair_count}
+use Rattle.css_print.specs.ReadBack.{ReadsBack}
 use Rattle.css_print.proofs.BackCuts.{None_of}
 use Rattle.css_print.proofs.BackFaults.{DoFit, IsPrintOf, find_none, sheet_reads_back}
 use Rattle.css_print.proofs.BackItems.{ends_in, ends_with_block, is_ended, is_nil}
@@ -49,10 +50,10 @@ record Clean (source : List ℕ) (its : List Item) : Type 0 where
   reads : sheet_of_tokens source (tokens source true).tokens ≡ Ok its
 
 clean-of : (source : List ℕ) (its : List Item) → sheet_of source ≡ Ok its → Clean source its
-clean-of source its e = which (nat_lt LIMIT (length source)) (nat_lt (utf8_valid_len source) (length source)) refl (tokens source true).fault refl e
+clean-of source its e = which (nat_lt MAX_BYTES (length source)) (nat_lt (utf8_valid_len source) (length source)) refl (tokens source true).fault refl e
   where
     which : (long wrong : Bool) → nat_lt (utf8_valid_len source) (length source) ≡ wrong → (f : Option TokenFault) → (tokens source true).fault ≡ f
-        → cond long (Err (record { kind = TooLong; at = LIMIT })) (cond wrong (Err (record { kind = NotUtf8; at = utf8_valid_len source })) (sheet_of_stream source f (tokens source true).tokens)) ≡ Ok its
+        → cond long (Err (record { kind = TooLong; at = MAX_BYTES })) (cond wrong (Err (record { kind = NotUtf8; at = utf8_valid_len source })) (sheet_of_stream source f (tokens source true).tokens)) ≡ Ok its
         → Clean source its
     which true wrong is f fault e = absurd cc
     which false true is f fault e = absurd cc
@@ -116,13 +117,13 @@ each-is P Q [] f each = tt
 each-is P Q (x ∷ xs) f (one, rest) = (f x one, each-is P Q xs f rest)
 
 -- few pairs are not too many
-pairs-fit : (n : ℕ) (items : List Item) → n + pair_count items ≤ PAIRS → too_many_pairs n items ≡ None
+pairs-fit : (n : ℕ) (items : List Item) → n + pair_count items ≤ MAX_PAIRS → too_many_pairs n items ≡ None
 pairs-fit n [] fit = refl
-pairs-fit n (item ∷ items) fit = which (nat_lt PAIRS (n + pairs_of item)) refl (pairs-fit (n + pairs_of item) items (omega (arith, fit)))
+pairs-fit n (item ∷ items) fit = which (nat_lt MAX_PAIRS (n + pairs_of item)) refl (pairs-fit (n + pairs_of item) items (omega (arith, fit)))
   where
-    which : (b : Bool) → nat_lt PAIRS (n + pairs_of item) ≡ b → too_many_pairs (n + pairs_of item) items ≡ None
+    which : (b : Bool) → nat_lt MAX_PAIRS (n + pairs_of item) ≡ b → too_many_pairs (n + pairs_of item) items ≡ None
         → cond b (Some (start_of item)) (too_many_pairs (n + pairs_of item) items) ≡ None
-    which true is later = absurd (let h = ltb-true PAIRS (n + pairs_of item) is in omega (arith, h, fit))
+    which true is later = absurd (let h = ltb-true MAX_PAIRS (n + pairs_of item) is in omega (arith, h, fit))
     which false is later = later
 
 marked-utf8 : (text : List ℕ) → IsUtf8 text → IsUtf8 (behind_mark text)

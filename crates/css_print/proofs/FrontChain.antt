@@ -6,10 +6,10 @@ use Rattle.css_model.specs.declared.token.Gap.{Gap}
 use Rattle.css_model.specs.declared.token.Gap.TheVariants as gap
 use Rattle.css_model.specs.declared.token.TokenKind.{TokenKind}
 use Rattle.css_model.specs.declared.token.TokenKind.TheVariants as kind
-use Rattle.css_model.specs.Characters.{line_feed, space}
-use Rattle.css_model.specs.Kept.{is_lone}
-use Rattle.css_model.specs.Lexemes.{is_white_kind}
-use Rattle.css_model.specs.Tokens.{Part}
+use Rattle.css_model.specs.Text.Characters.{line_feed, space}
+use Rattle.css_model.specs.Text.Kept.{is_lone}
+use Rattle.css_model.specs.Text.Lexemes.{is_white_kind}
+use Rattle.css_model.specs.Text.Tokens.{Part}
 use Rattle.css_print.proofs.BackTokens.{Shown}
 use Rattle.css_print.proofs.FrontParts.{closers_after, gap_behind, shown_parts, white-stays}
 

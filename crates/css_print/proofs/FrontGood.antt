@@ -5,11 +5,11 @@ use Rattle.std.proofs.lemmas.List.{append-nil}
 use Rattle.css_model.specs.declared.token.Lexeme.{Lexeme}
 use Rattle.css_model.specs.declared.token.TokenKind.{TokenKind}
 use Rattle.css_model.specs.declared.token.TokenKind.TheVariants as kind
-use Rattle.css_model.specs.Characters.{backslash, space}
-use Rattle.css_model.specs.Kept.{is_lone, is_open}
-use Rattle.css_model.specs.Lexemes.{is_white_kind}
-use Rattle.css_model.specs.Source.{text_at}
-use Rattle.css_model.specs.TokenAt.{part_at}
+use Rattle.css_model.specs.Text.Characters.{backslash, space}
+use Rattle.css_model.specs.Text.Kept.{is_lone, is_open}
+use Rattle.css_model.specs.Text.Lexemes.{is_white_kind}
+use Rattle.css_model.specs.Text.Source.{text_at}
+use Rattle.css_model.specs.Text.TokenAt.{part_at}
 use Rattle.css_tokens.specs.Open.{IsRead}
 use Rattle.css_tokens.proofs.EndsLemmas.{ends_nil, is_plain}
 use Rattle.css_tokens.proofs.FirstBytes.{delim-text}

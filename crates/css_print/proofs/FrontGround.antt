@@ -6,12 +6,12 @@ use Rattle.std.specs.Option.{option_map}
 use Rattle.std.proofs.lemmas.Bool.{cond-true, cond-false}
 use Rattle.css_model.specs.declared.token.Bracket.{Bracket}
 use Rattle.css_model.specs.declared.token.Lexeme.{Lexeme}
-use Rattle.css_model.specs.Items.{is_whole, items}
-use Rattle.css_model.specs.Lexemes.{after_all}
-use Rattle.css_model.specs.Sheet.{unclosed}
-use Rattle.css_model.specs.Sound.{raw_items}
-use Rattle.css_model.specs.Spelling.{lexemes_of}
-use Rattle.css_model.specs.Tokens.{Part, Stream, byte_order_mark, parts, stream, text_of, tokens}
+use Rattle.css_model.specs.Sheets.Items.{is_whole, items}
+use Rattle.css_model.specs.Text.Lexemes.{after_all}
+use Rattle.css_model.specs.Sheets.Sheet.{unclosed}
+use Rattle.css_model.specs.Sheets.Sound.{raw_items}
+use Rattle.css_model.specs.Sheets.Spelling.{lexemes_of}
+use Rattle.css_model.specs.Text.Tokens.{Part, Stream, byte_order_mark, parts, stream, text_of, tokens}
 use Rattle.css_tokens.specs.Lexed.{IsLexed}
 use Rattle.css_tokens.proofs.LexedLemmas.{parts_are_lexed}
 use Rattle.css_tokens.proofs.PartLemmas.{part_len}

@@ -5,10 +5,10 @@ use Rattle.std.proofs.lemmas.Bool.{false≢true, and_parts, eqb-true}
 use Rattle.std.proofs.lemmas.List.{append-nil, append_assoc, length-append, drop_all, take-append-drop}
 use Rattle.std.proofs.Math.Seq.{take-append_seam, drop-append_seam, drop-append-add}
 use Rattle.css_model.specs.declared.token.Lexeme.{Lexeme}
-use Rattle.css_model.specs.Characters.{semicolon, close_curly, open_curly}
-use Rattle.css_model.specs.Items.{block, closes_block, end_len, ends_prelude, entries, is_at_keyword, is_between_items, item_len, items_from, opens_block}
-use Rattle.css_model.specs.Lexemes.{is_sign_at, is_sign_of}
-use Rattle.css_model.specs.Unescaped.{less_one}
+use Rattle.css_model.specs.Text.Characters.{semicolon, close_curly, open_curly}
+use Rattle.css_model.specs.Sheets.Items.{block, closes_block, end_len, ends_prelude, entries, is_at_keyword, is_between_items, item_len, items_from, opens_block}
+use Rattle.css_model.specs.Text.Lexemes.{is_sign_at, is_sign_of}
+use Rattle.css_model.specs.Lists.{less_one}
 use Rattle.css_model.specs.declared.token.TokenKind.{TokenKind}
 use Rattle.css_model.specs.declared.token.TokenKind.TheVariants as kind
 use Rattle.css_print.proofs.FrontParts.{closers_after}

@@ -2,7 +2,7 @@
 use Rattle.std.proofs.Common.{ℕ, ◌+◌, ◌-◌, ◌≡◌, Bool, true, false, ◌&&◌, cond, List, [], ◌∷◌, min, refl, ap, arith}
 use Rattle.std.specs.Prelude.{nat_eq}
 use Rattle.std.specs.List.{starts_with}
-use Rattle.css_model.specs.Tokens.{byte_order_mark}
+use Rattle.css_model.specs.Text.Tokens.{byte_order_mark}
 use Rattle.css_print.specs.declared.tally.Front.{Front}
 use Rattle.css_print.specs.declared.tally.Front.TheVariants.{Nothing, One, Two, Mark, Other}
 use Rattle.css_print.specs.Fronts.{longer, is_mark, is_settled, behind}

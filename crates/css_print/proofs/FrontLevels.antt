@@ -11,9 +11,9 @@ use Rattle.css_model.specs.declared.token.Lexeme.{Lexeme}
 use Rattle.css_model.specs.declared.token.Token.{Token}
 use Rattle.css_model.specs.declared.token.TokenKind.{TokenKind}
 use Rattle.css_model.specs.declared.token.TokenKind.TheVariants as kind
-use Rattle.css_model.specs.Characters.{semicolon, open_curly, close_curly}
-use Rattle.css_model.specs.Items.{closes_block, end_len, ends_prelude, opens_block}
-use Rattle.css_model.specs.Lexemes.{after, after_all, closer_of, closes, opened, is_sign_at, is_sign_of, is_white_kind, lexeme, lexemes_in}
+use Rattle.css_model.specs.Text.Characters.{semicolon, open_curly, close_curly}
+use Rattle.css_model.specs.Sheets.Items.{closes_block, end_len, ends_prelude, opens_block}
+use Rattle.css_model.specs.Text.Lexemes.{after, after_all, closer_of, closes, opened, is_sign_at, is_sign_of, is_white_kind, lexeme, lexemes_in}
 use Rattle.css_print.proofs.FrontParts.{closers_after, closers_of, closers-same, length-closers, opened_by}
 
 -- tokens inside brackets that these signs close, each at its level

@@ -12,14 +12,14 @@ use Rattle.css_model.specs.declared.sheet.SelItem.{SelItem}
 use Rattle.css_model.specs.declared.token.Lexeme.{Lexeme}
 use Rattle.css_model.specs.declared.token.TokenKind.{TokenKind}
 use Rattle.css_model.specs.declared.token.TokenKind.TheVariants as kind
-use Rattle.css_model.specs.Characters.{close_curly, close_round, colon, comma, dot, exclamation_mark, is_sign, is_white, open_curly, open_round, semicolon}
-use Rattle.css_model.specs.Kept.{is_lone, solid}
-use Rattle.css_model.specs.RuleParts.{RuleParts}
-use Rattle.css_model.specs.Source.{text_at}
-use Rattle.css_model.specs.Spelling.{lexemes_of, tokens_in}
-use Rattle.css_model.specs.TokenAt.{part_at}
-use Rattle.css_model.specs.Tokens.{Part, text_of}
-use Rattle.css_model.specs.Units.{digit_unit, white_unit}
+use Rattle.css_model.specs.Text.Characters.{close_curly, close_round, colon, comma, dot, exclamation_mark, is_sign, is_white, open_curly, open_round, semicolon}
+use Rattle.css_model.specs.Text.Kept.{is_lone, solid}
+use Rattle.css_model.specs.Sheets.RuleParts.{RuleParts}
+use Rattle.css_model.specs.Text.Source.{text_at}
+use Rattle.css_model.specs.Sheets.Spelling.{lexemes_of, tokens_in}
+use Rattle.css_model.specs.Text.TokenAt.{part_at}
+use Rattle.css_model.specs.Text.Tokens.{Part, text_of}
+use Rattle.css_model.specs.Text.Units.{digit_unit, white_unit}
 use Rattle.css_tokens.specs.Lexed.{IsLexed}
 use Rattle.css_tokens.specs.Solids.{IsBehind, ends_called, is_ender, is_function, solids, solids_of}
 use Rattle.css_tokens.proofs.EndsAnywhere.{ends_anywhere, ends_sign, sign_read}

@@ -11,9 +11,9 @@ use Rattle.css_model.specs.declared.token.Lexeme.{Lexeme}
 use Rattle.css_model.specs.declared.token.Token.{Token}
 use Rattle.css_model.specs.declared.token.TokenKind.{TokenKind}
 use Rattle.css_model.specs.declared.token.TokenKind.TheVariants as kind
-use Rattle.css_model.specs.Lexemes.{after, closer_of, gap_of, is_sign_of, is_white_kind, lexeme, lexemes_in, opened}
-use Rattle.css_model.specs.Source.{text_at}
-use Rattle.css_model.specs.Tokens.{Part, is_comment, text_of, token_then, tokens_at}
+use Rattle.css_model.specs.Text.Lexemes.{after, closer_of, gap_of, is_sign_of, is_white_kind, lexeme, lexemes_in, opened}
+use Rattle.css_model.specs.Text.Source.{text_at}
+use Rattle.css_model.specs.Text.Tokens.{Part, is_comment, text_of, token_then, tokens_at}
 use Rattle.css_print.proofs.BackTokens.{Shown, shown}
 
 -- what stands before these parts, where `comment` says that a comment ends there

@@ -4,13 +4,13 @@ use Rattle.std.specs.List.{starts_with}
 use Rattle.std.proofs.lemmas.Bool.{false≢true, eqb-true, and_parts, cond-false}
 use Rattle.css_model.specs.declared.token.Bracket.{Bracket}
 use Rattle.css_model.specs.declared.token.Lexeme.{Lexeme}
-use Rattle.css_model.specs.Characters.{space}
-use Rattle.css_model.specs.Lexemes.{after_all, lexemes}
-use Rattle.css_model.specs.Printed.{behind_mark}
-use Rattle.css_model.specs.Spelling.{lexemes_of}
-use Rattle.css_model.specs.Tokens.{Part, Stream, byte_order_mark, parts, placed, text_of, tokens, tokens_at}
-use Rattle.css_model.specs.Units.{white_unit}
-use Rattle.css_model.specs.TokenAt.{part_at}
+use Rattle.css_model.specs.Text.Characters.{space}
+use Rattle.css_model.specs.Text.Lexemes.{after_all, lexemes}
+use Rattle.css_model.specs.Sheets.Printed.{behind_mark}
+use Rattle.css_model.specs.Sheets.Spelling.{lexemes_of}
+use Rattle.css_model.specs.Text.Tokens.{Part, Stream, byte_order_mark, parts, stream_of, text_of, tokens, tokens_at}
+use Rattle.css_model.specs.Text.Units.{white_unit}
+use Rattle.css_model.specs.Text.TokenAt.{part_at}
 use Rattle.css_model.specs.declared.token.TokenKind.TheVariants as kind
 use Rattle.css_tokens.specs.Lexed.{IsLexed}
 use Rattle.css_tokens.proofs.EndsLemmas.{space_read}
@@ -39,7 +39,7 @@ none-open (b ∷ brackets) e = absurd (let n : suc (length (closers_of brackets)
 has-tokens : (text : List ℕ) (ps : List Part) (ss : List Shown) → text ≡ text_of ps → IsLexed ps → starts_with nat_eq text byte_order_mark ≡ false → shown_parts [] ps ≡ ss → Chain [] ss [] → HasTokens text ss
 has-tokens text ps ss is lexed no_mark show chain =
     let all_ : parts text ≡ record { parts = ps; flaw = None } = ap parts is ∙ lexed_are_parts ps lexed in
-    let here : tokens text true ≡ placed 0 false (record { parts = ps; flaw = None }) = cond-false _ _ _ no_mark ∙ ap (placed 0 false) all_ in
+    let here : tokens text true ≡ stream_of 0 false (record { parts = ps; flaw = None }) = cond-false _ _ _ no_mark ∙ ap (stream_of 0 false) all_ in
     let ts : (tokens text true).tokens ≡ tokens_at 0 false ps = ap (λ (s : Stream). s.tokens) here in
     let are : map (shown text) (lexemes_of text) ≡ ss = ap (λ ts. map (shown text) (lexemes ts)) ts ∙ tokens-shown text [] ps false [] is ∙ show in
     record {

@@ -7,11 +7,11 @@ use Rattle.css_model.specs.declared.token.Gap.{Gap}
 use Rattle.css_model.specs.declared.token.Gap.TheVariants as gap
 use Rattle.css_model.specs.declared.token.Lexeme.{Lexeme}
 use Rattle.css_model.specs.declared.token.TokenKind.{TokenKind}
-use Rattle.css_model.specs.Kept.{Solid, is_lone, is_open, is_white_gap, solid}
-use Rattle.css_model.specs.Lexemes.{is_white_kind}
-use Rattle.css_model.specs.Source.{text_at}
-use Rattle.css_model.specs.Tokens.{Part}
-use Rattle.css_model.specs.Characters.{line_feed, space}
+use Rattle.css_model.specs.Text.Kept.{Solid, is_lone, is_open, is_white_gap, solid}
+use Rattle.css_model.specs.Text.Lexemes.{is_white_kind}
+use Rattle.css_model.specs.Text.Source.{text_at}
+use Rattle.css_model.specs.Text.Tokens.{Part}
+use Rattle.css_model.specs.Text.Characters.{line_feed, space}
 use Rattle.css_tokens.specs.Solids.{closed, gap_before, gap_by, solid_then, solids}
 use Rattle.css_tokens.proofs.KeptParts.{gap_part, kept_parts, last_of, last_parts, part_of}
 use Rattle.css_print.proofs.BackTokens.{Shown, all_shown, inner, kept_shown, last_of_item, last_of_value, value_shown}

@@ -10,11 +10,11 @@ use Rattle.css_model.specs.declared.token.Gap.TheVariants as gap
 use Rattle.css_model.specs.declared.token.Lexeme.{Lexeme}
 use Rattle.css_model.specs.declared.token.TokenKind.{TokenKind}
 use Rattle.css_model.specs.declared.token.TokenKind.TheVariants as kind
-use Rattle.css_model.specs.Characters.{comma, semicolon, open_curly, close_curly}
-use Rattle.css_model.specs.Kept.{is_lone}
-use Rattle.css_model.specs.Lexemes.{is_white_kind}
-use Rattle.css_model.specs.RuleParts.{RuleParts}
-use Rattle.css_model.specs.Spelling.{tokens_in}
+use Rattle.css_model.specs.Text.Characters.{comma, semicolon, open_curly, close_curly}
+use Rattle.css_model.specs.Text.Kept.{is_lone}
+use Rattle.css_model.specs.Text.Lexemes.{is_white_kind}
+use Rattle.css_model.specs.Sheets.RuleParts.{RuleParts}
+use Rattle.css_model.specs.Sheets.Spelling.{tokens_in}
 use Rattle.css_print.proofs.BackTokens.{Shown, all_shown, colon_gap, declaration_shown, importance_shown, inner, item_shown, joined, kept_shown, last_gap, last_of_item, last_of_value, rule_shown, selector_shown, selector_token, sheet_shown, sign_shown, value_shown}
 use Rattle.css_print.proofs.FrontChain.{IsChain, IsTold, closers_after_all}
 use Rattle.css_print.proofs.FrontLevels.{AreLeveled, open_behind}

@@ -8,15 +8,15 @@ use Rattle.css_model.specs.declared.sheet.Item.TheVariants.{Rule, KeptRule, Kept
 use Rattle.css_model.specs.declared.sheet.Piece.{Piece}
 use Rattle.css_model.specs.declared.sheet.SelItem.{SelItem}
 use Rattle.css_model.specs.declared.token.Lexeme.{Lexeme}
-use Rattle.css_model.specs.KeptRuleParts.{KeptRuleParts}
-use Rattle.css_model.specs.Declarations.{declarations}
-use Rattle.css_model.specs.Selectors.{selectors}
-use Rattle.css_model.specs.Items.{is_at_rule}
-use Rattle.css_model.specs.Lexemes.{piece_of}
-use Rattle.css_model.specs.RuleParts.{RuleParts}
-use Rattle.css_model.specs.Sheet.{is_namespace, item_of, rule_or_block}
-use Rattle.css_model.specs.Sound.{IsSoundDeclaration, IsSoundItem, IsSoundRule, IsSoundSelector, raw_items}
-use Rattle.css_model.specs.Spelling.{lexemes_of, tokens_in}
+use Rattle.css_model.specs.Sheets.KeptRuleParts.{KeptRuleParts}
+use Rattle.css_model.specs.Sheets.Declarations.{declarations}
+use Rattle.css_model.specs.Sheets.Selectors.{selectors}
+use Rattle.css_model.specs.Sheets.Items.{is_at_rule}
+use Rattle.css_model.specs.Text.Lexemes.{piece_of}
+use Rattle.css_model.specs.Sheets.RuleParts.{RuleParts}
+use Rattle.css_model.specs.Sheets.Sheet.{is_namespace, item_of, rule_or_block}
+use Rattle.css_model.specs.Sheets.Sound.{IsSoundDeclaration, IsSoundItem, IsSoundRule, IsSoundSelector, raw_items}
+use Rattle.css_model.specs.Sheets.Spelling.{lexemes_of, tokens_in}
 use Rattle.css_print.proofs.BackCuts.{None_of}
 use Rattle.css_print.proofs.BackJoins.{StandsIn}
 use Rattle.css_print.proofs.BackOrigins.{kept_from, stand_alone_in}

@@ -12,18 +12,19 @@ use Rattle.css_model.specs.declared.sheet.SelItem.{SelItem}
 use Rattle.css_model.specs.declared.token.Lexeme.{Lexeme}
 use Rattle.css_model.specs.declared.token.TokenKind.{TokenKind}
 use Rattle.css_model.specs.declared.token.TokenKind.TheVariants as kind
-use Rattle.css_model.specs.Characters.{close_curly, colon, comma, dot, exclamation_mark, semicolon, space}
-use Rattle.css_model.specs.Document.{same_text}
+use Rattle.css_model.specs.Text.Characters.{close_curly, colon, comma, dot, exclamation_mark, semicolon, space}
+use Rattle.css_model.specs.Lists.{same_text}
 use Rattle.css_model.specs.declared.sheet.Piece.{Piece}
-use Rattle.css_model.specs.Declarations.{declaration, declared, is_delim_of, is_ident, is_importance, is_important, property_of, is_custom, text_of_value, without_importance}
-use Rattle.css_model.specs.Items.{block, closes_block, entries, opens_block, selector_parts}
-use Rattle.css_model.specs.Kept.{is_white_gap, solid, value_text}
-use Rattle.css_model.specs.Lexemes.{is_sign_at, is_sign_of, piece_of}
-use Rattle.css_model.specs.Selectors.{of_one_test, simple_of, test_of_one}
-use Rattle.css_model.specs.Sound.{IsSoundDeclaration, IsSoundSelector, raw_items}
-use Rattle.css_model.specs.Source.{text_at}
-use Rattle.css_model.specs.Spelling.{lexemes_of, stands_in, tokens_in}
-use Rattle.css_model.specs.Unescaped.{decoded}
+use Rattle.css_model.specs.Sheets.Declarations.{declaration, decl_item, is_importance, is_important, property_of, is_custom, text_of_value, without_importance}
+use Rattle.css_model.specs.Text.Lexemes.{is_delim_of, is_ident}
+use Rattle.css_model.specs.Sheets.Items.{block, closes_block, entries, opens_block, selector_parts}
+use Rattle.css_model.specs.Text.Kept.{is_white_gap, solid, value_text}
+use Rattle.css_model.specs.Text.Lexemes.{is_sign_at, is_sign_of, piece_of}
+use Rattle.css_model.specs.Sheets.Selectors.{of_one_test, simple_of, test_of_one}
+use Rattle.css_model.specs.Sheets.Sound.{IsSoundDeclaration, IsSoundSelector, raw_items}
+use Rattle.css_model.specs.Text.Source.{text_at}
+use Rattle.css_model.specs.Sheets.Spelling.{lexemes_of, stands_in, tokens_in}
+use Rattle.css_model.specs.Text.Names.{decoded}
 use Rattle.css_tokens.proofs.EndsLemmas.{is_plain}
 use Rattle.css_tokens.proofs.FirstBytes.{delim-text, ident-no_digit}
 use Rattle.css_print.proofs.BackBlocks.{IsOfDeclaration}
@@ -197,7 +198,7 @@ record IsDeclared (source : List ℕ) (entry : List Lexeme) (d : DeclItem) : Typ
   are : entry ≡ name ∷ sign ∷ value
   ident : name.kind ≡ kind.Ident
   colon_is : sign.kind ≡ kind.Sign colon
-  is : declared source name sign value ≡ d
+  is : decl_item source name sign value ≡ d
 
 sign-is : (c : ℕ) (k : TokenKind) → is_sign_of c k ≡ true → k ≡ kind.Sign c
 sign-is c (kind.Sign d) is = ap kind.Sign (eqb-true d c is)
@@ -208,11 +209,11 @@ declared-of source [] d e = absurd cc
 declared-of source (x ∷ []) d e = absurd cc
 declared-of source (name ∷ sign ∷ value) d e = which (is_ident name.kind && is_sign_of colon sign.kind) refl e
   where
-    which : (b : Bool) → (is_ident name.kind && is_sign_of colon sign.kind) ≡ b → cond b (Some (declared source name sign value)) None ≡ Some d → IsDeclared source (name ∷ sign ∷ value) d
+    which : (b : Bool) → (is_ident name.kind && is_sign_of colon sign.kind) ≡ b → cond b (Some (decl_item source name sign value)) None ≡ Some d → IsDeclared source (name ∷ sign ∷ value) d
     which false is h = absurd cc
     which true is h =
         let both = and_parts (is_ident name.kind) (is_sign_of colon sign.kind) is in
-        record { name = name; sign = sign; value = value; are = refl; ident = ident-is name.kind both.0; colon_is = sign-is colon sign.kind both.1; is = let same : declared source name sign value ≡ d = cc in same }
+        record { name = name; sign = sign; value = value; are = refl; ident = ident-is name.kind both.0; colon_is = sign-is colon sign.kind both.1; is = let same : decl_item source name sign value ≡ d = cc in same }
 
 behind-colon : (name sign : Lexeme) (value : List Lexeme) → name.kind ≡ kind.Ident → sign.kind ≡ kind.Sign colon → IsEntryFrom (close_curly ∷ []) (name ∷ sign ∷ value) → IsEntryFrom (close_curly ∷ []) value
 behind-colon name sign value ident colon_is e =

@@ -9,11 +9,11 @@ use Rattle.std.proofs.Math.Utf8.{encode}
 use Rattle.css_model.specs.declared.token.TokenFlaw.{TokenFlaw}
 use Rattle.css_model.specs.declared.token.Gap.TheVariants as gap
 use Rattle.css_model.specs.declared.token.Lexeme.{Lexeme}
-use Rattle.css_model.specs.Kept.{Solid, is_lone, solid}
-use Rattle.css_model.specs.Lexemes.{lexemes}
-use Rattle.css_model.specs.Spelling.{lexemes_of}
-use Rattle.css_model.specs.TokenAt.{part_at}
-use Rattle.css_model.specs.Tokens.{Part, Stream, byte_order_mark, fault_behind, parts, stream, text_of, tokens}
+use Rattle.css_model.specs.Text.Kept.{Solid, is_lone, solid}
+use Rattle.css_model.specs.Text.Lexemes.{lexemes}
+use Rattle.css_model.specs.Sheets.Spelling.{lexemes_of}
+use Rattle.css_model.specs.Text.TokenAt.{part_at}
+use Rattle.css_model.specs.Text.Tokens.{Part, Stream, byte_order_mark, fault_behind, parts, stream, text_of, tokens}
 use Rattle.css_tokens.specs.Lexed.{IsLexed}
 use Rattle.css_tokens.specs.Solids.{ends_called, gap_before, solids}
 use Rattle.css_tokens.proofs.KeptBack.{AreGood, are_good, kept_row, last_may, rest_of, take_good}

@@ -12,13 +12,13 @@ use Rattle.css_model.specs.declared.token.Gap.TheVariants as gap
 use Rattle.css_model.specs.declared.token.Lexeme.{Lexeme}
 use Rattle.css_model.specs.declared.token.TokenKind.{TokenKind}
 use Rattle.css_model.specs.declared.token.TokenKind.TheVariants as kind
-use Rattle.css_model.specs.Characters.{colon, comma, semicolon, open_curly, close_curly, line_feed, space}
-use Rattle.css_model.specs.Kept.{Solid, behind_last, behind_value, between, gap_text, is_lone, is_open, is_white_gap, kept, solid, spelled, value_text}
-use Rattle.css_model.specs.Printed.{importance, printed_declaration, printed_item, printed_rule, printed_selector}
-use Rattle.css_model.specs.RuleParts.{RuleParts}
-use Rattle.css_model.specs.Source.{text_at}
-use Rattle.css_model.specs.Spelling.{tokens_in}
-use Rattle.css_model.specs.Tokens.{Part, text_of}
+use Rattle.css_model.specs.Text.Characters.{colon, comma, semicolon, open_curly, close_curly, line_feed, space}
+use Rattle.css_model.specs.Text.Kept.{Solid, behind_last, behind_value, between, gap_text, is_lone, is_open, is_white_gap, kept, solid, spelled, value_text}
+use Rattle.css_model.specs.Sheets.Printed.{importance, printed_declaration, printed_item, printed_rule, printed_selector}
+use Rattle.css_model.specs.Sheets.RuleParts.{RuleParts}
+use Rattle.css_model.specs.Text.Source.{text_at}
+use Rattle.css_model.specs.Sheets.Spelling.{tokens_in}
+use Rattle.css_model.specs.Text.Tokens.{Part, text_of}
 use Rattle.css_print.proofs.BackTokens.{Shown, all_shown, closed, colon_gap, declaration_shown, importance_shown, inner, item_shown, joined, kept_shown, last_of_item, last_of_value, printed_bytes, rule_shown, selector_shown, selector_token, sheet_shown, sign_shown, value_shown}
 use Rattle.css_print.proofs.FrontChain.{gap_parts, parts_of, token_part}
 

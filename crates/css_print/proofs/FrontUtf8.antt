@@ -11,12 +11,12 @@ use Rattle.css_model.specs.declared.token.Gap.{Gap}
 use Rattle.css_model.specs.declared.token.Gap.TheVariants as gap
 use Rattle.css_model.specs.declared.token.Lexeme.{Lexeme}
 use Rattle.css_model.specs.declared.token.TokenKind.{TokenKind}
-use Rattle.css_model.specs.Characters.{comma, line_feed, open_curly, close_curly, semicolon, space}
-use Rattle.css_model.specs.Kept.{is_lone, is_open}
-use Rattle.css_model.specs.RuleParts.{RuleParts}
-use Rattle.css_model.specs.Source.{text_at}
-use Rattle.css_model.specs.Spelling.{tokens_in}
-use Rattle.css_model.specs.Tokens.{text_of}
+use Rattle.css_model.specs.Text.Characters.{comma, line_feed, open_curly, close_curly, semicolon, space}
+use Rattle.css_model.specs.Text.Kept.{is_lone, is_open}
+use Rattle.css_model.specs.Sheets.RuleParts.{RuleParts}
+use Rattle.css_model.specs.Text.Source.{text_at}
+use Rattle.css_model.specs.Sheets.Spelling.{tokens_in}
+use Rattle.css_model.specs.Text.Tokens.{text_of}
 use Rattle.css_print.proofs.BackTokens.{Shown, all_shown, declaration_shown, importance_shown, inner, is_before_white, joined, kept_shown, last_of_item, last_of_value, printed_bytes, rule_shown, selector_shown, selector_token, sign_shown, value_shown}
 use Rattle.css_print.proofs.FrontChain.{gap_parts}
 use Rattle.css_print.proofs.FrontSource.{IsGoodLexeme}

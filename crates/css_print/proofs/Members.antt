@@ -2,8 +2,8 @@
 use Rattle.std.proofs.Common.{ℕ, zero, suc, ◌≡◌, ◌<◌, Bool, true, false, cond, List, [], ◌∷◌, length, take, drop, get_or, refl, subst, arith}
 use Rattle.std.specs.List.{AllByRecursion, Contains, filter, slice_split, onto_first}
 use Rattle.css_model.specs.declared.token.Lexeme.{Lexeme}
-use Rattle.css_model.specs.Items.{items_from, item_len, is_between_items}
-use Rattle.css_model.specs.Unescaped.{less_one}
+use Rattle.css_model.specs.Sheets.Items.{items_from, item_len, is_between_items}
+use Rattle.css_model.specs.Lists.{less_one}
 
 pub member : {X : Type 0} → (P : X → Type 0) (xs : List X) (x : X) → AllByRecursion P xs → Contains xs x → P x
 member P [] x all h = absurd (omega arith)

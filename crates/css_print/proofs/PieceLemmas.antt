@@ -8,17 +8,18 @@ use Rattle.css_model.specs.declared.sheet.Item.TheVariants.{KeptRule, KeptBlock}
 use Rattle.css_model.specs.declared.sheet.Piece.{Piece}
 use Rattle.css_model.specs.declared.sheet.SelItem.{SelItem}
 use Rattle.css_model.specs.declared.token.Lexeme.{Lexeme}
-use Rattle.css_model.specs.Characters.{comma, semicolon}
-use Rattle.css_model.specs.Declarations.{is_ident, declared, declaration, declarations}
-use Rattle.css_model.specs.Characters.{colon}
-use Rattle.css_model.specs.Items.{items, is_whole, is_at_rule, opens_block, closes_block, selector_parts, block, entries}
-use Rattle.css_model.specs.KeptRuleParts.{KeptRuleParts}
-use Rattle.css_model.specs.Lexemes.{is_sign_of, is_sign_at, piece_of}
-use Rattle.css_model.specs.Selectors.{simple_of, of_one_test, selector_item, selectors}
-use Rattle.css_model.specs.Sheet.{rule_or_block}
-use Rattle.css_model.specs.Sound.{raw_items, IsSoundSelector, IsSoundDeclaration, IsSoundKeptRule, IsSoundBlock}
-use Rattle.css_model.specs.Source.{IsWithin}
-use Rattle.css_model.specs.Spelling.{lexemes_of}
+use Rattle.css_model.specs.Text.Characters.{comma, semicolon}
+use Rattle.css_model.specs.Text.Lexemes.{is_ident}
+use Rattle.css_model.specs.Sheets.Declarations.{decl_item, declaration, declarations}
+use Rattle.css_model.specs.Text.Characters.{colon}
+use Rattle.css_model.specs.Sheets.Items.{items, is_whole, is_at_rule, opens_block, closes_block, selector_parts, block, entries}
+use Rattle.css_model.specs.Sheets.KeptRuleParts.{KeptRuleParts}
+use Rattle.css_model.specs.Text.Lexemes.{is_sign_of, is_sign_at, piece_of}
+use Rattle.css_model.specs.Sheets.Selectors.{simple_of, of_one_test, selector_item, selectors}
+use Rattle.css_model.specs.Sheets.Sheet.{rule_or_block}
+use Rattle.css_model.specs.Sheets.Sound.{raw_items, IsSoundSelector, IsSoundDeclaration, IsSoundKeptRule, IsSoundBlock}
+use Rattle.css_model.specs.Text.Source.{IsWithin}
+use Rattle.css_model.specs.Sheets.Spelling.{lexemes_of}
 use Rattle.css_tokens.specs.Laws.{TokensRestart}
 use Rattle.css_print.specs.Places.{BeginsAt}
 use Rattle.css_print.proofs.Members.{member, all_in, all_take, all_drop, all_filter, all_split, all_items}
@@ -74,7 +75,7 @@ name_within law source d h = which h.entry (entry_among source h.item h.entry h.
     which [] all is = absurd (cc)
     which (name ∷ []) all is = absurd (cc)
     which (name ∷ sign ∷ value) all is =
-        subst (IsWithin source) (declared_name (is_ident name.kind && is_sign_of colon sign.kind) (declared source name sign value) d is) (lexeme_within law source name all.0)
+        subst (IsWithin source) (declared_name (is_ident name.kind && is_sign_of colon sign.kind) (decl_item source name sign value) d is) (lexeme_within law source name all.0)
 
 -- an item has a token
 item_begins : (source : List ℕ) (item : List Lexeme) (piece : Piece) → Contains (raw_items source) item → piece_of item ≡ piece → BeginsAt source piece.start

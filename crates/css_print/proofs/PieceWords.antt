@@ -8,11 +8,11 @@ use Rattle.css_model.specs.declared.token.Gap.{Gap}
 use Rattle.css_model.specs.declared.token.Lexeme.{Lexeme}
 use Rattle.css_model.specs.declared.token.Token.{Token}
 use Rattle.css_model.specs.declared.token.TokenKind.{TokenKind}
-use Rattle.css_model.specs.Kept.{Solid, solid, between}
-use Rattle.css_model.specs.Lexemes.{is_white_kind, gap_of, lexeme, lexemes_in, after}
-use Rattle.css_model.specs.Source.{IsWithin, text_at}
-use Rattle.css_model.specs.Spelling.{stands_in, tokens_in, lexemes_of}
-use Rattle.css_model.specs.Tokens.{Stream, stream, tokens, byte_order_mark}
+use Rattle.css_model.specs.Text.Kept.{Solid, solid, between}
+use Rattle.css_model.specs.Text.Lexemes.{is_white_kind, gap_of, lexeme, lexemes_in, after}
+use Rattle.css_model.specs.Text.Source.{IsWithin, text_at}
+use Rattle.css_model.specs.Sheets.Spelling.{stands_in, tokens_in, lexemes_of}
+use Rattle.css_model.specs.Text.Tokens.{Stream, stream, tokens, byte_order_mark}
 use Rattle.css_tokens.specs.Laws.{StandsIn, Restarts, TokensRestart}
 use Rattle.css_print.specs.Places.{BeginsAt, words_in}
 use Rattle.css_print.specs.Words.{WordTexts, up_to, solids, words}

@@ -11,17 +11,18 @@ use Rattle.css_model.specs.declared.sheet.Item.TheVariants.{Rule, KeptRule, Kept
 use Rattle.css_model.specs.declared.sheet.Piece.{Piece}
 use Rattle.css_model.specs.declared.sheet.SelItem.{SelItem}
 use Rattle.css_model.specs.declared.token.Lexeme.{Lexeme}
-use Rattle.css_model.specs.Characters.{comma, semicolon, open_curly, close_curly}
-use Rattle.css_model.specs.Declarations.{declaration, is_nested}
-use Rattle.css_model.specs.Items.{is_at_rule, is_between_items, item_len, items_from, opens_block, closes_block, selector_parts, block, entries}
-use Rattle.css_model.specs.Kept.{Solid, solid, spelled, behind_last}
-use Rattle.css_model.specs.Lexemes.{is_sign_at, piece_of}
-use Rattle.css_model.specs.Printed.{printed_selector, printed_declaration, printed_rule, printed_item}
-use Rattle.css_model.specs.Selectors.{all_of, before_all, selector_item, selectors, simple_of}
-use Rattle.css_model.specs.Sheet.{item_of, rule_of, rule_or_block}
-use Rattle.css_model.specs.Source.{text_at}
-use Rattle.css_model.specs.Spelling.{lexemes_of, tokens_in, kept_text}
-use Rattle.css_model.specs.Unescaped.{less_one}
+use Rattle.css_model.specs.Text.Characters.{comma, semicolon, open_curly, close_curly}
+use Rattle.css_model.specs.Sheets.Declarations.{declaration, is_nested}
+use Rattle.css_model.specs.Sheets.Items.{is_at_rule, is_between_items, item_len, items_from, opens_block, closes_block, selector_parts, block, entries}
+use Rattle.css_model.specs.Text.Kept.{Solid, solid, spelled, behind_last}
+use Rattle.css_model.specs.Text.Lexemes.{is_sign_at, piece_of}
+use Rattle.css_model.specs.Sheets.Printed.{printed_selector, printed_declaration, printed_rule, printed_item}
+use Rattle.css_model.specs.Lists.{all_of, before_all}
+use Rattle.css_model.specs.Sheets.Selectors.{selector_item, selectors, simple_of}
+use Rattle.css_model.specs.Sheets.Sheet.{item_of, rule_of, rule_or_block}
+use Rattle.css_model.specs.Text.Source.{text_at}
+use Rattle.css_model.specs.Sheets.Spelling.{lexemes_of, tokens_in, kept_text}
+use Rattle.css_model.specs.Lists.{less_one}
 use Rattle.css_print.proofs.BackCuts.{before_here, before_later, after_some}
 use Rattle.css_print.proofs.BackItems.{IsClosedRule, closed_rule, or_true}
 use Rattle.css_print.proofs.BackJoins.{StandsIn, stands_inside}

@@ -11,9 +11,9 @@ use Rattle.std.proofs.Math.Seq.{take-length}
 use Rattle.css_model.specs.declared.token.Bracket.{Bracket}
 use Rattle.css_model.specs.declared.token.Lexeme.{Lexeme}
 use Rattle.css_model.specs.declared.token.Token.{Token}
-use Rattle.css_model.specs.Lexemes.{is_white_kind, lexeme, lexemes_in, after}
-use Rattle.css_model.specs.TokenAt.{part_at}
-use Rattle.css_model.specs.Tokens.{byte_order_mark}
+use Rattle.css_model.specs.Text.Lexemes.{is_white_kind, lexeme, lexemes_in, after}
+use Rattle.css_model.specs.Text.TokenAt.{part_at}
+use Rattle.css_model.specs.Text.Tokens.{byte_order_mark}
 use Rattle.css_tokens.specs.Laws.{Restarts}
 use Rattle.css_tokens.proofs.PartLemmas.{part_len}
 use Rattle.css_tokens.proofs.WholeCharacters.{part_whole}

@@ -5,9 +5,10 @@ use Rattle.std.specs.Char.{encode_utf8, is_ascii_hexdigit}
 use Rattle.std.specs.Str.{IsAscii, str_eq_ignore_ascii_case}
 use Rattle.std.proofs.lemmas.Bool.{and_parts, false≢true, ltb-false}
 use Rattle.std.proofs.lemmas.Str.Ascii.{IsAscii-from_all}
-use Rattle.css_model.specs.Characters.{backslash, is_newline}
-use Rattle.css_model.specs.Declarations.{is_named}
-use Rattle.css_model.specs.Unescaped.{replacement, escaped_code, hex_value, byte_text, after_backslash_text, first_len, first_text, less_one, unescaped_from}
+use Rattle.css_model.specs.Text.Characters.{backslash, is_newline}
+use Rattle.css_model.specs.Text.Names.{is_named}
+use Rattle.css_model.specs.Text.Names.{replacement, escaped_code, hex_value, byte_text, after_backslash_text, first_len, first_text, unescaped_from}
+use Rattle.css_model.specs.Lists.{less_one}
 use Rattle.css_tokens.proofs.SaidLemmas.{wide_unlike}
 
 -- what is left of a word behind the letter that a text spells, where it spells one

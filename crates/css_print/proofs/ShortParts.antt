@@ -10,13 +10,15 @@ use Rattle.css_model.specs.declared.token.Gap.TheVariants as gap
 use Rattle.css_model.specs.declared.token.Lexeme.{Lexeme}
 use Rattle.css_model.specs.declared.token.TokenKind.{TokenKind}
 use Rattle.css_model.specs.declared.token.TokenKind.TheVariants as kind
-use Rattle.css_model.specs.Characters.{colon, line_feed, space, exclamation_mark}
-use Rattle.css_model.specs.Declarations.{is_ident, is_delim_of, is_named, is_custom, is_importance, is_important, without_importance, text_of_value, declared, declaration}
-use Rattle.css_model.specs.Kept.{Solid, solid, between, behind_last, behind_value, spelled, kept, value_text, is_lone, is_open, is_white_gap}
-use Rattle.css_model.specs.Lexemes.{is_sign_of}
-use Rattle.css_model.specs.Printed.{importance, printed_declaration}
-use Rattle.css_model.specs.Selectors.{all_of, before_all}
-use Rattle.css_model.specs.Source.{text_at}
+use Rattle.css_model.specs.Text.Characters.{colon, line_feed, space, exclamation_mark}
+use Rattle.css_model.specs.Text.Lexemes.{is_ident, is_delim_of}
+use Rattle.css_model.specs.Text.Names.{is_named}
+use Rattle.css_model.specs.Sheets.Declarations.{is_custom, is_importance, is_important, without_importance, text_of_value, decl_item, declaration}
+use Rattle.css_model.specs.Text.Kept.{Solid, solid, between, behind_last, behind_value, spelled, kept, value_text, is_lone, is_open, is_white_gap}
+use Rattle.css_model.specs.Text.Lexemes.{is_sign_of}
+use Rattle.css_model.specs.Sheets.Printed.{importance, printed_declaration}
+use Rattle.css_model.specs.Lists.{all_of, before_all}
+use Rattle.css_model.specs.Text.Source.{text_at}
 use Rattle.css_print.proofs.BackCuts.{before_here, before_later, after_here, after_later}
 use Rattle.css_print.proofs.Lengths.{total}
 use Rattle.css_print.proofs.ShortNames.{important_size}
@@ -184,9 +186,9 @@ text_of_value_size source custom sign [] is = rw (cost_is source sign, colon_not
 text_of_value_size source custom sign (x ∷ xs) is = omega (arith, value_size source (x ∷ xs))
 
 declared_size : (source : List ℕ) (name sign : Lexeme) (value : List Lexeme) → is_sign_of colon sign.kind ≡ true
-    → length (printed_declaration source (declared source name sign value)) ≤ total (weight source) (name ∷ sign ∷ value)
+    → length (printed_declaration source (decl_item source name sign value)) ≤ total (weight source) (name ∷ sign ∷ value)
 declared_size source name sign value is =
-    let d = declared source name sign value in
+    let d = decl_item source name sign value in
     let plain = without_importance source value in
     let text = text_at source name.span in
     let front = text ++ (colon ∷ d.decl.value) in
@@ -201,10 +203,10 @@ declaration_size source [] d is = absurd cc
 declaration_size source (x ∷ []) d is = absurd cc
 declaration_size source (name ∷ sign ∷ value) d is = which (is_ident name.kind && is_sign_of colon sign.kind) refl is
   where
-    which : (b : Bool) → (is_ident name.kind && is_sign_of colon sign.kind) ≡ b → (if b then Some (declared source name sign value) else None) ≡ Some d
+    which : (b : Bool) → (is_ident name.kind && is_sign_of colon sign.kind) ≡ b → (if b then Some (decl_item source name sign value) else None) ≡ Some d
         → length (printed_declaration source d) ≤ total (weight source) (name ∷ sign ∷ value)
     which true test e =
-        let same : declared source name sign value ≡ d = cc in
+        let same : decl_item source name sign value ≡ d = cc in
         subst (λ (d : DeclItem). length (printed_declaration source d) ≤ total (weight source) (name ∷ sign ∷ value)) same
         (declared_size source name sign value (and_parts (is_ident name.kind) (is_sign_of colon sign.kind) test).1)
     which false test e = absurd cc

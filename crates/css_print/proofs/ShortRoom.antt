@@ -9,12 +9,12 @@ use Rattle.css_model.specs.declared.token.Gap.{Gap}
 use Rattle.css_model.specs.declared.token.Gap.TheVariants as gap
 use Rattle.css_model.specs.declared.token.Lexeme.{Lexeme}
 use Rattle.css_model.specs.declared.token.Token.{Token}
-use Rattle.css_model.specs.Characters.{line_feed, space, slash, is_newline, begins, begins_with}
-use Rattle.css_model.specs.Kept.{solid, between, gap_text, is_lone, is_open}
-use Rattle.css_model.specs.Lexemes.{is_white_kind, gap_of, lexeme, lexemes_in, after}
-use Rattle.css_model.specs.Source.{text_at}
-use Rattle.css_model.specs.TokenAt.{part_at}
-use Rattle.css_model.specs.Units.{white_unit}
+use Rattle.css_model.specs.Text.Characters.{line_feed, space, slash, is_newline, begins, first_passes}
+use Rattle.css_model.specs.Text.Kept.{solid, between, gap_text, is_lone, is_open}
+use Rattle.css_model.specs.Text.Lexemes.{is_white_kind, gap_of, lexeme, lexemes_in, after}
+use Rattle.css_model.specs.Text.Source.{text_at}
+use Rattle.css_model.specs.Text.TokenAt.{part_at}
+use Rattle.css_model.specs.Text.Units.{white_unit}
 use Rattle.css_tokens.specs.Laws.{AreComments, Cover, StandsIn, Restarts}
 use Rattle.css_print.proofs.Lengths.{total}
 use Rattle.css_print.proofs.ShortTokens.{white_begins, lone_newline, newline_white, comments_size, newline_no_slash, white_closes}
@@ -95,12 +95,12 @@ comments_room source from to comments some inside =
     first (suc n) (c ∷ cs) is = is
 
 -- behind a lone backslash stands a newline, so no comment
-lone_behind : (source : List ℕ) (t : Token) → StandsIn source t → is_lone t.kind ≡ true → begins_with is_newline (drop t.span.«end» source) ≡ true
+lone_behind : (source : List ℕ) (t : Token) → StandsIn source t → is_lone t.kind ≡ true → first_passes is_newline (drop t.span.«end» source) ≡ true
 lone_behind source t stands lone =
     let n = t.span.«end» - t.span.start in
     let is = lone_newline (drop t.span.start source) t.kind n lone stands.reads in
     let place : t.span.start + 1 ≡ t.span.«end» = omega (arith, is.0, stands.ordered) in
-    ap (λ (cs : List ℕ). begins_with is_newline cs) (sym (drop-drop 1 t.span.start source ∙ ap (λ (m : ℕ). drop m source) place)) ∙ is.1
+    ap (λ (cs : List ℕ). first_passes is_newline cs) (sym (drop-drop 1 t.span.start source ∙ ap (λ (m : ℕ). drop m source) place)) ∙ is.1
 
 lone_no_comment : (source : List ℕ) (t : Token) (to : ℕ) → StandsIn source t → is_lone t.kind ≡ true → AreComments (slice_range source t.span.«end» to) → to ≤ length source → t.span.«end» ≤ to → to ≡ t.span.«end»
 lone_no_comment source t to stands lone comments inside low = which (cases_lt t.span.«end» to)
@@ -109,7 +109,7 @@ lone_no_comment source t to stands lone comments inside low = which (cases_lt t.
     which (inl some) = absurd (newline_no_slash (drop t.span.«end» source) (lone_behind source t stands lone) (comments_room source t.span.«end» to comments some inside).1)
     which (inr past) = omega (arith, low, past)
 
-some_begins : (text : List ℕ) → begins_with is_newline text ≡ true → 0 < length text
+some_begins : (text : List ℕ) → first_passes is_newline text ≡ true → 0 < length text
 some_begins [] newline = absurd (false≢true newline)
 some_begins (c ∷ cs) newline = omega arith
 
@@ -157,7 +157,7 @@ solid_behind source level t u us h solid_is = which (is_lone t.kind) refl u.comm
     which : (l : Bool) → is_lone t.kind ≡ l → (b : Bool) → u.comment_before ≡ b → t.span.«end» + size ≤ u.span.start
     which true lone b is =
         let place = lone_no_comment source t u.span.start h.first lone h.comments inside h.low in
-        let newline : begins_with is_newline (drop u.span.start source) ≡ true = ap (λ (m : ℕ). begins_with is_newline (drop m source)) place ∙ lone_behind source t h.first lone in
+        let newline : first_passes is_newline (drop u.span.start source) ≡ true = ap (λ (m : ℕ). first_passes is_newline (drop m source)) place ∙ lone_behind source t h.first lone in
         absurd (false≢true (sym solid_is ∙ newline_white (drop u.span.start source) u.kind (u.span.«end» - u.span.start) newline h.second.reads))
     which false other true is =
         let some = h.told.0 is in

@@ -8,19 +8,20 @@ use Rattle.std.proofs.lemmas.Bool.{false≢true, ltb-false}
 use Rattle.std.proofs.lemmas.List.{length-append, take-append-drop}
 use Rattle.css_model.specs.declared.fault.FaultKind.TheVariants.{TooLong, NotUtf8, TooDeep, EndInside, Namespace, TooManyItems, TooManyPairs}
 use Rattle.css_model.specs.declared.fault.SheetFault.{SheetFault}
-use Rattle.css_model.specs.declared.fault.TheConstants.{LIMIT}
+use Rattle.css_model.specs.declared.limits.TheConstants.{MAX_BYTES}
 use Rattle.css_model.specs.declared.sheet.Item.{Item}
 use Rattle.css_model.specs.declared.sheet.Item.TheVariants.{KeptBlock}
 use Rattle.css_model.specs.declared.token.Lexeme.{Lexeme}
 use Rattle.css_model.specs.declared.token.TokenFault.{TokenFault}
-use Rattle.css_model.specs.Items.{items, items_from, item_len, is_between_items, is_whole}
-use Rattle.css_model.specs.Lexemes.{lexemes, piece_of}
-use Rattle.css_model.specs.Printed.{printed_item, behind_mark, printed}
-use Rattle.css_model.specs.Sheet.{read_items, item_of, is_import, unless, fault_of, too_deep, unclosed, namespace_at, too_many_items, too_many_pairs, sheet_of_stream}
-use Rattle.css_model.specs.Sound.{raw_items}
-use Rattle.css_model.specs.Spelling.{lexemes_of}
-use Rattle.css_model.specs.Tokens.{Stream, stream, tokens, byte_order_mark}
-use Rattle.css_model.specs.Unescaped.{less_one}
+use Rattle.css_model.specs.Sheets.Items.{items, items_from, item_len, is_between_items, is_whole}
+use Rattle.css_model.specs.Text.Lexemes.{lexemes, piece_of}
+use Rattle.css_model.specs.Sheets.Printed.{printed_item, behind_mark, printed}
+use Rattle.css_model.specs.Sheets.Sheet.{read_items, item_of, is_import, too_deep, unclosed, namespace_at, too_many_items, too_many_pairs, sheet_of_stream}
+use Rattle.css_model.specs.Sheets.Fault.{unless, fault_of}
+use Rattle.css_model.specs.Sheets.Sound.{raw_items}
+use Rattle.css_model.specs.Sheets.Spelling.{lexemes_of}
+use Rattle.css_model.specs.Text.Tokens.{Stream, stream, tokens, byte_order_mark}
+use Rattle.css_model.specs.Lists.{less_one}
 use Rattle.css_tokens.specs.Laws.{Cover, Restarts, place_of}
 use Rattle.css_tokens.proofs.LawLemmas.{tokens_cover}
 use Rattle.css_tokens.proofs.RestartLemmas.{tokens_restart}
@@ -201,10 +202,10 @@ read_printed source old read = subst (λ (its : List Item). length (printed sour
         omega (arith, bare, size, fits_weights source room.from xs (length source) room.fits)
 
 pub no-longer : IsNoLonger
-no-longer source old e = which (nat_lt LIMIT (length source)) (nat_lt (utf8_valid_len source) (length source)) refl e
+no-longer source old e = which (nat_lt MAX_BYTES (length source)) (nat_lt (utf8_valid_len source) (length source)) refl e
   where
     which : (long wrong : Bool) → nat_lt (utf8_valid_len source) (length source) ≡ wrong
-        → cond long (Err (record { kind = TooLong; at = LIMIT })) (cond wrong (Err (record { kind = NotUtf8; at = utf8_valid_len source }))
+        → cond long (Err (record { kind = TooLong; at = MAX_BYTES })) (cond wrong (Err (record { kind = NotUtf8; at = utf8_valid_len source }))
         (sheet_of_stream source (tokens source true).fault (tokens source true).tokens)) ≡ Ok old → length (printed source old) ≤ length source
     which true wrong valid here = absurd cc
     which false true valid here = absurd cc

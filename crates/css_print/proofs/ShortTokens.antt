@@ -8,13 +8,13 @@ use Rattle.std.proofs.lemmas.List.{length-append}
 use Rattle.css_model.specs.declared.token.TokenKind.{TokenKind}
 use Rattle.css_model.specs.declared.token.TokenKind.TheVariants as kind
 use Rattle.css_model.specs.declared.token.TokenFlaw.{TokenFlaw}
-use Rattle.css_model.specs.Characters.{dash, slash, star, hash, percent, less_than, greater_than, at_sign, backslash, open_round, close_round, is_white, is_newline, is_sign, begins, begins_with}
-use Rattle.css_model.specs.Kept.{is_lone, is_open}
-use Rattle.css_model.specs.Lexemes.{is_white_kind}
-use Rattle.css_model.specs.Runs.{run}
-use Rattle.css_model.specs.TokenAt.{Shape, rule_at, part_at, slash_shape, comment_shape, string_shape, hash_shape, number_shape, less_shape, at_shape, url_shape, url_end, opened_shape, named_shape, word_at, symbol_at, done, is_quote, after_white}
-use Rattle.css_model.specs.Units.{white_unit, comment_unit, url_unit, string_unit, escape_after, hex_rest, name_unit, name_start, name_len, number_len, signed_decimal}
-use Rattle.css_model.specs.Unescaped.{is_url}
+use Rattle.css_model.specs.Text.Characters.{dash, slash, star, hash, percent, less_than, greater_than, at_sign, backslash, open_round, close_round, is_white, is_newline, is_sign, begins, first_passes}
+use Rattle.css_model.specs.Text.Kept.{is_lone, is_open}
+use Rattle.css_model.specs.Text.Lexemes.{is_white_kind}
+use Rattle.css_model.specs.Text.Runs.{run}
+use Rattle.css_model.specs.Text.TokenAt.{Shape, rule_at, part_at, slash_shape, comment_shape, string_shape, hash_shape, number_shape, less_shape, at_shape, url_shape, url_end, opened_shape, named_shape, word_at, symbol_at, done, is_quote, after_white}
+use Rattle.css_model.specs.Text.Units.{white_unit, comment_unit, url_unit, string_unit, escape_after, hex_rest, name_unit, name_start, name_len, number_len, signed_decimal}
+use Rattle.css_model.specs.Text.Names.{is_url}
 use Rattle.css_tokens.specs.Laws.{AreComments, comment_of}
 use Rattle.css_tokens.proofs.AlikeLemmas.{alike_space}
 use Rattle.css_tokens.proofs.EndsLemmas.{looks_byte}
@@ -58,7 +58,7 @@ module _ (c : ℕ) (cs : List ℕ) where
   string_tells q =
       let n = run (string_unit q) cs in
       branch (begins q (drop n cs)) (done kind.Str (2 + n)) _ (λ _. told c cs kind.Str (2 + n) tt)
-      (λ _. branch (begins_with is_newline (drop n cs)) (Err _) (Err _) (λ _. wrong c cs _) (λ _. wrong c cs _))
+      (λ _. branch (first_passes is_newline (drop n cs)) (Err _) (Err _) (λ _. wrong c cs _) (λ _. wrong c cs _))
 
   id_or_hash : (b : Bool) (n : ℕ) → Holds (ShapeTells c cs) (done (cond b kind.IdHash kind.Hash) n)
   id_or_hash true n = told c cs kind.IdHash n tt
@@ -97,8 +97,8 @@ module _ (c : ℕ) (cs : List ℕ) where
       let m = n + run white_unit rest in
       let called : Holds (ShapeTells c cs) (done kind.Function n) = told c cs kind.Function n tt in
       let url : Holds (ShapeTells c cs) (url_shape m inner) = url_tells (m + run url_unit inner + run white_unit (drop (run url_unit inner) inner)) (after_white (drop (run url_unit inner) inner)) in
-      branch (is_url name) (cond (begins_with is_quote inner) (done kind.Function n) (url_shape m inner)) (done kind.Function n)
-      (λ _. branch (begins_with is_quote inner) (done kind.Function n) (url_shape m inner) (λ _. called) (λ _. url)) (λ _. called)
+      branch (is_url name) (cond (first_passes is_quote inner) (done kind.Function n) (url_shape m inner)) (done kind.Function n)
+      (λ _. branch (first_passes is_quote inner) (done kind.Function n) (url_shape m inner) (λ _. called) (λ _. url)) (λ _. called)
 
   named_tells : (text : List ℕ) → Holds (ShapeTells c cs) (named_shape text)
   named_tells text =
@@ -145,12 +145,12 @@ newline_none true h m none = refl
 newline_none false true m none = absurd (omega (arith, none))
 newline_none false false m none = absurd (omega (arith, none))
 
-escape_none : (cs : List ℕ) → escape_after cs ≡ 0 → begins_with is_newline cs ≡ true
+escape_none : (cs : List ℕ) → escape_after cs ≡ 0 → first_passes is_newline cs ≡ true
 escape_none [] none = absurd (omega (arith, none))
 escape_none (d ∷ ds) none = newline_none (is_newline d) (is_ascii_hexdigit d) (hex_rest 5 ds) none
 
 -- a lone backslash is one byte before a newline
-pub lone_newline : (text : List ℕ) (k : TokenKind) (n : ℕ) → is_lone k ≡ true → part_at text ≡ Ok (Some k, n) → (n ≡ 1) × (begins_with is_newline (drop 1 text) ≡ true)
+pub lone_newline : (text : List ℕ) (k : TokenKind) (n : ℕ) → is_lone k ≡ true → part_at text ≡ Ok (Some k, n) → (n ≡ 1) × (first_passes is_newline (drop 1 text) ≡ true)
 lone_newline [] k n lone is = absurd (cc)
 lone_newline (c ∷ cs) (kind.Delim b) n lone is =
     let tells = part_tells c cs (kind.Delim b) n is lone in
@@ -167,7 +167,7 @@ newline_is_white c is = which (c == 32 || c == 9)
     which false = is
 
 -- white space is read before a newline
-pub newline_white : (text : List ℕ) (k : TokenKind) (n : ℕ) → begins_with is_newline text ≡ true → part_at text ≡ Ok (Some k, n) → is_white_kind k ≡ true
+pub newline_white : (text : List ℕ) (k : TokenKind) (n : ℕ) → first_passes is_newline text ≡ true → part_at text ≡ Ok (Some k, n) → is_white_kind k ≡ true
 newline_white [] k n newline is = absurd (false≢true newline)
 newline_white (c ∷ cs) k n newline is =
     let rule = white_rule cs c (newline_is_white c newline) in
@@ -186,7 +186,7 @@ comments_size text are some = which are.insides are.reads
         let whole : length text ≡ length (comment_of inside) + length (flat_map comment_of insides) = ap length reads ∙ length-append (comment_of inside) (flat_map comment_of insides) in
         (omega (arith, long, whole), ap (begins slash) reads)
 
-pub newline_no_slash : (text : List ℕ) → begins_with is_newline text ≡ true → begins slash text ≡ true → ⊥
+pub newline_no_slash : (text : List ℕ) → first_passes is_newline text ≡ true → begins slash text ≡ true → ⊥
 newline_no_slash [] newline slashed = absurd (false≢true newline)
 newline_no_slash (c ∷ cs) newline slashed = absurd (true≢false (sym newline ∙ ap is_newline (eqb-true c slash slashed)))
 

@@ -10,13 +10,13 @@ use Rattle.css_model.specs.declared.sheet.DeclItem.{DeclItem}
 use Rattle.css_model.specs.declared.sheet.Piece.{Piece}
 use Rattle.css_model.specs.declared.sheet.SelItem.{SelItem}
 use Rattle.css_model.specs.declared.token.Lexeme.{Lexeme}
-use Rattle.css_model.specs.Characters.{backslash, line_feed}
-use Rattle.css_model.specs.Declarations.{declaration, is_nested}
-use Rattle.css_model.specs.Items.{selector_parts, entries}
-use Rattle.css_model.specs.Lexemes.{piece_of}
-use Rattle.css_model.specs.Selectors.{class_test, of_one_test, selector_item}
-use Rattle.css_model.specs.Sound.{raw_items, IsSoundSelector, IsSoundDeclaration, IsSoundBlock}
-use Rattle.css_model.specs.Tokens.{byte_order_mark}
+use Rattle.css_model.specs.Text.Characters.{backslash, line_feed}
+use Rattle.css_model.specs.Sheets.Declarations.{declaration, is_nested}
+use Rattle.css_model.specs.Sheets.Items.{selector_parts, entries}
+use Rattle.css_model.specs.Text.Lexemes.{piece_of}
+use Rattle.css_model.specs.Sheets.Selectors.{class_test, of_one_test, selector_item}
+use Rattle.css_model.specs.Sheets.Sound.{raw_items, IsSoundSelector, IsSoundDeclaration, IsSoundBlock}
+use Rattle.css_model.specs.Text.Tokens.{byte_order_mark}
 
 nth_in : {X : Type 0} → (xs : List X) (k : ℕ) (d : X) → nat_lt k (length xs) ≡ true → Contains xs (get_or xs k d)
 nth_in [] k d below = absurd (grind (arith, below))

@@ -6,10 +6,10 @@ use Rattle.std.specs.Option.{is_some}
 use Rattle.std.proofs.lemmas.List.{append-nil, length-drop, length-take-le, take-append-drop}
 use Rattle.css_model.specs.declared.token.Lexeme.{Lexeme}
 use Rattle.css_model.specs.declared.token.Token.{Token}
-use Rattle.css_model.specs.Kept.{Solid, solid, between, behind_last, kept}
-use Rattle.css_model.specs.Lexemes.{is_white_kind, gap_of}
-use Rattle.css_model.specs.Source.{text_at}
-use Rattle.css_model.specs.TokenAt.{part_at}
+use Rattle.css_model.specs.Text.Kept.{Solid, solid, between, behind_last, kept}
+use Rattle.css_model.specs.Text.Lexemes.{is_white_kind, gap_of}
+use Rattle.css_model.specs.Text.Source.{text_at}
+use Rattle.css_model.specs.Text.TokenAt.{part_at}
 use Rattle.css_tokens.specs.Laws.{StandsIn, Restarts}
 use Rattle.css_print.specs.Words.{WordTexts, up_to, seen, is_solid, after_white, solids, behind_before, words}
 

@@ -3,8 +3,8 @@ use Rattle.std.specs.Prelude.{ℕ, ◌≡◌, List, drop}
 use Rattle.std.specs.List.{Contains}
 use Rattle.css_model.specs.declared.sheet.Piece.{Piece}
 use Rattle.css_model.specs.declared.token.Lexeme.{Lexeme}
-use Rattle.css_model.specs.Spelling.{lexemes_of}
-use Rattle.css_model.specs.Tokens.{stream}
+use Rattle.css_model.specs.Sheets.Spelling.{lexemes_of}
+use Rattle.css_model.specs.Text.Tokens.{stream}
 use Rattle.css_print.specs.Words.{WordTexts, up_to, solids, words}
 
 -- a token of a sheet that is no white space begins here

@@ -1,9 +1,9 @@
 -- The tokens of a text that are no white space, each with what is printed behind it.
 use Rattle.std.specs.Prelude.{ℕ, nat_le, Bool, true, not, if◌then◌else◌, List, [], ◌∷◌, Option, Some, None}
 use Rattle.css_model.specs.declared.token.Token.{Token}
-use Rattle.css_model.specs.Kept.{Solid, between, behind_last}
-use Rattle.css_model.specs.Lexemes.{is_white_kind, gap_of}
-use Rattle.css_model.specs.Source.{text_at}
+use Rattle.css_model.specs.Text.Kept.{Solid, between, behind_last}
+use Rattle.css_model.specs.Text.Lexemes.{is_white_kind, gap_of}
+use Rattle.css_model.specs.Text.Source.{text_at}
 
 -- the tokens that end before a place, or there
 abbrev pub up_to : ℕ → List Token → List Token

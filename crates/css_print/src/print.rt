@@ -2,10 +2,10 @@
 
 ghost use Rattle.std.specs.Prelude.{◌≡◌, ◌≤◌, ◌==◌, ◌^◌, ◌-◌, [], if◌then◌else◌, length, map, min, IfOk, OnOk};
 ghost use Rattle.std.specs.List.{AllByRecursion, flat_map, join_with_byte};
-ghost use Rattle.css_model.specs.Printed.{printed_selector, printed_declaration, printed_rule, printed_item, printed};
-ghost use Rattle.css_model.specs.Printed as spec;
-ghost use Rattle.css_model.specs.Sound.{IsSoundSelector, IsSoundDeclaration, IsSoundRule, IsSoundItem, IsSound};
-ghost use Rattle.css_model.specs.Spelling.{kept_text};
+ghost use Rattle.css_model.specs.Sheets.Printed.{printed_selector, printed_declaration, printed_rule, printed_item, printed};
+ghost use Rattle.css_model.specs.Sheets.Printed as spec;
+ghost use Rattle.css_model.specs.Sheets.Sound.{IsSoundSelector, IsSoundDeclaration, IsSoundRule, IsSoundItem, IsSound};
+ghost use Rattle.css_model.specs.Sheets.Spelling.{kept_text};
 ghost use Rattle.css_print.specs.Fronts.{tally_of};
 ghost use Rattle.css_print.specs.Places.{BeginsAt};
 

@@ -2,8 +2,8 @@
 
 ghost use Rattle.std.specs.Prelude.{[], ◌≡◌, ◌^◌, ◌-◌, ℕ, List, length, min, nat_eq};
 ghost use Rattle.std.specs.List.{starts_with};
-ghost use Rattle.css_model.specs.Printed.{behind_mark};
-ghost use Rattle.css_model.specs.Tokens.{byte_order_mark};
+ghost use Rattle.css_model.specs.Sheets.Printed.{behind_mark};
+ghost use Rattle.css_model.specs.Text.Tokens.{byte_order_mark};
 ghost use Rattle.css_print.specs.Fronts as spec;
 
 use crate::output::Output;

@@ -1,10 +1,10 @@
 //! The tokens of a piece of a source, each with what is printed behind it.
 
 ghost use Rattle.std.specs.Prelude.{ℕ, ◌≡◌, ◌≤◌, ◌++◌, if◌then◌else◌, List, length, true, false, Some, Ok};
-ghost use Rattle.css_model.specs.Kept.{gap_text, behind_last, between};
-ghost use Rattle.css_model.specs.Kept as kept;
-ghost use Rattle.css_model.specs.Lexemes.{is_white_kind, gap_of};
-ghost use Rattle.css_model.specs.TokenAt.{part_at};
+ghost use Rattle.css_model.specs.Text.Kept.{gap_text, behind_last, between};
+ghost use Rattle.css_model.specs.Text.Kept as kept;
+ghost use Rattle.css_model.specs.Text.Lexemes.{is_white_kind, gap_of};
+ghost use Rattle.css_model.specs.Text.TokenAt.{part_at};
 ghost use Rattle.css_tokens.specs.Left as reader;
 ghost use Rattle.css_tokens.specs.Open.{IsRead};
 ghost use Rattle.css_print.specs.Words.{up_to, seen, is_solid, after_white};

@@ -3,10 +3,10 @@ use Rattle.std.proofs.Common.{ℕ, zero, suc, ◌+◌, ◌<◌, ◌≤◌, ◌�
 use Rattle.std.specs.Char.{is_ascii_digit, is_ascii_hexdigit}
 use Rattle.std.proofs.lemmas.Bool.{eqb-true, or_parts}
 use Rattle.css_model.specs.declared.token.TokenKind.{TokenKind}
-use Rattle.css_model.specs.Characters.{line_feed, carriage_return, open_round, percent, backslash, dash, dot, is_newline, is_white, is_start, is_name, begins}
-use Rattle.css_model.specs.Runs.{run}
-use Rattle.css_model.specs.Units.{white_unit, hex_rest, escape_after, name_unit, name_start, digit_unit, fraction, signed_decimal, one_and}
-use Rattle.css_model.specs.TokenAt.{part_at}
+use Rattle.css_model.specs.Text.Characters.{line_feed, carriage_return, open_round, percent, backslash, dash, dot, is_newline, is_white, is_start, is_name, begins}
+use Rattle.css_model.specs.Text.Runs.{run}
+use Rattle.css_model.specs.Text.Units.{white_unit, hex_rest, escape_after, name_unit, name_start, digit_unit, fraction, signed_decimal, one_and}
+use Rattle.css_model.specs.Text.TokenAt.{part_at}
 use Rattle.css_tokens.specs.Alike.{Alike}
 use Rattle.css_tokens.proofs.RunLemmas.{run_none}
 use Rattle.css_tokens.proofs.Keeps.{unit_le_run}

@@ -6,10 +6,10 @@ use Rattle.css_model.specs.declared.token.TokenKind.{TokenKind}
 use Rattle.css_model.specs.declared.token.TokenKind.TheVariants as kind
 use Rattle.css_model.specs.declared.token.TokenFlaw.{TokenFlaw}
 use Rattle.css_model.specs.declared.token.TokenFlaw.TheVariants as flaw
-use Rattle.css_model.specs.Characters.{star, quote, apostrophe, is_newline, begins, begins_with}
-use Rattle.css_model.specs.Runs.{run}
-use Rattle.css_model.specs.Units.{comment_unit, string_unit, string_escape}
-use Rattle.css_model.specs.TokenAt.{Shape, comment_shape, string_shape, is_quote}
+use Rattle.css_model.specs.Text.Characters.{star, quote, apostrophe, is_newline, begins, first_passes}
+use Rattle.css_model.specs.Text.Runs.{run}
+use Rattle.css_model.specs.Text.Units.{comment_unit, string_unit, string_escape}
+use Rattle.css_model.specs.Text.TokenAt.{Shape, comment_shape, string_shape, is_quote}
 use Rattle.css_tokens.specs.Alike.{Alike}
 use Rattle.css_tokens.proofs.Keeps.{Fits, run_fits}
 use Rattle.css_tokens.proofs.UnitsAgain.{string_fits}
@@ -82,8 +82,8 @@ string_at q ends w x old new k =
     let m' = run (string_unit q) (w ++ x ∷ new) in
     let rest = drop m (w ++ x ∷ old) in
     let rest' = drop m' (w ++ x ∷ new) in
-    tested_again (begins q rest) (begins q rest') (Ok (Some kind.Str, 2 + m)) (cond (begins_with is_newline rest) (Err flaw.BadString) (Err flaw.EndInside))
-    (Ok (Some kind.Str, 2 + m')) (cond (begins_with is_newline rest') (Err flaw.BadString) (Err flaw.EndInside)) (Ok (k, 2 + length w))
+    tested_again (begins q rest) (begins q rest') (Ok (Some kind.Str, 2 + m)) (cond (first_passes is_newline rest) (Err flaw.BadString) (Err flaw.EndInside))
+    (Ok (Some kind.Str, 2 + m')) (cond (first_passes is_newline rest') (Err flaw.BadString) (Err flaw.EndInside)) (Ok (k, 2 + length w))
     (λ closed is.
     let parts = shape_parts (Some kind.Str) k (2 + m) (2 + length w) is in
     let before : m ≡ length w = omega (arith, parts.1) in
@@ -91,7 +91,7 @@ string_at q ends w x old new k =
     let behind : m' ≡ length w = string_run q ends w x old new (eqb-true x q at) before in
     (begins_at q w (x ∷ new) m' behind ∙ at, same_shape (Some kind.Str) k (2 + m') (2 + length w) parts.0 (omega (arith, behind)))
     )
-    (λ _ is. absurd (both_wrong (begins_with is_newline rest) flaw.BadString flaw.EndInside (k, 2 + length w) is))
+    (λ _ is. absurd (both_wrong (first_passes is_newline rest) flaw.BadString flaw.EndInside (k, 2 + length w) is))
   where
     string_run : (q : ℕ) → EndsString q → (w : List ℕ) (x : ℕ) (old new : List ℕ) → x ≡ q → run (string_unit q) (w ++ x ∷ old) ≡ length w → run (string_unit q) (w ++ x ∷ new) ≡ length w
     string_run q ends w x old new same =
@@ -102,7 +102,7 @@ string_at q ends w x old new k =
         subst (λ (x : ℕ). run (string_unit q) (w ++ x ∷ old) ≡ length w → run (string_unit q) (w ++ x ∷ new) ≡ length w) (sym same) at
 
 string_len : (q : ℕ) (cs : List ℕ) (k : Option TokenKind) (n : ℕ) → string_shape q cs ≡ Ok (k, n) → 2 ≤ n
-string_len q cs k n = which (begins q (drop (run (string_unit q) cs) cs)) (begins_with is_newline (drop (run (string_unit q) cs) cs))
+string_len q cs k n = which (begins q (drop (run (string_unit q) cs) cs)) (first_passes is_newline (drop (run (string_unit q) cs) cs))
   where
     which : (b e : Bool) → ◌≡◌ {A = Result Shape TokenFlaw} (cond b (Ok (Some kind.Str, 2 + run (string_unit q) cs)) (cond e (Err flaw.BadString) (Err flaw.EndInside))) (Ok (k, n)) → 2 ≤ n
     which true e is = let parts = shape_parts (Some kind.Str) k (2 + run (string_unit q) cs) n is in omega (arith, parts.1)

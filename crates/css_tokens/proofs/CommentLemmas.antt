@@ -2,9 +2,9 @@
 use Rattle.std.proofs.Common.{ℕ, zero, suc, ◌+◌, ◌<◌, ◌≤◌, ◌≡◌, Bool, true, false, ◌&&◌, ◌==◌, List, [], ◌∷◌, Option, Some, None, MatchOption, length, drop, get_or, refl, sym, subst, ap, arith, eq-eqb}
 use Rattle.std.proofs.lemmas.Bool.{and_from, and_parts, eqb-true, false≢true, false_from_ne_true}
 use Rattle.memchr.specs.Find.{OccursAt, FindsNeedle}
-use Rattle.css_model.specs.Characters.{star, slash, begins}
-use Rattle.css_model.specs.Runs.{run}
-use Rattle.css_model.specs.Units.{comment_unit}
+use Rattle.css_model.specs.Text.Characters.{star, slash, begins}
+use Rattle.css_model.specs.Text.Runs.{run}
+use Rattle.css_model.specs.Text.Units.{comment_unit}
 
 abbrev pub close : List ℕ
 close = star ∷ slash ∷ []

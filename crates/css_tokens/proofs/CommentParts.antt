@@ -6,10 +6,10 @@ use Rattle.css_model.specs.declared.token.TokenKind.{TokenKind}
 use Rattle.css_model.specs.declared.token.TokenKind.TheVariants as kind
 use Rattle.css_model.specs.declared.token.TokenFlaw.{TokenFlaw}
 use Rattle.css_model.specs.declared.token.TokenFlaw.TheVariants as flaw
-use Rattle.css_model.specs.Characters.{slash, star, begins}
-use Rattle.css_model.specs.Runs.{run}
-use Rattle.css_model.specs.Units.{comment_unit}
-use Rattle.css_model.specs.TokenAt.{Shape, rule_at, part_at, slash_shape, comment_shape, done}
+use Rattle.css_model.specs.Text.Characters.{slash, star, begins}
+use Rattle.css_model.specs.Text.Runs.{run}
+use Rattle.css_model.specs.Text.Units.{comment_unit}
+use Rattle.css_model.specs.Text.TokenAt.{Shape, rule_at, part_at, slash_shape, comment_shape, done}
 use Rattle.css_tokens.specs.Laws.{IsInside, comment_of}
 use Rattle.css_tokens.proofs.CommentLemmas.{close, closes}
 use Rattle.css_tokens.proofs.PartLemmas.{Holds, if_so, rule_holds, part_rule}

@@ -1,8 +1,8 @@
 -- Parts before other rests, by the lemmas on their ends.
 use Rattle.std.proofs.Common.{ℕ, ◌≡◌, List, [], ◌∷◌, Some, None, refl, true≢false, arith}
 use Rattle.css_model.specs.declared.token.TokenKind.TheVariants as kind
-use Rattle.css_model.specs.TokenAt.{part_at, done}
-use Rattle.css_model.specs.Tokens.{Part, text_of}
+use Rattle.css_model.specs.Text.TokenAt.{part_at, done}
+use Rattle.css_model.specs.Text.Tokens.{Part, text_of}
 use Rattle.css_tokens.specs.Lexed.{IsLexed}
 use Rattle.css_tokens.specs.Alike.{EndsAlike}
 use Rattle.css_tokens.proofs.EndsLemmas.{ends_nil, ends_byte, ends_bang, ends_space, ends_feed, space_read, comment_read}

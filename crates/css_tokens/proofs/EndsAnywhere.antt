@@ -4,10 +4,10 @@ use Rattle.std.proofs.lemmas.Bool.{eqb-true, or_cases}
 use Rattle.std.proofs.lemmas.List.{length-append, take_at}
 use Rattle.css_model.specs.declared.token.TokenKind.{TokenKind}
 use Rattle.css_model.specs.declared.token.TokenKind.TheVariants as kind
-use Rattle.css_model.specs.Characters.{backslash, slash, less_than, plus, dash, dot, hash, at_sign, open_round, close_round, is_sign, is_plus_or_minus}
-use Rattle.css_model.specs.Unescaped.{is_url}
-use Rattle.css_model.specs.TokenAt.{part_at, rule_at, done}
-use Rattle.css_model.specs.Tokens.{Part}
+use Rattle.css_model.specs.Text.Characters.{backslash, slash, less_than, plus, dash, dot, hash, at_sign, open_round, close_round, is_sign, is_plus_or_minus}
+use Rattle.css_model.specs.Text.Names.{is_url}
+use Rattle.css_model.specs.Text.TokenAt.{part_at, rule_at, done}
+use Rattle.css_model.specs.Text.Tokens.{Part}
 use Rattle.css_tokens.specs.Alike.{KeepsString, LooksAlike, LooksThrough, EndsAlike, ends_itself}
 use Rattle.css_tokens.proofs.RuleBounds.{sign_is}
 use Rattle.css_tokens.proofs.RulesAgain.{rule_part}

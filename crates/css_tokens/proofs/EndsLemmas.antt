@@ -4,10 +4,10 @@ use Rattle.std.specs.Char.{is_ascii_digit}
 use Rattle.std.proofs.lemmas.Bool.{or_parts}
 use Rattle.css_model.specs.declared.token.TokenKind.{TokenKind}
 use Rattle.css_model.specs.declared.token.TokenKind.TheVariants as kind
-use Rattle.css_model.specs.Characters.{line_feed, backslash, star, slash, plus, dash, dot, greater_than, is_start, is_name}
-use Rattle.css_model.specs.Units.{white_unit}
-use Rattle.css_model.specs.TokenAt.{part_at}
-use Rattle.css_model.specs.Tokens.{Part}
+use Rattle.css_model.specs.Text.Characters.{line_feed, backslash, star, slash, plus, dash, dot, greater_than, is_start, is_name}
+use Rattle.css_model.specs.Text.Units.{white_unit}
+use Rattle.css_model.specs.Text.TokenAt.{part_at}
+use Rattle.css_model.specs.Text.Tokens.{Part}
 use Rattle.css_tokens.specs.Alike.{KeepsString, LooksAlike, LooksThrough, EndsAlike, ends_itself, begins_dashes}
 use Rattle.css_tokens.proofs.RunLemmas.{run_none}
 use Rattle.css_tokens.proofs.AlikeLemmas.{alike_nil, alike_byte, alike_space, goes_on}

@@ -4,9 +4,9 @@ use Rattle.std.specs.Char.{is_ascii_hexdigit}
 use Rattle.std.proofs.lemmas.Bool.{eqb-true, eq-eqb, ne_eqb, cases_lt}
 use Rattle.std.proofs.lemmas.List.{drop_all, drop_more}
 use Rattle.memchr.specs.Find.{IsFirstByte, is_byte}
-use Rattle.css_model.specs.Characters.{backslash}
-use Rattle.css_model.specs.Unescaped.{less_one}
-use Rattle.css_model.specs.Units.{escape_after}
+use Rattle.css_model.specs.Text.Characters.{backslash}
+use Rattle.css_model.specs.Lists.{less_one}
+use Rattle.css_model.specs.Text.Units.{escape_after}
 use Rattle.css_tokens.specs.OpenEscape.{is_open_hex, is_open_escape, ends_open_from, ends_open}
 use Rattle.css_tokens.proofs.StringLemmas.{before_found}
 

@@ -7,11 +7,11 @@ use Rattle.css_model.specs.declared.token.TokenKind.{TokenKind}
 use Rattle.css_model.specs.declared.token.TokenKind.TheVariants as kind
 use Rattle.css_model.specs.declared.token.TokenFlaw.{TokenFlaw}
 use Rattle.css_model.specs.declared.token.TokenFlaw.TheVariants as flaw
-use Rattle.css_model.specs.Characters.{dash, slash, star, hash, is_white, is_sign, is_newline, less_than, greater_than, at_sign, percent, open_round, close_round, begins, begins_with, is_plus_or_minus}
-use Rattle.css_model.specs.Runs.{run}
-use Rattle.css_model.specs.Units.{white_unit, comment_unit, string_unit, name_unit, name_start, name_len, number_len, digit_unit, signed_decimal, url_unit}
-use Rattle.css_model.specs.TokenAt.{Shape, rule_at, part_at, slash_shape, comment_shape, string_shape, hash_shape, number_shape, less_shape, at_shape, url_shape, url_end, opened_shape, named_shape, word_at, symbol_at, done, is_quote, after_white}
-use Rattle.css_model.specs.Unescaped.{is_url}
+use Rattle.css_model.specs.Text.Characters.{dash, slash, star, hash, is_white, is_sign, is_newline, less_than, greater_than, at_sign, percent, open_round, close_round, begins, first_passes, is_plus_or_minus}
+use Rattle.css_model.specs.Text.Runs.{run}
+use Rattle.css_model.specs.Text.Units.{white_unit, comment_unit, string_unit, name_unit, name_start, name_len, number_len, digit_unit, signed_decimal, url_unit}
+use Rattle.css_model.specs.Text.TokenAt.{Shape, rule_at, part_at, slash_shape, comment_shape, string_shape, hash_shape, number_shape, less_shape, at_shape, url_shape, url_end, opened_shape, named_shape, word_at, symbol_at, done, is_quote, after_white}
+use Rattle.css_model.specs.Text.Names.{is_url}
 use Rattle.css_tokens.proofs.PartLemmas.{Holds, part_len, part_rule}
 use Rattle.css_tokens.proofs.RunLemmas.{run_unit}
 use Rattle.css_tokens.proofs.WholeCharacters.{branch}
@@ -62,8 +62,8 @@ opened-told c name n rest =
     let call : Holds (Told c) (done kind.Function n) = other c (Some kind.Function) n (λ d is. absurd cc) (λ is. absurd cc) in
     let text = after_white rest in
     let inner = drop (run url_unit text) text in
-    branch (is_url name) (cond (begins_with is_quote text) (done kind.Function n) (url_shape (n + run white_unit rest) text)) (done kind.Function n)
-    (λ _. branch (begins_with is_quote text) (done kind.Function n) (url_shape (n + run white_unit rest) text) (λ _. call)
+    branch (is_url name) (cond (first_passes is_quote text) (done kind.Function n) (url_shape (n + run white_unit rest) text)) (done kind.Function n)
+    (λ _. branch (first_passes is_quote text) (done kind.Function n) (url_shape (n + run white_unit rest) text) (λ _. call)
     (λ _. url-told c (n + run white_unit rest + run url_unit text + run white_unit inner) (after_white inner)))
     (λ _. call)
 
@@ -94,7 +94,7 @@ rule-told c cs =
     (λ _. branch (is_white c) (done kind.White (run white_unit text)) _ (λ _. other c (Some kind.White) _ (λ d is. absurd cc) (λ is. absurd cc))
     (λ _. branch (is_quote c) (string_shape c cs) _
     (λ _. branch (begins c (drop (run (string_unit c) cs) cs)) (done kind.Str (2 + run (string_unit c) cs)) _ (λ _. other c (Some kind.Str) _ (λ d is. absurd cc) (λ is. absurd cc))
-    (λ _. branch (begins_with is_newline (drop (run (string_unit c) cs) cs)) (Err flaw.BadString) (Err flaw.EndInside) (λ _. flawed c _) (λ _. flawed c _)))
+    (λ _. branch (first_passes is_newline (drop (run (string_unit c) cs) cs)) (Err flaw.BadString) (Err flaw.EndInside) (λ _. flawed c _) (λ _. flawed c _)))
     (λ _. branch (c == hash) (hash_shape cs) (symbol_at text)
     (λ is. branch (ltb 0 (name_unit cs)) (done (cond (ltb 0 (name_start cs)) kind.IdHash kind.Hash) (1 + name_len cs)) (done (kind.Delim hash) 1)
     (λ _. hash-kind (ltb 0 (name_start cs)) (1 + name_len cs)) (λ _. single c hash (sym (eqb-true c hash is))))

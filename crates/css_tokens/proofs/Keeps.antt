@@ -1,7 +1,7 @@
 -- A run of units that ends before one rest of a text, or within what stands before it, is the same before another.
 use Rattle.std.proofs.Common.{ℕ, zero, suc, ◌+◌, ◌<◌, ◌≤◌, ◌≡◌, List, [], ◌∷◌, ◌++◌, length, drop, refl, sym, ap, ◌∙◌, arith}
 use Rattle.std.proofs.lemmas.List.{drop-append-le, length-drop}
-use Rattle.css_model.specs.Runs.{run}
+use Rattle.css_model.specs.Text.Runs.{run}
 use Rattle.css_tokens.proofs.RunLemmas.{run_unit, run_none}
 
 -- what fits into the text before a rest, and where none begins

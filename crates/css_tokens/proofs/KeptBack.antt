@@ -5,12 +5,12 @@ use Rattle.std.proofs.lemmas.List.{length-append}
 use Rattle.css_model.specs.declared.token.Gap.{Gap}
 use Rattle.css_model.specs.declared.token.Gap.TheVariants as gap
 use Rattle.css_model.specs.declared.token.TokenKind.{TokenKind}
-use Rattle.css_model.specs.Characters.{slash, space, is_white, begins, begins_with}
+use Rattle.css_model.specs.Text.Characters.{slash, space, is_white, begins, first_passes}
 use Rattle.css_model.specs.declared.token.TokenKind.TheVariants as kind
-use Rattle.css_model.specs.Kept.{Solid, is_lone, is_open, is_white_gap}
-use Rattle.css_model.specs.Lexemes.{is_white_kind}
-use Rattle.css_model.specs.TokenAt.{part_at}
-use Rattle.css_model.specs.Tokens.{Part, text_of}
+use Rattle.css_model.specs.Text.Kept.{Solid, is_lone, is_open, is_white_gap}
+use Rattle.css_model.specs.Text.Lexemes.{is_white_kind}
+use Rattle.css_model.specs.Text.TokenAt.{part_at}
+use Rattle.css_model.specs.Text.Tokens.{Part, text_of}
 use Rattle.css_tokens.specs.Lexed.{IsLexed}
 use Rattle.css_tokens.specs.Solids.{gap_before, solids, closed, last_kept, last_of_value, read_back, ends_called, is_ender, IsBehind, is_sign_kind, ends_in_sign, MayFollow, ReadsBack, solids_of, KeptReadsBack, ValueReadsBack}
 use Rattle.css_tokens.proofs.EndsAnywhere.{ends_anywhere}
@@ -173,7 +173,7 @@ behind_nothing : (rest : List Part) → IsLexed rest → IsBehind (text_of rest)
 behind_nothing [] is behind = refl
 behind_nothing (p ∷ ps) (here, is) behind = which (part_is p.kind p.bytes (text_of ps) here)
   where
-    white_first : (v : List ℕ) → begins_with is_white v ≡ true → begins_with is_white (v ++ text_of ps) ≡ true
+    white_first : (v : List ℕ) → first_passes is_white v ≡ true → first_passes is_white (v ++ text_of ps) ≡ true
     white_first [] white = absurd (false≢true white)
     white_first (c ∷ cs) white = white
 

@@ -3,9 +3,9 @@ use Rattle.std.proofs.Common.{ℕ, ◌≡◌, true, false, List, [], ◌∷◌, 
 use Rattle.std.specs.Prelude.{codes}
 use Rattle.css_model.specs.declared.token.Gap.TheVariants as gap
 use Rattle.css_model.specs.declared.token.TokenKind.TheVariants as kind
-use Rattle.css_model.specs.Characters.{backslash, line_feed}
-use Rattle.css_model.specs.Kept.{is_open, kept, value_text}
-use Rattle.css_model.specs.Tokens.{parts}
+use Rattle.css_model.specs.Text.Characters.{backslash, line_feed}
+use Rattle.css_model.specs.Text.Kept.{is_open, kept, value_text}
+use Rattle.css_model.specs.Text.Tokens.{parts}
 use Rattle.css_tokens.specs.Solids.{solids, last_kept, last_of_value, read_back}
 
 -- `\31` and `#a\b` are open; `\31 `, `\\31`, `\abcdef0` and a string are not

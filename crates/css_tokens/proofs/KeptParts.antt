@@ -4,9 +4,9 @@ use Rattle.std.proofs.lemmas.List.{append-nil}
 use Rattle.css_model.specs.declared.token.Gap.{Gap}
 use Rattle.css_model.specs.declared.token.Gap.TheVariants as gap
 use Rattle.css_model.specs.declared.token.TokenKind.TheVariants as kind
-use Rattle.css_model.specs.Characters.{space, line_feed, slash, star}
-use Rattle.css_model.specs.Kept.{Solid, is_lone, is_open, is_white_gap, gap_text, between, behind_last, behind_value, spelled}
-use Rattle.css_model.specs.Tokens.{Part, text_of}
+use Rattle.css_model.specs.Text.Characters.{space, line_feed, slash, star}
+use Rattle.css_model.specs.Text.Kept.{Solid, is_lone, is_open, is_white_gap, gap_text, between, behind_last, behind_value, spelled}
+use Rattle.css_model.specs.Text.Tokens.{Part, text_of}
 use Rattle.css_tokens.specs.Solids.{closed}
 
 abbrev pub part_of : Solid → Part

@@ -6,12 +6,12 @@ use Rattle.css_model.specs.declared.token.Gap.{Gap}
 use Rattle.css_model.specs.declared.token.Gap.TheVariants as gap
 use Rattle.css_model.specs.declared.token.TokenKind.{TokenKind}
 use Rattle.css_model.specs.declared.token.TokenKind.TheVariants as kind
-use Rattle.css_model.specs.Characters.{backslash, slash, star, space, line_feed, exclamation_mark, open_round, is_sign, is_white, begins_with}
-use Rattle.css_model.specs.Kept.{is_lone, is_open, is_white_gap}
-use Rattle.css_model.specs.Lexemes.{is_white_kind}
-use Rattle.css_model.specs.Units.{white_unit}
-use Rattle.css_model.specs.TokenAt.{part_at, done, is_quote}
-use Rattle.css_model.specs.Tokens.{Part, text_of}
+use Rattle.css_model.specs.Text.Characters.{backslash, slash, star, space, line_feed, exclamation_mark, open_round, is_sign, is_white, first_passes}
+use Rattle.css_model.specs.Text.Kept.{is_lone, is_open, is_white_gap}
+use Rattle.css_model.specs.Text.Lexemes.{is_white_kind}
+use Rattle.css_model.specs.Text.Units.{white_unit}
+use Rattle.css_model.specs.Text.TokenAt.{part_at, done, is_quote}
+use Rattle.css_model.specs.Text.Tokens.{Part, text_of}
 use Rattle.css_tokens.specs.Alike.{LooksThrough, EndsAlike, begins_dashes}
 use Rattle.css_tokens.specs.Lexed.{IsLexed}
 use Rattle.css_tokens.specs.Open.{KeepsQuote}
@@ -32,7 +32,7 @@ use Rattle.css_tokens.proofs.SolidFacts.{lone_is, plain_of, comment_first, begin
 -- parts in place of these, from their first solid on
 pub record KeptRow (ps new : List Part) : Type 0 where
   pub lexed : IsLexed new
-  pub first : (test : ℕ → Bool) → begins_with test (text_of new) ≡ begins_with test (from_solid ps)
+  pub first : (test : ℕ → Bool) → first_passes test (text_of new) ≡ first_passes test (from_solid ps)
   pub ends : begins_solid ps ≡ true → (q : Part) → EndsAlike q (text_of ps) (text_of new)
 
 abbrev pub token : TokenKind → List ℕ → Part
@@ -44,7 +44,7 @@ pub record IsToken (k : TokenKind) (v : List ℕ) (ps : List Part) : Type 0 wher
   pub later : IsLexed ps
   pub solid : is_white_kind k ≡ false
   pub some : 0 < length v
-  pub first : begins_with is_white v ≡ false
+  pub first : first_passes is_white v ≡ false
   pub lone : is_lone k ≡ true → v ≡ backslash ∷ []
 
 -- a token that is read before other parts as well
@@ -67,7 +67,7 @@ open_row k v ps G is open_end lexed read =
     let whole : (v ++ space ∷ []) ++ text_of G ≡ v ++ space ∷ text_of G = append_assoc v (space ∷ []) (text_of G) in
     record {
       lexed = (read, lexed);
-      first = λ test. ap (begins_with test) whole ∙ first_of test v (space ∷ text_of G) is.some ∙ sym (rw is.solid (first_of test v (text_of ps) is.some));
+      first = λ test. ap (first_passes test) whole ∙ first_of test v (space ∷ text_of G) is.some ∙ sym (rw is.solid (first_of test v (text_of ps) is.some));
       ends = λ _ q. subst (EndsAlike q (v ++ text_of ps)) (sym whole) (ends_before_open q v (text_of ps) (space ∷ text_of G) open_end is.first);
     }
 
@@ -96,7 +96,7 @@ comment_row k v ps N is other comments lexed =
       through = through_other k (text_of ps) (slash ∷ rest) is.solid refl;
     })
 
-kept_no_white : (ps N : List Part) → IsLexed ps → KeptRow ps N → begins_with is_white (text_of N) ≡ false
+kept_no_white : (ps N : List Part) → IsLexed ps → KeptRow ps N → first_passes is_white (text_of N) ≡ false
 kept_no_white ps N lexed row = row.first is_white ∙ solid_no_white ps lexed
 
 -- a space behind a token that white space followed
@@ -104,7 +104,7 @@ space_row : (k : TokenKind) (v : List ℕ) (ps N : List Part) → IsToken k v ps
 space_row k v ps N is other shut row =
     let no_white = kept_no_white ps N is.later row in
     let keeps : KeepsQuote (text_of ps) (text_of N) =
-    λ quoted. ap (begins_with is_quote) (after_white_none (text_of N) no_white) ∙ row.first is_quote ∙ quote_behind ps is.later quoted in
+    λ quoted. ap (first_passes is_quote) (after_white_none (text_of N) no_white) ∙ row.first is_quote ∙ quote_behind ps is.later quoted in
     let read = space_ends v (text_of ps) (text_of N) k (record { no_white = is.solid; no_lone = other; read = is.here }) shut keeps in
     plain_row k v ps (one_space ∷ N) is (space_read (text_of N) (white_none_of (text_of N) no_white), row.lexed) read (through_other k (text_of ps) (space ∷ text_of N) is.solid refl)
 
@@ -146,7 +146,7 @@ ends_behind p old (c ∷ cs) plain (ender, bang) = which (is_sign c) (c == open_
     which true true false sign round mark is = absurd (false≢true is)
     which false r false sign round mark is = absurd (false≢true is)
 
-pub behind_no_white : (text : List ℕ) → IsBehind text → begins_with is_white text ≡ false
+pub behind_no_white : (text : List ℕ) → IsBehind text → first_passes is_white text ≡ false
 behind_no_white [] behind = refl
 behind_no_white (c ∷ cs) (ender, bang) = which (is_sign c) (not (c == open_round)) (c == exclamation_mark) refl refl ender
   where

@@ -5,11 +5,11 @@ use Rattle.std.proofs.lemmas.List.{length-append}
 use Rattle.css_model.specs.declared.token.Gap.{Gap}
 use Rattle.css_model.specs.declared.token.Gap.TheVariants as gap
 use Rattle.css_model.specs.declared.token.TokenKind.{TokenKind}
-use Rattle.css_model.specs.Characters.{space, line_feed, is_white, begins_with}
-use Rattle.css_model.specs.Kept.{Solid, is_lone, is_open, is_white_gap, gap_text, between, spelled}
-use Rattle.css_model.specs.Units.{white_unit}
-use Rattle.css_model.specs.TokenAt.{part_at}
-use Rattle.css_model.specs.Tokens.{Part, text_of}
+use Rattle.css_model.specs.Text.Characters.{space, line_feed, is_white, first_passes}
+use Rattle.css_model.specs.Text.Kept.{Solid, is_lone, is_open, is_white_gap, gap_text, between, spelled}
+use Rattle.css_model.specs.Text.Units.{white_unit}
+use Rattle.css_model.specs.Text.TokenAt.{part_at}
+use Rattle.css_model.specs.Text.Tokens.{Part, text_of}
 use Rattle.css_tokens.specs.Lexed.{IsLexed}
 use Rattle.css_tokens.specs.Solids.{gap_before, solids, solids_of, KeptIsShort}
 use Rattle.css_tokens.proofs.OpenTokens.{open_apart}
@@ -24,7 +24,7 @@ open_no_white : (k : TokenKind) (v : List ℕ) (ps : List Part) → IsToken k v 
 open_no_white k v ps is other open_end white =
     open_apart v (text_of ps) k (record { no_white = is.solid; no_lone = other; read = is.here }) open_end (λ _. white)
 
-white_some : (text : List ℕ) → begins_with is_white text ≡ true → 0 < white_unit text
+white_some : (text : List ℕ) → first_passes is_white text ≡ true → 0 < white_unit text
 white_some [] white = absurd (false≢true white)
 white_some (c ∷ cs) white = rw white (some _)
   where
@@ -45,7 +45,7 @@ gap_size (p ∷ ps) (here, is) = which (part_is p.kind p.bytes (text_of ps) here
     long : length (p.bytes ++ gap_bytes ps) ≡ length p.bytes + length (gap_bytes ps)
     long = length-append p.bytes (gap_bytes ps)
 
-    some : (v rest : List ℕ) → begins_with is_white v ≡ true → (1 ≤ length v) × (0 < white_unit (v ++ rest))
+    some : (v rest : List ℕ) → first_passes is_white v ≡ true → (1 ≤ length v) × (0 < white_unit (v ++ rest))
     some [] rest white = absurd (false≢true white)
     some (c ∷ cs) rest white = (omega arith, white_some (c ∷ cs ++ rest) white)
 

@@ -3,8 +3,8 @@ use Rattle.std.proofs.Common.{ℕ, ◌≡◌, Bool, true, false, cond, not, ◌&
 use Rattle.std.proofs.lemmas.List.{append-nil}
 use Rattle.css_model.specs.declared.token.Gap.{Gap}
 use Rattle.css_model.specs.declared.token.Gap.TheVariants as gap
-use Rattle.css_model.specs.Characters.{space, line_feed}
-use Rattle.css_model.specs.Kept.{Solid, is_lone, is_open, is_white_gap, between, behind_last, behind_value, spelled}
+use Rattle.css_model.specs.Text.Characters.{space, line_feed}
+use Rattle.css_model.specs.Text.Kept.{Solid, is_lone, is_open, is_white_gap, between, behind_last, behind_value, spelled}
 use Rattle.css_tokens.specs.Solids.{solids, closed, last_kept, last_of_value, read_back, solids_of, KeptAgain}
 use Rattle.css_tokens.proofs.KeptBack.{IsGood, AreGood, take_good, are_good, rest_of}
 

@@ -6,12 +6,13 @@ use Rattle.std.specs.Char.{is_ascii_hexdigit}
 use Rattle.css_model.specs.declared.token.TokenKind.{TokenKind}
 use Rattle.css_model.specs.declared.token.TokenFlaw.TheVariants as flaw
 use Rattle.css_model.specs.declared.token.TokenKind.TheVariants as kind
-use Rattle.css_model.specs.Characters.{backslash, close_round, is_newline, begins, begins_with}
-use Rattle.css_model.specs.Runs.{run}
-use Rattle.css_model.specs.Units.{white_unit, string_unit, url_unit}
-use Rattle.css_model.specs.Unescaped.{less_one, is_url}
-use Rattle.css_model.specs.Units.{escape_after}
-use Rattle.css_model.specs.TokenAt.{Shape, done, is_quote, string_shape, url_shape, opened_shape, after_white}
+use Rattle.css_model.specs.Text.Characters.{backslash, close_round, is_newline, begins, first_passes}
+use Rattle.css_model.specs.Text.Runs.{run}
+use Rattle.css_model.specs.Text.Units.{white_unit, string_unit, url_unit}
+use Rattle.css_model.specs.Lists.{less_one}
+use Rattle.css_model.specs.Text.Names.{is_url}
+use Rattle.css_model.specs.Text.Units.{escape_after}
+use Rattle.css_model.specs.Text.TokenAt.{Shape, done, is_quote, string_shape, url_shape, opened_shape, after_white}
 use Rattle.css_tokens.specs.Alike.{ends_itself}
 use Rattle.css_tokens.specs.OpenEscape.{is_open_hex, is_open_escape, ends_open_from, ends_open}
 
@@ -100,9 +101,9 @@ string_shut q cs old k quoted is = which (begins q (drop (run (string_unit q) (c
     no_string false is = cc
 
     which : (b : Bool) → begins q (drop (run (string_unit q) (cs ++ old)) (cs ++ old)) ≡ b
-        → cond b (done kind.Str (2 + run (string_unit q) (cs ++ old))) (cond (begins_with is_newline (drop (run (string_unit q) (cs ++ old)) (cs ++ old))) (Err flaw.BadString) (Err flaw.EndInside))
+        → cond b (done kind.Str (2 + run (string_unit q) (cs ++ old))) (cond (first_passes is_newline (drop (run (string_unit q) (cs ++ old)) (cs ++ old))) (Err flaw.BadString) (Err flaw.EndInside))
         ≡ done k (suc (length cs)) → IsShut k (q ∷ cs)
-    which false ends is = absurd (no_string (begins_with is_newline (drop (run (string_unit q) (cs ++ old)) (cs ++ old))) is)
+    which false ends is = absurd (no_string (first_passes is_newline (drop (run (string_unit q) (cs ++ old)) (cs ++ old))) is)
     which true ends is =
         let n = run (string_unit q) (cs ++ old) in
         let len : 2 + n ≡ suc (length cs) = done_len kind.Str k (2 + n) (suc (length cs)) is in
@@ -154,7 +155,7 @@ pub record OpenedLast (m : ℕ) (u : List ℕ) (k : TokenKind) : Type 0 where
   pub last : 0 < length u → LastIs close_round u
 
 pub opened_last : (name : List ℕ) (m : ℕ) (u old : List ℕ) (k : TokenKind) → opened_shape name m (u ++ old) ≡ done k (m + length u) → OpenedLast m u k
-opened_last name m u old k is = which (is_url name) (begins_with is_quote (after_white (u ++ old))) is
+opened_last name m u old k is = which (is_url name) (first_passes is_quote (after_white (u ++ old))) is
   where
     called : done kind.Function m ≡ done k (m + length u) → OpenedLast m u k
     called is =

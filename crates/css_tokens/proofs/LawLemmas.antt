@@ -6,9 +6,9 @@ use Rattle.std.proofs.lemmas.Grind.{flat_map-append}
 use Rattle.std.proofs.lemmas.List.{append-nil, length-drop, take-append-drop}
 use Rattle.css_model.specs.declared.token.TokenFlaw.{TokenFlaw}
 use Rattle.css_model.specs.declared.token.TokenFlaw.TheVariants as flaw
-use Rattle.css_model.specs.TokenAt.{Shape, part_at}
-use Rattle.css_model.specs.Tokens.{Parts, Stream, parts, text_of, part_then, placed, fault_at}
-use Rattle.css_model.proofs.SliceRange.{slice_range_parts, slice_range_none}
+use Rattle.css_model.specs.Text.TokenAt.{Shape, part_at}
+use Rattle.css_model.specs.Text.Tokens.{Parts, Stream, parts, text_of, part_then, stream_of, fault_at}
+use Rattle.list_facts.proofs.SliceRange.{slice_range_parts, slice_range_none}
 use Rattle.css_tokens.specs.Laws.{PartsJoin, IsInside, comment_of, AreComments, Cover, place_of, TokensCover}
 use Rattle.css_tokens.proofs.CommentParts.{part_comment}
 use Rattle.css_tokens.proofs.PartLemmas.{part_len}
@@ -80,7 +80,7 @@ place_of-fault_at at flaw.BadString to = refl
 place_of-fault_at at flaw.BadUrl to = refl
 place_of-fault_at at flaw.EndInside to = refl
 
-covered_end : (source : List ℕ) (from at : ℕ) (comment : Bool) → Gap source from at comment → length source ≤ at → Covered source from (placed at comment (parts (drop at source)))
+covered_end : (source : List ℕ) (from at : ℕ) (comment : Bool) → Gap source from at comment → length source ≤ at → Covered source from (stream_of at comment (parts (drop at source)))
 covered_end source from at comment gap past =
     let C : Stream → Type 0 = Covered source from in
     let whole : at ≡ length source = omega (arith, gap.inside) in
@@ -89,7 +89,7 @@ covered_end source from at comment gap past =
     subst C (sym (next_end source at comment past)) here
 
 covered_flaw : (source : List ℕ) (from at : ℕ) (comment : Bool) (f : TokenFlaw) → Gap source from at comment → at < length source → part_at (drop at source) ≡ Err f
-    → Covered source from (placed at comment (parts (drop at source)))
+    → Covered source from (stream_of at comment (parts (drop at source)))
 covered_flaw source from at comment f gap below is =
     let C : Stream → Type 0 = Covered source from in
     let place = sym (place_of-fault_at at f (length source)) in
@@ -119,7 +119,7 @@ token_gap source at n short inside = record {
   told = (λ (wrong : false ≡ true). absurd (false≢true wrong), λ (wrong : at + n < at + n). absurd (omega arith));
 }
 
-covered : (n : ℕ) (source : List ℕ) (from at : ℕ) (comment : Bool) → length source - at ≤ n → Gap source from at comment → Covered source from (placed at comment (parts (drop at source)))
+covered : (n : ℕ) (source : List ℕ) (from at : ℕ) (comment : Bool) → length source - at ≤ n → Gap source from at comment → Covered source from (stream_of at comment (parts (drop at source)))
 covered zero source from at comment short gap = covered_end source from at comment gap (omega arith)
 covered (suc n) source from at comment short gap =
     which (part_at (drop at source)) refl
@@ -127,8 +127,8 @@ covered (suc n) source from at comment short gap =
     (cases_lt at (length source))
   where
     which : (r : Result Shape TokenFlaw) → part_at (drop at source) ≡ r
-        → ((from at : ℕ) (comment : Bool) → length source - at ≤ n → Gap source from at comment → Covered source from (placed at comment (parts (drop at source))))
-        → (at < length source) ⊎ (length source ≤ at) → Covered source from (placed at comment (parts (drop at source)))
+        → ((from at : ℕ) (comment : Bool) → length source - at ≤ n → Gap source from at comment → Covered source from (stream_of at comment (parts (drop at source))))
+        → (at < length source) ⊎ (length source ≤ at) → Covered source from (stream_of at comment (parts (drop at source)))
     which r is later (inr past) = covered_end source from at comment gap past
     which (Err f) is later (inl below) = covered_flaw source from at comment f gap below is
     which (Ok (None, m)) is later (inl below) =
@@ -139,7 +139,7 @@ covered (suc n) source from at comment short gap =
         let C : Stream → Type 0 = Covered source from in
         let len = part_len (drop at source) (Some k, m) is in
         let rest = later (at + m) (at + m) false (omega (arith, len.0)) (token_gap source at m (omega (arith, len.1, length-drop at source)) gap.inside) in
-        let here : C (token_before (record { kind = k; span = record { start = at; «end» = at + m }; comment_before = comment }) (placed (at + m) false (parts (drop (at + m) source)))) =
+        let here : C (token_before (record { kind = k; span = record { start = at; «end» = at + m }; comment_before = comment }) (stream_of (at + m) false (parts (drop (at + m) source)))) =
         record { cover = (gap.low, gap.comments, gap.told, omega (arith, len.0), rest.cover) } in
         subst C (sym (next_token source at m comment k is)) here
 

@@ -3,8 +3,8 @@ use Rattle.std.proofs.Common.{ℕ, zero, suc, ◌≤◌, ◌≡◌, List, [], �
 use Rattle.std.proofs.lemmas.List.{length-drop, length-take-le, take-append-drop, drop_at, take_at}
 use Rattle.css_model.specs.declared.token.TokenKind.{TokenKind}
 use Rattle.css_model.specs.declared.token.TokenFlaw.{TokenFlaw}
-use Rattle.css_model.specs.TokenAt.{Shape, part_at}
-use Rattle.css_model.specs.Tokens.{Part, Parts, parts, text_of, part_then}
+use Rattle.css_model.specs.Text.TokenAt.{Shape, part_at}
+use Rattle.css_model.specs.Text.Tokens.{Part, Parts, parts, text_of, part_then}
 use Rattle.css_tokens.specs.Lexed.{IsLexed, PartsAreLexed, LexedAreParts}
 use Rattle.css_tokens.proofs.PartLemmas.{part_len}
 use Rattle.css_tokens.proofs.StreamLemmas.{parts_part, parts_flaw}

@@ -5,9 +5,9 @@ use Rattle.css_model.specs.declared.token.Bracket.{Bracket}
 use Rattle.css_model.specs.declared.token.Gap.{Gap}
 use Rattle.css_model.specs.declared.token.Token.{Token}
 use Rattle.css_model.specs.declared.token.TokenKind.{TokenKind}
-use Rattle.css_model.specs.Kept.{Solid, solid}
-use Rattle.css_model.specs.Lexemes.{is_white_kind, gap_of, after, lexeme, lexemes_in}
-use Rattle.css_model.specs.Tokens.{Part, parts, text_of, token_then, is_comment, tokens_at}
+use Rattle.css_model.specs.Text.Kept.{Solid, solid}
+use Rattle.css_model.specs.Text.Lexemes.{is_white_kind, gap_of, after, lexeme, lexemes_in}
+use Rattle.css_model.specs.Text.Tokens.{Part, parts, text_of, token_then, is_comment, tokens_at}
 use Rattle.css_tokens.specs.Solids.{gap_before, solid_then, solids, SolidsAreLexemes}
 use Rattle.css_tokens.proofs.LawLemmas.{parts_join}
 

@@ -4,10 +4,10 @@ use Rattle.std.proofs.lemmas.Bool.{eqb-true}
 use Rattle.std.proofs.lemmas.List.{drop_at}
 use Rattle.css_model.specs.declared.token.TokenKind.{TokenKind}
 use Rattle.css_model.specs.declared.token.TokenKind.TheVariants as kind
-use Rattle.css_model.specs.Characters.{dash, dot, is_white, is_plus_or_minus, begins, begins_with}
-use Rattle.css_model.specs.Runs.{run}
-use Rattle.css_model.specs.Units.{white_unit, digit_unit, start_unit, name_start, decimal, signed_decimal, signed_digits, one_and}
-use Rattle.css_model.specs.TokenAt.{rule_at, part_at, done, is_quote, after_white}
+use Rattle.css_model.specs.Text.Characters.{dash, dot, is_white, is_plus_or_minus, begins, first_passes}
+use Rattle.css_model.specs.Text.Runs.{run}
+use Rattle.css_model.specs.Text.Units.{white_unit, digit_unit, start_unit, name_start, decimal, signed_decimal, signed_digits, one_and}
+use Rattle.css_model.specs.Text.TokenAt.{rule_at, part_at, done, is_quote, after_white}
 use Rattle.css_tokens.specs.Alike.{LooksAlike, LooksThrough, begins_dashes, begins_bang_dashes, begins_quoted}
 use Rattle.css_tokens.proofs.RunLemmas.{run_none}
 use Rattle.css_tokens.proofs.Keeps.{unit_le_run}
@@ -38,7 +38,7 @@ quoted_first c old new black is = at new ∙ sym (at old) ∙ is
     at : (rest : List ℕ) → begins_quoted (c ∷ rest) ≡ is_quote c
     at rest =
         let none : white_unit (c ∷ rest) ≡ 0 = rw black refl in
-        ap (λ (n : ℕ). begins_with is_quote (drop n (c ∷ rest))) (run_none white_unit (c ∷ rest) none)
+        ap (λ (n : ℕ). first_passes is_quote (drop n (c ∷ rest))) (run_none white_unit (c ∷ rest) none)
 
 quoted_front : (old new : List ℕ) (j : Option TokenKind) (c : ℕ) (cs : List ℕ) → LooksThrough j old new → part_at (c ∷ cs ++ old) ≡ Ok (j, suc (length cs))
     → part_at (c ∷ cs ++ new) ≡ Ok (j, suc (length cs)) → begins_quoted (c ∷ cs ++ old) ≡ true → begins_quoted (c ∷ cs ++ new) ≡ true
@@ -48,8 +48,8 @@ quoted_front old new j c cs through before now = which (is_white c) refl
     which true white is =
         let old_part = white_part c cs old j white before in
         let new_part = white_part c cs new j white now in
-        let quote : begins_with is_quote old ≡ true = sym (ap (λ (cs : List ℕ). begins_with is_quote cs) old_part.1) ∙ is in
-        ap (λ (cs : List ℕ). begins_with is_quote cs) new_part.1 ∙ through.at_white old_part.0 quote
+        let quote : first_passes is_quote old ≡ true = sym (ap (λ (cs : List ℕ). first_passes is_quote cs) old_part.1) ∙ is in
+        ap (λ (cs : List ℕ). first_passes is_quote cs) new_part.1 ∙ through.at_white old_part.0 quote
     which false black is = quoted_first c (cs ++ old) (cs ++ new) black is
 
 -- `!` is read alone

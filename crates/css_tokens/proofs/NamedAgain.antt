@@ -5,10 +5,10 @@ use Rattle.std.proofs.lemmas.List.{drop_at, drop-drop, take_at, length-append}
 use Rattle.css_model.specs.declared.token.TokenKind.{TokenKind}
 use Rattle.css_model.specs.declared.token.TokenKind.TheVariants as kind
 use Rattle.css_model.specs.declared.token.TokenFlaw.{TokenFlaw}
-use Rattle.css_model.specs.Characters.{hash, at_sign, open_round, begins}
-use Rattle.css_model.specs.Units.{name_unit, name_start, name_len}
-use Rattle.css_model.specs.Unescaped.{is_url}
-use Rattle.css_model.specs.TokenAt.{Shape, hash_shape, at_shape, opened_shape, named_shape, done}
+use Rattle.css_model.specs.Text.Characters.{hash, at_sign, open_round, begins}
+use Rattle.css_model.specs.Text.Units.{name_unit, name_start, name_len}
+use Rattle.css_model.specs.Text.Names.{is_url}
+use Rattle.css_model.specs.Text.TokenAt.{Shape, hash_shape, at_shape, opened_shape, named_shape, done}
 use Rattle.css_tokens.specs.Alike.{Alike, KeepsString, ends_itself}
 use Rattle.css_tokens.proofs.Keeps.{run_begins, unit_le_run}
 use Rattle.css_tokens.proofs.NamesAgain.{name_len_again, name_again, no_name_again}

@@ -1,9 +1,9 @@
 -- Names before another rest.
 use Rattle.std.proofs.Common.{ℕ, zero, suc, ◌+◌, ◌<◌, ◌≤◌, ◌≡◌, Bool, true, false, cond, ◌==◌, List, [], ◌∷◌, ◌++◌, length, refl, arith}
 use Rattle.std.proofs.lemmas.Bool.{eqb-true}
-use Rattle.css_model.specs.Characters.{backslash, dash, is_newline, is_start, begins}
-use Rattle.css_model.specs.Runs.{run}
-use Rattle.css_model.specs.Units.{escape_after, hex_rest, name_unit, start_unit, name_start, one_and}
+use Rattle.css_model.specs.Text.Characters.{backslash, dash, is_newline, is_start, begins}
+use Rattle.css_model.specs.Text.Runs.{run}
+use Rattle.css_model.specs.Text.Units.{escape_after, hex_rest, name_unit, start_unit, name_start, one_and}
 use Rattle.css_tokens.specs.Alike.{Alike}
 use Rattle.css_tokens.proofs.RunLemmas.{run_unit}
 use Rattle.css_tokens.proofs.Keeps.{run_keeps, unit_le_run}

@@ -3,9 +3,9 @@ use Rattle.std.proofs.Common.{ℕ, zero, suc, Some, ◌+◌, ◌<◌, ◌≤◌,
 use Rattle.std.proofs.lemmas.List.{drop-append-le, length-drop}
 use Rattle.css_model.specs.declared.token.TokenKind.{TokenKind}
 use Rattle.css_model.specs.declared.token.TokenKind.TheVariants as kind
-use Rattle.css_model.specs.Characters.{space, open_round, close_round, begins}
-use Rattle.css_model.specs.Units.{name_start, name_len}
-use Rattle.css_model.specs.TokenAt.{done, opened_shape, named_shape}
+use Rattle.css_model.specs.Text.Characters.{space, open_round, close_round, begins}
+use Rattle.css_model.specs.Text.Units.{name_start, name_len}
+use Rattle.css_model.specs.Text.TokenAt.{done, opened_shape, named_shape}
 use Rattle.css_tokens.specs.OpenEscape.{ends_open}
 use Rattle.css_tokens.proofs.LastBytes.{LastIs, last_behind, last_closed, only_is, done_len, opened_last, IsShut}
 use Rattle.css_tokens.proofs.RuleBounds.{opened_len}

@@ -3,9 +3,9 @@ use Rattle.std.proofs.Common.{ℕ, zero, suc, ◌+◌, ◌≤◌, ◌≡◌, Boo
 use Rattle.std.proofs.lemmas.Bool.{eqb-true, ne_eqb}
 use Rattle.std.proofs.lemmas.List.{drop-append-le, drop-drop, length-drop}
 use Rattle.std.specs.Char.{is_ascii_digit}
-use Rattle.css_model.specs.Characters.{space, backslash, dot, is_plus_or_minus}
-use Rattle.css_model.specs.Runs.{run}
-use Rattle.css_model.specs.Units.{digit_unit, fraction, decimal, signed_decimal, signed_digits, exponent, number_len, one_and}
+use Rattle.css_model.specs.Text.Characters.{space, backslash, dot, is_plus_or_minus}
+use Rattle.css_model.specs.Text.Runs.{run}
+use Rattle.css_model.specs.Text.Units.{digit_unit, fraction, decimal, signed_decimal, signed_digits, exponent, number_len, one_and}
 use Rattle.css_tokens.specs.OpenEscape.{ends_open}
 
 -- A length that fits a text is the same before a white space, and its bytes do not tell whether the text

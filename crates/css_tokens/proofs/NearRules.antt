@@ -6,9 +6,9 @@ use Rattle.css_model.specs.declared.token.TokenKind.{TokenKind}
 use Rattle.css_model.specs.declared.token.TokenFlaw.{TokenFlaw}
 use Rattle.css_model.specs.declared.token.TokenFlaw.TheVariants as flaw
 use Rattle.css_model.specs.declared.token.TokenKind.TheVariants as kind
-use Rattle.css_model.specs.Characters.{space, backslash, dash, slash, star, hash, percent, less_than, at_sign, open_round, begins}
-use Rattle.css_model.specs.Units.{name_unit, name_start, name_len, number_len}
-use Rattle.css_model.specs.TokenAt.{Shape, done, slash_shape, comment_shape, hash_shape, number_shape, less_shape, at_shape}
+use Rattle.css_model.specs.Text.Characters.{space, backslash, dash, slash, star, hash, percent, less_than, at_sign, open_round, begins}
+use Rattle.css_model.specs.Text.Units.{name_unit, name_start, name_len, number_len}
+use Rattle.css_model.specs.Text.TokenAt.{Shape, done, slash_shape, comment_shape, hash_shape, number_shape, less_shape, at_shape}
 use Rattle.css_tokens.specs.OpenEscape.{ends_open}
 use Rattle.css_tokens.proofs.OpenUnits.{run_zero}
 use Rattle.css_tokens.proofs.OpenRuns.{run_near, name_start_same}

@@ -3,12 +3,12 @@ use Rattle.std.proofs.Common.{ℕ, suc, ◌≤◌, ◌≡◌, inl, Bool, true, f
 use Rattle.std.proofs.lemmas.Bool.{eqb-true, ltb-false, false≢true}
 use Rattle.css_model.specs.declared.token.TokenKind.{TokenKind}
 use Rattle.css_model.specs.declared.token.TokenKind.TheVariants as kind
-use Rattle.css_model.specs.Characters.{space, backslash, dash, slash, hash, less_than, greater_than, at_sign, is_white, is_sign, begins}
-use Rattle.css_model.specs.Kept.{is_lone}
-use Rattle.css_model.specs.Lexemes.{is_white_kind}
-use Rattle.css_model.specs.Runs.{run}
-use Rattle.css_model.specs.Units.{white_unit, name_unit, name_start, signed_decimal, number_len}
-use Rattle.css_model.specs.TokenAt.{Shape, rule_at, done, is_quote, slash_shape, string_shape, hash_shape, number_shape, less_shape, at_shape, named_shape, word_at, symbol_at}
+use Rattle.css_model.specs.Text.Characters.{space, backslash, dash, slash, hash, less_than, greater_than, at_sign, is_white, is_sign, begins}
+use Rattle.css_model.specs.Text.Kept.{is_lone}
+use Rattle.css_model.specs.Text.Lexemes.{is_white_kind}
+use Rattle.css_model.specs.Text.Runs.{run}
+use Rattle.css_model.specs.Text.Units.{white_unit, name_unit, name_start, signed_decimal, number_len}
+use Rattle.css_model.specs.Text.TokenAt.{Shape, rule_at, done, is_quote, slash_shape, string_shape, hash_shape, number_shape, less_shape, at_shape, named_shape, word_at, symbol_at}
 use Rattle.css_tokens.specs.OpenEscape.{ends_open}
 use Rattle.css_tokens.proofs.NearNumbers.{signed_decimal_pass}
 use Rattle.css_tokens.specs.Alike.{ends_itself}

@@ -4,9 +4,9 @@ use Rattle.std.proofs.lemmas.Bool.{eqb-true, ltb-true, ltb-false, lt-ltb, le-ltb
 use Rattle.std.proofs.lemmas.List.{drop_at, drop-append-le, length-append, length-drop, take-append-drop}
 use Rattle.css_model.specs.declared.token.TokenKind.{TokenKind}
 use Rattle.css_model.specs.declared.token.TokenKind.TheVariants as kind
-use Rattle.css_model.specs.Characters.{percent, begins}
-use Rattle.css_model.specs.Units.{name_start, name_len, number_len, signed_decimal, signed_digits}
-use Rattle.css_model.specs.TokenAt.{number_shape, done}
+use Rattle.css_model.specs.Text.Characters.{percent, begins}
+use Rattle.css_model.specs.Text.Units.{name_start, name_len, number_len, signed_decimal, signed_digits}
+use Rattle.css_model.specs.Text.TokenAt.{number_shape, done}
 use Rattle.css_tokens.specs.Alike.{Alike, ends_itself, is_exponent}
 use Rattle.css_tokens.proofs.NamesAgain.{name_again, name_start_le}
 use Rattle.css_tokens.proofs.NumbersAgain.{NumberEnds, number_same, number_again}

@@ -2,9 +2,9 @@
 use Rattle.std.proofs.Common.{ℕ, zero, suc, ◌≤◌, ◌≡◌, inl, inr, ◌⊎◌, Bool, true, false, cond, ◌==◌, List, [], ◌∷◌, ◌++◌, length, drop, refl, sym, ap, ◌∙◌, arith}
 use Rattle.std.proofs.lemmas.Bool.{eqb-true, or_cases}
 use Rattle.std.proofs.lemmas.List.{drop-append-le, length-drop}
-use Rattle.css_model.specs.Characters.{dot, is_plus_or_minus}
-use Rattle.css_model.specs.Runs.{run}
-use Rattle.css_model.specs.Units.{digit_unit, fraction, decimal, signed_decimal, signed_digits, exponent, number_len, name_start, one_and}
+use Rattle.css_model.specs.Text.Characters.{dot, is_plus_or_minus}
+use Rattle.css_model.specs.Text.Runs.{run}
+use Rattle.css_model.specs.Text.Units.{digit_unit, fraction, decimal, signed_decimal, signed_digits, exponent, number_len, name_start, one_and}
 use Rattle.css_tokens.specs.Alike.{Alike, is_exponent}
 use Rattle.css_tokens.proofs.Keeps.{run_fits, seq_same}
 use Rattle.css_tokens.proofs.UnitsAgain.{digit_fits}

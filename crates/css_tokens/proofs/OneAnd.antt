@@ -1,6 +1,6 @@
 -- A byte and what follows it, where something does.
 use Rattle.std.proofs.Common.{ℕ, zero, suc, ◌<◌, ◌≤◌, ◌≡◌, refl, arith}
-use Rattle.css_model.specs.Units.{one_and}
+use Rattle.css_model.specs.Text.Units.{one_and}
 
 pub one_and_le : (n : ℕ) → one_and n ≤ suc n
 one_and_le zero = omega arith

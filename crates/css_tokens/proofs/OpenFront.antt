@@ -1,11 +1,11 @@
 -- What stands before an open token does not see whether that takes a white space.
 use Rattle.std.proofs.Common.{ℕ, zero, suc, ◌≡◌, Bool, true, false, cond, ◌==◌, List, [], ◌∷◌, ◌++◌, drop, refl, sym, ap, ◌∙◌, subst, arith}
 use Rattle.std.proofs.lemmas.Bool.{false≢true, eqb-true}
-use Rattle.css_model.specs.Characters.{backslash, dash, dot, is_white, is_start, is_name, is_plus_or_minus, begins_with}
-use Rattle.css_model.specs.Runs.{run}
-use Rattle.css_model.specs.Units.{escape_after, name_unit, start_unit, name_start, digit_unit, fraction, decimal, signed_digits, one_and}
-use Rattle.css_model.specs.TokenAt.{is_quote}
-use Rattle.css_model.specs.Tokens.{Part}
+use Rattle.css_model.specs.Text.Characters.{backslash, dash, dot, is_white, is_start, is_name, is_plus_or_minus, first_passes}
+use Rattle.css_model.specs.Text.Runs.{run}
+use Rattle.css_model.specs.Text.Units.{escape_after, name_unit, start_unit, name_start, digit_unit, fraction, decimal, signed_digits, one_and}
+use Rattle.css_model.specs.Text.TokenAt.{is_quote}
+use Rattle.css_model.specs.Text.Tokens.{Part}
 use Rattle.css_tokens.specs.Alike.{EndsAlike, begins_bang_dashes}
 use Rattle.css_tokens.specs.OpenEscape.{ends_open}
 use Rattle.css_tokens.proofs.AlikeLemmas.{white_none, escape_first, digit_first}
@@ -84,14 +84,14 @@ ends_two p a b xs ys no_white name bang = record {
     at_hash = λ _. unit_two a b xs ys;
     at_at_sign = λ _. name;
     at_dashes = λ _ _ none. none;
-    at_url = λ _ _ _ _ quote. ap (begins_with is_quote) (after_white_none (a ∷ b ∷ ys) no_white) ∙ ap (begins_with is_quote) (sym (after_white_none (a ∷ b ∷ xs) no_white)) ∙ quote;
+    at_url = λ _ _ _ _ quote. ap (first_passes is_quote) (after_white_none (a ∷ b ∷ ys) no_white) ∙ ap (first_passes is_quote) (sym (after_white_none (a ∷ b ∷ xs) no_white)) ∙ quote;
     at_exponent = λ _ _ _ _ _. signed_two a b xs ys;
   };
   through = record { at_bang = λ _ none. none; at_white = λ _ quote. quote };
 }
 
 -- an open token is an escape of one digit, or longer
-pub ends_before_open : (p : Part) (v old new : List ℕ) → ends_open v ≡ true → begins_with is_white v ≡ false → EndsAlike p (v ++ old) (v ++ new)
+pub ends_before_open : (p : Part) (v old new : List ℕ) → ends_open v ≡ true → first_passes is_white v ≡ false → EndsAlike p (v ++ old) (v ++ new)
 ends_before_open p [] old new is no_white = absurd (false≢true is)
 ends_before_open p (a ∷ []) old new is no_white = absurd (which (a == backslash) is)
   where

@@ -3,10 +3,10 @@ use Rattle.std.proofs.Common.{ℕ, zero, suc, ◌+◌, ◌<◌, ◌≤◌, ◌�
 use Rattle.std.proofs.lemmas.Bool.{eqb-true, false≢true, lt-ltb}
 use Rattle.std.proofs.lemmas.List.{append-nil}
 use Rattle.std.specs.Char.{is_ascii_hexdigit}
-use Rattle.css_model.specs.Characters.{space, backslash, dash, is_newline, is_name, is_start, begins}
-use Rattle.css_model.specs.Runs.{run_from, run}
-use Rattle.css_model.specs.Units.{hex_rest, escape_after, name_unit, start_unit, name_start, one_and}
-use Rattle.css_model.specs.Unescaped.{less_one}
+use Rattle.css_model.specs.Text.Characters.{space, backslash, dash, is_newline, is_name, is_start, begins}
+use Rattle.css_model.specs.Text.Runs.{run_from, run}
+use Rattle.css_model.specs.Text.Units.{hex_rest, escape_after, name_unit, start_unit, name_start, one_and}
+use Rattle.css_model.specs.Lists.{less_one}
 use Rattle.css_tokens.proofs.NamesAgain.{start_le_unit, name_start_le}
 use Rattle.css_tokens.proofs.UnitsAgain.{escape_two}
 use Rattle.css_tokens.proofs.RunLemmas.{run_none}

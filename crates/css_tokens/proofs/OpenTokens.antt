@@ -5,11 +5,11 @@ use Rattle.std.proofs.lemmas.List.{length-append, drop_at}
 use Rattle.css_model.specs.declared.token.TokenKind.{TokenKind}
 use Rattle.css_model.specs.declared.token.TokenFlaw.{TokenFlaw}
 use Rattle.css_model.specs.declared.token.TokenKind.TheVariants as kind
-use Rattle.css_model.specs.Characters.{space, quote, backslash}
-use Rattle.css_model.specs.Kept.{is_lone, is_open, length_of}
-use Rattle.css_model.specs.Lexemes.{is_white_kind}
-use Rattle.css_model.specs.Units.{white_unit}
-use Rattle.css_model.specs.TokenAt.{Shape, rule_at, part_at, within, done}
+use Rattle.css_model.specs.Text.Characters.{space, quote, backslash}
+use Rattle.css_model.specs.Text.Kept.{is_lone, is_open, length_of}
+use Rattle.css_model.specs.Text.Lexemes.{is_white_kind}
+use Rattle.css_model.specs.Text.Units.{white_unit}
+use Rattle.css_model.specs.Text.TokenAt.{Shape, rule_at, part_at, within, done}
 use Rattle.css_tokens.specs.OpenEscape.{ends_open}
 use Rattle.css_tokens.proofs.NearRules.{near_len, Nearly, Apart}
 use Rattle.css_tokens.specs.Alike.{ends_itself}

@@ -1,9 +1,9 @@
 -- Names before a white space: where they end in an open escape, it takes that white space.
 use Rattle.std.proofs.Common.{ℕ, zero, suc, ◌+◌, ◌<◌, ◌≤◌, ◌≡◌, Bool, true, false, cond, ◌==◌, ◌&&◌, List, [], ◌∷◌, ◌++◌, length, refl, arith}
 use Rattle.std.specs.Char.{is_ascii_hexdigit}
-use Rattle.css_model.specs.Characters.{space, line_feed, carriage_return, is_newline, is_white, begins}
-use Rattle.css_model.specs.Runs.{run_from, run, unit_then}
-use Rattle.css_model.specs.Units.{white_unit, hex_rest, escape_after}
+use Rattle.css_model.specs.Text.Characters.{space, line_feed, carriage_return, is_newline, is_white, begins}
+use Rattle.css_model.specs.Text.Runs.{run_from, run, unit_then}
+use Rattle.css_model.specs.Text.Units.{white_unit, hex_rest, escape_after}
 use Rattle.css_tokens.specs.OpenEscape.{is_open_hex, is_open_escape}
 use Rattle.css_tokens.proofs.Keeps.{unit_le_run}
 use Rattle.css_tokens.proofs.UnitsAgain.{escape_two}

@@ -4,13 +4,13 @@ use Rattle.std.proofs.lemmas.Bool.{false≢true, eq-eqb, eqb-true}
 use Rattle.std.proofs.lemmas.List.{drop_at}
 use Rattle.css_model.specs.declared.token.TokenKind.{TokenKind}
 use Rattle.css_model.specs.declared.token.TokenKind.TheVariants as kind
-use Rattle.css_model.specs.Characters.{backslash, slash, is_white, begins, begins_with}
-use Rattle.css_model.specs.Kept.{is_lone}
-use Rattle.css_model.specs.Lexemes.{is_white_kind}
-use Rattle.css_model.specs.Runs.{run}
-use Rattle.css_model.specs.Units.{white_unit}
-use Rattle.css_model.specs.TokenAt.{part_at, is_quote, after_white}
-use Rattle.css_model.specs.Tokens.{Part, text_of}
+use Rattle.css_model.specs.Text.Characters.{backslash, slash, is_white, begins, first_passes}
+use Rattle.css_model.specs.Text.Kept.{is_lone}
+use Rattle.css_model.specs.Text.Lexemes.{is_white_kind}
+use Rattle.css_model.specs.Text.Runs.{run}
+use Rattle.css_model.specs.Text.Units.{white_unit}
+use Rattle.css_model.specs.Text.TokenAt.{part_at, is_quote, after_white}
+use Rattle.css_model.specs.Text.Tokens.{Part, text_of}
 use Rattle.css_tokens.specs.Lexed.{IsLexed}
 use Rattle.css_tokens.proofs.PartLemmas.{part_len, part_rule}
 use Rattle.css_tokens.proofs.PartKinds.{RuleKind, rule_kind}
@@ -19,7 +19,7 @@ use Rattle.css_tokens.proofs.RuleBounds.{quote_is}
 
 pub record WhiteIs (k : Option TokenKind) (v rest : List ℕ) : Type 0 where
   pub kind : k ≡ Some kind.White
-  pub first : begins_with is_white v ≡ true
+  pub first : first_passes is_white v ≡ true
   pub row : run white_unit (v ++ rest) ≡ length v
 
 pub record CommentIs (k : Option TokenKind) (v : List ℕ) : Type 0 where
@@ -32,7 +32,7 @@ pub record SolidIs (k : Option TokenKind) (v : List ℕ) : Type 0 where
   pub kind : k ≡ Some token
   pub solid : is_white_kind token ≡ false
   pub some : 0 < length v
-  pub first : begins_with is_white v ≡ false
+  pub first : first_passes is_white v ≡ false
   pub lone : is_lone token ≡ true → v ≡ backslash ∷ []
 
 abbrev pub PartIs : Option TokenKind → List ℕ → List ℕ → Type 0
@@ -59,16 +59,16 @@ part_is k (c ∷ cs) rest is = which (rule_kind c (cs ++ rest) (k, suc (length c
     }))
 
 -- the first byte of a text that begins with a part
-pub first_of : (test : ℕ → Bool) (v rest : List ℕ) → 0 < length v → begins_with test (v ++ rest) ≡ begins_with test v
+pub first_of : (test : ℕ → Bool) (v rest : List ℕ) → 0 < length v → first_passes test (v ++ rest) ≡ first_passes test v
 first_of test [] rest some = absurd (omega arith)
 first_of test (c ∷ cs) rest some = refl
 
 -- where no white space begins
-pub white_none_of : (text : List ℕ) → begins_with is_white text ≡ false → white_unit text ≡ 0
+pub white_none_of : (text : List ℕ) → first_passes is_white text ≡ false → white_unit text ≡ 0
 white_none_of [] none = refl
 white_none_of (c ∷ cs) none = rw none refl
 
-pub after_white_none : (text : List ℕ) → begins_with is_white text ≡ false → after_white text ≡ text
+pub after_white_none : (text : List ℕ) → first_passes is_white text ≡ false → after_white text ≡ text
 after_white_none text none = ap (λ (n : ℕ). drop n text) (run_none white_unit text (white_none_of text none))
 
 -- a comment or white space
@@ -95,25 +95,25 @@ gap_cut (p ∷ ps) = which (is_gap p.kind) (gap_cut ps)
     which false later = refl
 
 -- from a solid on no white space begins
-pub solid_no_white : (ps : List Part) → IsLexed ps → begins_with is_white (from_solid ps) ≡ false
+pub solid_no_white : (ps : List Part) → IsLexed ps → first_passes is_white (from_solid ps) ≡ false
 solid_no_white [] lexed = refl
 solid_no_white (p ∷ ps) (here, lexed) = which (part_is p.kind p.bytes (text_of ps) here) (solid_no_white ps lexed)
   where
-    which : PartIs p.kind p.bytes (text_of ps) → begins_with is_white (from_solid ps) ≡ false → begins_with is_white (from_solid (p ∷ ps)) ≡ false
+    which : PartIs p.kind p.bytes (text_of ps) → first_passes is_white (from_solid ps) ≡ false → first_passes is_white (from_solid (p ∷ ps)) ≡ false
     which (inl white) later = rw white.kind later
     which (inr (inl comment)) later = rw comment.kind later
     which (inr (inr solid)) later = rw (solid.kind, solid.solid) (first_of is_white p.bytes (text_of ps) solid.some ∙ solid.first)
 
 -- parts whose text begins with a quote begin with a solid
-quote_solid : (ps : List Part) → IsLexed ps → begins_with is_quote (text_of ps) ≡ true → from_solid ps ≡ text_of ps
+quote_solid : (ps : List Part) → IsLexed ps → first_passes is_quote (text_of ps) ≡ true → from_solid ps ≡ text_of ps
 quote_solid [] lexed quote = refl
 quote_solid (p ∷ ps) (here, lexed) quote = which (part_is p.kind p.bytes (text_of ps) here)
   where
-    no_white : (v rest : List ℕ) → begins_with is_white v ≡ true → begins_with is_quote (v ++ rest) ≡ true → ⊥
+    no_white : (v rest : List ℕ) → first_passes is_white v ≡ true → first_passes is_quote (v ++ rest) ≡ true → ⊥
     no_white [] rest white quote = false≢true white
     no_white (c ∷ cs) rest white quote = quote_is (λ (c : ℕ). is_white c ≡ true → ⊥) false≢true false≢true c quote white
 
-    no_slash : (v rest : List ℕ) → begins slash v ≡ true → begins_with is_quote (v ++ rest) ≡ true → ⊥
+    no_slash : (v rest : List ℕ) → begins slash v ≡ true → first_passes is_quote (v ++ rest) ≡ true → ⊥
     no_slash [] rest first quote = false≢true first
     no_slash (c ∷ cs) rest first quote = quote_is (λ (c : ℕ). (c == slash) ≡ true → ⊥) false≢true false≢true c quote first
 
@@ -126,24 +126,24 @@ pub slash_first : (v rest : List ℕ) → begins slash v ≡ true → begins sla
 slash_first [] rest first = absurd (false≢true first)
 slash_first (c ∷ cs) rest first = first
 
-pub slash_unquoted : (text : List ℕ) → begins slash text ≡ true → begins_with is_quote (after_white text) ≡ true → ⊥
+pub slash_unquoted : (text : List ℕ) → begins slash text ≡ true → first_passes is_quote (after_white text) ≡ true → ⊥
 slash_unquoted [] first quote = false≢true first
 slash_unquoted (c ∷ cs) first quote =
     let none : is_white c ≡ false = rw (eqb-true c slash first) refl in
-    let is : is_quote c ≡ true = ap (begins_with is_quote) (sym (after_white_none (c ∷ cs) none)) ∙ quote in
+    let is : is_quote c ≡ true = ap (first_passes is_quote) (sym (after_white_none (c ∷ cs) none)) ∙ quote in
     quote_is (λ (c : ℕ). (c == slash) ≡ true → ⊥) false≢true false≢true c is first
 
 -- white space in front of a quote is a gap before it
-pub quote_behind : (ps : List Part) → IsLexed ps → begins_with is_quote (after_white (text_of ps)) ≡ true → begins_with is_quote (from_solid ps) ≡ true
+pub quote_behind : (ps : List Part) → IsLexed ps → first_passes is_quote (after_white (text_of ps)) ≡ true → first_passes is_quote (from_solid ps) ≡ true
 quote_behind [] lexed quote = quote
 quote_behind (p ∷ ps) (here, lexed) quote = which (part_is p.kind p.bytes (text_of ps) here)
   where
-    which : PartIs p.kind p.bytes (text_of ps) → begins_with is_quote (from_solid (p ∷ ps)) ≡ true
+    which : PartIs p.kind p.bytes (text_of ps) → first_passes is_quote (from_solid (p ∷ ps)) ≡ true
     which (inl white) =
         let rest : after_white (p.bytes ++ text_of ps) ≡ text_of ps = ap (λ (n : ℕ). drop n (p.bytes ++ text_of ps)) white.row ∙ drop_at p.bytes (text_of ps) (length p.bytes) refl in
-        let is : begins_with is_quote (text_of ps) ≡ true = ap (begins_with is_quote) (sym rest) ∙ quote in
-        rw white.kind (ap (begins_with is_quote) (quote_solid ps lexed is) ∙ is)
+        let is : first_passes is_quote (text_of ps) ≡ true = ap (first_passes is_quote) (sym rest) ∙ quote in
+        rw white.kind (ap (first_passes is_quote) (quote_solid ps lexed is) ∙ is)
     which (inr (inl comment)) = absurd (slash_unquoted (p.bytes ++ text_of ps) (slash_first p.bytes (text_of ps) comment.first) quote)
     which (inr (inr solid)) =
-        let none : begins_with is_white (p.bytes ++ text_of ps) ≡ false = first_of is_white p.bytes (text_of ps) solid.some ∙ solid.first in
-        rw (solid.kind, solid.solid) (ap (begins_with is_quote) (sym (after_white_none (p.bytes ++ text_of ps) none)) ∙ quote)
+        let none : first_passes is_white (p.bytes ++ text_of ps) ≡ false = first_of is_white p.bytes (text_of ps) solid.some ∙ solid.first in
+        rw (solid.kind, solid.solid) (ap (first_passes is_quote) (sym (after_white_none (p.bytes ++ text_of ps) none)) ∙ quote)

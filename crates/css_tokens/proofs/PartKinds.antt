@@ -5,13 +5,13 @@ use Rattle.css_model.specs.declared.token.TokenKind.{TokenKind}
 use Rattle.css_model.specs.declared.token.TokenFlaw.{TokenFlaw}
 use Rattle.css_model.specs.declared.token.TokenFlaw.TheVariants as flaw
 use Rattle.css_model.specs.declared.token.TokenKind.TheVariants as kind
-use Rattle.css_model.specs.Characters.{dash, backslash, slash, star, hash, percent, less_than, greater_than, at_sign, open_round, close_round, is_newline, is_white, is_sign, begins, begins_with}
-use Rattle.css_model.specs.Kept.{is_lone}
-use Rattle.css_model.specs.Lexemes.{is_white_kind}
-use Rattle.css_model.specs.Runs.{run}
-use Rattle.css_model.specs.Units.{white_unit, name_unit, name_start, name_len, string_unit, url_unit, signed_decimal, number_len}
-use Rattle.css_model.specs.Unescaped.{is_url}
-use Rattle.css_model.specs.TokenAt.{Shape, rule_at, done, is_quote, slash_shape, comment_shape, string_shape, hash_shape, number_shape, less_shape, at_shape, url_shape, url_end, opened_shape, named_shape, word_at, symbol_at, after_white}
+use Rattle.css_model.specs.Text.Characters.{dash, backslash, slash, star, hash, percent, less_than, greater_than, at_sign, open_round, close_round, is_newline, is_white, is_sign, begins, first_passes}
+use Rattle.css_model.specs.Text.Kept.{is_lone}
+use Rattle.css_model.specs.Text.Lexemes.{is_white_kind}
+use Rattle.css_model.specs.Text.Runs.{run}
+use Rattle.css_model.specs.Text.Units.{white_unit, name_unit, name_start, name_len, string_unit, url_unit, signed_decimal, number_len}
+use Rattle.css_model.specs.Text.Names.{is_url}
+use Rattle.css_model.specs.Text.TokenAt.{Shape, rule_at, done, is_quote, slash_shape, comment_shape, string_shape, hash_shape, number_shape, less_shape, at_shape, url_shape, url_end, opened_shape, named_shape, word_at, symbol_at, after_white}
 
 -- a token that is neither white space nor a lone backslash
 record IsCalm (s : Shape) : Type 0 where
@@ -43,7 +43,7 @@ string_calm : (q : ℕ) (cs : List ℕ) → Calm (string_shape q cs)
 string_calm q cs =
     let rest = drop (run (string_unit q) cs) cs in
     calm_if (begins q rest) _ _ (calm_done kind.Str (2 + run (string_unit q) cs) refl refl)
-    (calm_if (begins_with is_newline rest) _ _ (calm_flaw flaw.BadString) (calm_flaw flaw.EndInside))
+    (calm_if (first_passes is_newline rest) _ _ (calm_flaw flaw.BadString) (calm_flaw flaw.EndInside))
 
 hash_calm : (cs : List ℕ) → Calm (hash_shape cs)
 hash_calm cs =
@@ -74,7 +74,7 @@ url_calm n text = let rest = drop (run url_unit text) text in end_calm (n + run 
 opened_calm : (name : List ℕ) (n : ℕ) (rest : List ℕ) → Calm (opened_shape name n rest)
 opened_calm name n rest =
     let called = calm_done kind.Function n refl refl in
-    calm_if (is_url name) _ _ (calm_if (begins_with is_quote (after_white rest)) _ _ called (url_calm (n + run white_unit rest) (after_white rest))) called
+    calm_if (is_url name) _ _ (calm_if (first_passes is_quote (after_white rest)) _ _ called (url_calm (n + run white_unit rest) (after_white rest))) called
 
 named_calm : (text : List ℕ) → Calm (named_shape text)
 named_calm text =

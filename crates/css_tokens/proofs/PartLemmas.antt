@@ -5,11 +5,11 @@ use Rattle.css_model.specs.declared.token.TokenKind.{TokenKind}
 use Rattle.css_model.specs.declared.token.TokenFlaw.{TokenFlaw}
 use Rattle.css_model.specs.declared.token.TokenFlaw.TheVariants as flaw
 use Rattle.css_model.specs.declared.token.TokenKind.TheVariants as kind
-use Rattle.css_model.specs.Characters.{dash, backslash, slash, star, hash, is_start, is_white, is_sign, open_round, begins, begins_with}
-use Rattle.css_model.specs.Runs.{run}
-use Rattle.css_model.specs.Units.{white_unit, comment_unit, url_unit, name_unit, start_unit, name_start, name_len, number_len, signed_decimal, escape_after}
-use Rattle.css_model.specs.TokenAt.{Shape, rule_at, part_at, within, slash_shape, comment_shape, string_shape, hash_shape, number_shape, less_shape, at_shape, url_shape, url_end, opened_shape, named_shape, word_at, symbol_at, done, is_quote, after_white}
-use Rattle.css_model.specs.Unescaped.{is_url}
+use Rattle.css_model.specs.Text.Characters.{dash, backslash, slash, star, hash, is_start, is_white, is_sign, open_round, begins, first_passes}
+use Rattle.css_model.specs.Text.Runs.{run}
+use Rattle.css_model.specs.Text.Units.{white_unit, comment_unit, url_unit, name_unit, start_unit, name_start, name_len, number_len, signed_decimal, escape_after}
+use Rattle.css_model.specs.Text.TokenAt.{Shape, rule_at, part_at, within, slash_shape, comment_shape, string_shape, hash_shape, number_shape, less_shape, at_shape, url_shape, url_end, opened_shape, named_shape, word_at, symbol_at, done, is_quote, after_white}
+use Rattle.css_model.specs.Text.Names.{is_url}
 use Rattle.css_tokens.proofs.RunLemmas.{run_unit}
 
 -- what a rule reads, if it reads anything, has this property
@@ -71,8 +71,8 @@ module _ (P : Shape → Type 0) (token : (k : TokenKind) (n : ℕ) → 0 < n →
   opened_some name n rest positive =
       let ended = url_some (n + run white_unit rest) (after_white rest) (omega arith) in
       let called : Holds P (done kind.Function n) = some_token kind.Function n positive in
-      either (is_url name) (cond (begins_with is_quote (after_white rest)) (done kind.Function n) (url_shape (n + run white_unit rest) (after_white rest)))
-      (done kind.Function n) (either (begins_with is_quote (after_white rest)) (done kind.Function n) (url_shape (n + run white_unit rest) (after_white rest)) called ended) called
+      either (is_url name) (cond (first_passes is_quote (after_white rest)) (done kind.Function n) (url_shape (n + run white_unit rest) (after_white rest)))
+      (done kind.Function n) (either (first_passes is_quote (after_white rest)) (done kind.Function n) (url_shape (n + run white_unit rest) (after_white rest)) called ended) called
 
   named_some : (text : List ℕ) → 0 < name_len text → Holds P (named_shape text)
   named_some text positive =

@@ -4,14 +4,14 @@ use Rattle.std.proofs.lemmas.Bool.{cases_lt}
 use Rattle.std.proofs.lemmas.List.{length-drop}
 use Rattle.css_model.specs.declared.token.Token.{Token}
 use Rattle.css_model.specs.declared.token.TokenFlaw.{TokenFlaw}
-use Rattle.css_model.specs.TokenAt.{Shape, part_at}
-use Rattle.css_model.specs.Tokens.{Stream, parts, placed}
+use Rattle.css_model.specs.Text.TokenAt.{Shape, part_at}
+use Rattle.css_model.specs.Text.Tokens.{Stream, parts, stream_of}
 use Rattle.css_tokens.specs.Laws.{StandsIn, Restarts, TokensRestart}
 use Rattle.css_tokens.proofs.PartLemmas.{part_len}
 use Rattle.css_tokens.proofs.StreamLemmas.{next_comment, next_token, next_flaw, next_end}
 
 -- the tokens behind comments that end at this place
-pub restarts : (n : ℕ) (source : List ℕ) (from at : ℕ) (comment : Bool) → length source - at ≤ n → from ≤ at → Restarts source from (placed at comment (parts (drop at source))).tokens
+pub restarts : (n : ℕ) (source : List ℕ) (from at : ℕ) (comment : Bool) → length source - at ≤ n → from ≤ at → Restarts source from (stream_of at comment (parts (drop at source))).tokens
 restarts zero source from at comment short low = subst (λ (s : Stream). Restarts source from s.tokens) (sym (next_end source at comment (omega arith))) tt
 restarts (suc n) source from at comment short low =
     which (part_at (drop at source)) refl
@@ -19,8 +19,8 @@ restarts (suc n) source from at comment short low =
     (cases_lt at (length source))
   where
     which : (r : Result Shape TokenFlaw) → part_at (drop at source) ≡ r
-        → ((from at : ℕ) (comment : Bool) → length source - at ≤ n → from ≤ at → Restarts source from (placed at comment (parts (drop at source))).tokens)
-        → (at < length source) ⊎ (length source ≤ at) → Restarts source from (placed at comment (parts (drop at source))).tokens
+        → ((from at : ℕ) (comment : Bool) → length source - at ≤ n → from ≤ at → Restarts source from (stream_of at comment (parts (drop at source))).tokens)
+        → (at < length source) ⊎ (length source ≤ at) → Restarts source from (stream_of at comment (parts (drop at source))).tokens
     which r is later (inr past) = subst (λ (s : Stream). Restarts source from s.tokens) (sym (next_end source at comment past)) tt
     which (Err f) is later (inl below) = subst (λ (s : Stream). Restarts source from s.tokens) (sym (next_flaw source at comment f below is)) tt
     which (Ok (None, m)) is later (inl below) =

@@ -5,11 +5,11 @@ use Rattle.std.proofs.lemmas.Bool.{eqb-true, or_cases, and_parts, and_left, or_f
 use Rattle.css_model.specs.declared.token.TokenKind.{TokenKind}
 use Rattle.css_model.specs.declared.token.TokenKind.TheVariants as kind
 use Rattle.css_model.specs.declared.token.TokenFlaw.{TokenFlaw}
-use Rattle.css_model.specs.Characters.{dash, plus, dot, backslash, slash, hash, quote, apostrophe, less_than, at_sign, greater_than, is_start, is_white, is_newline, is_plus_or_minus, is_sign, open_round, begins, begins_with}
-use Rattle.css_model.specs.Runs.{run}
-use Rattle.css_model.specs.Units.{white_unit, url_unit, name_start, name_len, decimal, signed_decimal, number_len}
-use Rattle.css_model.specs.Unescaped.{is_url}
-use Rattle.css_model.specs.TokenAt.{Shape, rule_at, symbol_at, word_at, slash_shape, string_shape, hash_shape, number_shape, less_shape, at_shape, url_shape, url_end, opened_shape, named_shape, done, is_quote, after_white}
+use Rattle.css_model.specs.Text.Characters.{dash, plus, dot, backslash, slash, hash, quote, apostrophe, less_than, at_sign, greater_than, is_start, is_white, is_newline, is_plus_or_minus, is_sign, open_round, begins, first_passes}
+use Rattle.css_model.specs.Text.Runs.{run}
+use Rattle.css_model.specs.Text.Units.{white_unit, url_unit, name_start, name_len, decimal, signed_decimal, number_len}
+use Rattle.css_model.specs.Text.Names.{is_url}
+use Rattle.css_model.specs.Text.TokenAt.{Shape, rule_at, symbol_at, word_at, slash_shape, string_shape, hash_shape, number_shape, less_shape, at_shape, url_shape, url_end, opened_shape, named_shape, done, is_quote, after_white}
 use Rattle.css_tokens.proofs.NamesAgain.{name_start_le}
 use Rattle.css_tokens.proofs.OneAnd.{some_one_and}
 
@@ -48,8 +48,8 @@ opened_least name n rest =
     let behind = drop (run url_unit inner) inner in
     let ended : AtLeast n (url_shape (n + run white_unit rest) inner) =
     url_end_least n (n + run white_unit rest + run url_unit inner + run white_unit behind) (after_white behind) (omega arith) in
-    let either = either_least n (begins_with is_quote inner) (done kind.Function n) (url_shape (n + run white_unit rest) inner) called ended in
-    either_least n (is_url name) (cond (begins_with is_quote inner) (done kind.Function n) (url_shape (n + run white_unit rest) inner)) (done kind.Function n) either called
+    let either = either_least n (first_passes is_quote inner) (done kind.Function n) (url_shape (n + run white_unit rest) inner) called ended in
+    either_least n (is_url name) (cond (first_passes is_quote inner) (done kind.Function n) (url_shape (n + run white_unit rest) inner)) (done kind.Function n) either called
 
 pub opened_len : (name : List ℕ) (n : ℕ) (rest : List ℕ) (s : Shape) → opened_shape name n rest ≡ Ok s → n ≤ s.1
 opened_len name n rest s is = least_of n (opened_shape name n rest) s (opened_least name n rest) is

@@ -1,9 +1,9 @@
 -- The rules that the first byte does not decide.
 use Rattle.std.proofs.Common.{ℕ, ◌<◌, ◌≡◌, true, false, ltb, ◌==◌, List, [], ◌∷◌, length, drop, get_or, refl, arith}
 use Rattle.std.proofs.lemmas.Bool.{lt-ltb, le-ltb, eq-eqb, ne_eqb}
-use Rattle.css_model.specs.Characters.{less_than, at_sign}
-use Rattle.css_model.specs.Units.{signed_decimal, number_len}
-use Rattle.css_model.specs.TokenAt.{symbol_at, number_shape, less_shape, at_shape}
+use Rattle.css_model.specs.Text.Characters.{less_than, at_sign}
+use Rattle.css_model.specs.Text.Units.{signed_decimal, number_len}
+use Rattle.css_model.specs.Text.TokenAt.{symbol_at, number_shape, less_shape, at_shape}
 
 pub symbol_number : (text : List ℕ) → 0 < length text → 0 < signed_decimal text → symbol_at text ≡ number_shape (number_len text) (drop (number_len text) text)
 symbol_number [] some number = absurd (omega arith)

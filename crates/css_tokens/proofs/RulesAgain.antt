@@ -5,10 +5,10 @@ use Rattle.std.proofs.lemmas.List.{length-append}
 use Rattle.css_model.specs.declared.token.TokenKind.{TokenKind}
 use Rattle.css_model.specs.declared.token.TokenKind.TheVariants as kind
 use Rattle.css_model.specs.declared.token.TokenFlaw.{TokenFlaw}
-use Rattle.css_model.specs.Characters.{star, slash, hash, less_than, at_sign, is_white, begins}
-use Rattle.css_model.specs.Runs.{run}
-use Rattle.css_model.specs.Units.{white_unit, signed_decimal, number_len}
-use Rattle.css_model.specs.TokenAt.{Shape, part_at, within, rule_at, symbol_at, word_at, slash_shape, comment_shape, string_shape, hash_shape, number_shape, less_shape, at_shape, done, is_quote}
+use Rattle.css_model.specs.Text.Characters.{star, slash, hash, less_than, at_sign, is_white, begins}
+use Rattle.css_model.specs.Text.Runs.{run}
+use Rattle.css_model.specs.Text.Units.{white_unit, signed_decimal, number_len}
+use Rattle.css_model.specs.Text.TokenAt.{Shape, part_at, within, rule_at, symbol_at, word_at, slash_shape, comment_shape, string_shape, hash_shape, number_shape, less_shape, at_shape, done, is_quote}
 use Rattle.css_tokens.specs.Alike.{Alike, LooksAlike, PartsEndAlike, ends_itself, begins_bang_dashes}
 use Rattle.css_tokens.proofs.Keeps.{run_fits}
 use Rattle.css_tokens.proofs.UnitsAgain.{white_fits}

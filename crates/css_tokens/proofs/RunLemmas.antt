@@ -1,7 +1,7 @@
 -- A run, one unit at a time, and the law that it is the longest row.
 use Rattle.std.proofs.Common.{ℕ, zero, suc, ◌+◌, ◌<◌, ◌≤◌, ◌≡◌, List, [], ◌∷◌, length, drop, refl, sym, ap, ◌∙◌, arith, zero-add}
 use Rattle.std.proofs.lemmas.List.{drop-drop, length-drop}
-use Rattle.css_model.specs.Runs.{run_from, run, IsRow, RunsAreLongest}
+use Rattle.css_model.specs.Text.Runs.{run_from, run, IsRow, RunsAreLongest}
 
 pub run_from-drop : (unit : List ℕ → ℕ) (left : ℕ) (text : List ℕ) → run_from unit left text ≡ left + run unit (drop left text)
 run_from-drop unit zero text = sym (zero-add (run unit text))

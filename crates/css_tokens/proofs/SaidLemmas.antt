@@ -6,7 +6,8 @@ use Rattle.std.proofs.Math.Nat.{pow-suc, pow-le-pow_right}
 use Rattle.std.proofs.Math.Numerals.{add-one}
 use Rattle.std.proofs.lemmas.List.{drop_more, drop-drop}
 use Rattle.std.proofs.lemmas.Bool.{and_left, ne_eqb, ltb-true}
-use Rattle.css_model.specs.Unescaped.{hex_value, first_len, first_text, less_one, unescaped_from, unescaped}
+use Rattle.css_model.specs.Text.Names.{hex_value, first_len, first_text, unescaped_from, unescaped}
+use Rattle.css_model.specs.Lists.{less_one}
 
 pub unescaped_from-drop : (left : ℕ) (text : List ℕ) → unescaped_from left text ≡ unescaped (drop left text)
 unescaped_from-drop zero text = refl

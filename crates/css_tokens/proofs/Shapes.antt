@@ -4,7 +4,7 @@ use Rattle.std.proofs.lemmas.Bool.{lt-ltb}
 use Rattle.std.proofs.lemmas.List.{length-append}
 use Rattle.css_model.specs.declared.token.TokenKind.{TokenKind}
 use Rattle.css_model.specs.declared.token.TokenFlaw.{TokenFlaw}
-use Rattle.css_model.specs.TokenAt.{Shape}
+use Rattle.css_model.specs.Text.TokenAt.{Shape}
 
 -- the same test, and two branches that end alike
 pub chosen_again : {A : Type 0} (b : Bool) (x y x' y' z : A) → (b ≡ true → x ≡ z → x' ≡ z) → (b ≡ false → y ≡ z → y' ≡ z) → cond b x y ≡ z → cond b x' y' ≡ z

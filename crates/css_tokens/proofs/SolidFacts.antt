@@ -5,12 +5,12 @@ use Rattle.std.specs.Char.{is_ascii_hexdigit}
 use Rattle.css_model.specs.declared.token.Gap.TheVariants as gap
 use Rattle.css_model.specs.declared.token.TokenKind.{TokenKind}
 use Rattle.css_model.specs.declared.token.TokenKind.TheVariants as kind
-use Rattle.css_model.specs.Characters.{backslash, slash, space, tab, is_newline, is_white, begins, begins_with}
-use Rattle.css_model.specs.Kept.{Solid, is_lone}
-use Rattle.css_model.specs.Lexemes.{is_white_kind}
-use Rattle.css_model.specs.Units.{escape_after, hex_rest}
-use Rattle.css_model.specs.TokenAt.{part_at}
-use Rattle.css_model.specs.Tokens.{Part, text_of}
+use Rattle.css_model.specs.Text.Characters.{backslash, slash, space, tab, is_newline, is_white, begins, first_passes}
+use Rattle.css_model.specs.Text.Kept.{Solid, is_lone}
+use Rattle.css_model.specs.Text.Lexemes.{is_white_kind}
+use Rattle.css_model.specs.Text.Units.{escape_after, hex_rest}
+use Rattle.css_model.specs.Text.TokenAt.{part_at}
+use Rattle.css_model.specs.Text.Tokens.{Part, text_of}
 use Rattle.css_tokens.specs.Lexed.{IsLexed}
 use Rattle.css_tokens.specs.Solids.{gap_before, solids, is_function}
 use Rattle.css_tokens.proofs.AlikeLemmas.{part_bounds, escape_short}
@@ -52,11 +52,11 @@ plain_of kind.Url white called lone = refl
 plain_of (kind.Sign c) white called lone = refl
 
 -- white space stands at the front of parts whose text begins with it
-white_gap : (ps : List Part) → IsLexed ps → begins_with is_white (text_of ps) ≡ true → gap_before false ps ≡ gap.White
+white_gap : (ps : List Part) → IsLexed ps → first_passes is_white (text_of ps) ≡ true → gap_before false ps ≡ gap.White
 white_gap [] lexed white = absurd (false≢true white)
 white_gap (p ∷ ps) (here, lexed) white = which (part_is p.kind p.bytes (text_of ps) here)
   where
-    slash_first : (v rest : List ℕ) → begins slash v ≡ true → begins_with is_white (v ++ rest) ≡ true → ⊥
+    slash_first : (v rest : List ℕ) → begins slash v ≡ true → first_passes is_white (v ++ rest) ≡ true → ⊥
     slash_first [] rest first white = false≢true first
     slash_first (c ∷ cs) rest first white = false≢true (rw (eqb-true c slash first) at white)
 
@@ -75,7 +75,7 @@ lone_gap k v ps alone here lexed = white_gap ps lexed (newline (text_of ps) none
     none : escape_after (text_of ps) ≡ 0
     none = escape_short (text_of ps) (part_bounds (backslash ∷ []) (text_of ps) (Some k) read).name
 
-    newline : (text : List ℕ) → escape_after text ≡ 0 → begins_with is_white text ≡ true
+    newline : (text : List ℕ) → escape_after text ≡ 0 → first_passes is_white text ≡ true
     newline [] none = absurd (omega (arith, none))
     newline (c ∷ cs) none = which (is_newline c) refl
       where

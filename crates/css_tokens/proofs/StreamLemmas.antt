@@ -4,8 +4,8 @@ use Rattle.std.proofs.lemmas.List.{length-take-le, length-append, length-drop, d
 use Rattle.css_model.specs.declared.token.TokenKind.{TokenKind}
 use Rattle.css_model.specs.declared.token.TokenFlaw.{TokenFlaw}
 use Rattle.css_model.specs.declared.token.Token.{Token}
-use Rattle.css_model.specs.TokenAt.{part_at}
-use Rattle.css_model.specs.Tokens.{Parts, Stream, part_then, parts_from, parts, text_of, placed, fault_at}
+use Rattle.css_model.specs.Text.TokenAt.{part_at}
+use Rattle.css_model.specs.Text.Tokens.{Parts, Stream, part_then, parts_from, parts, text_of, stream_of, fault_at}
 use Rattle.css_tokens.proofs.PartLemmas.{part_len}
 
 pub parts_from-drop : (left : ℕ) (text : List ℕ) → parts_from left text ≡ parts (drop left text)
@@ -27,7 +27,7 @@ parts_flaw (c ∷ cs) f some is = rw is refl
 
 -- a comment at the front, and what follows it
 pub placed_comment : (at n : ℕ) (comment : Bool) (text : List ℕ) (more : Parts) → n ≤ length text
-    → placed at comment (part_then (Ok (None, n)) text more) ≡ placed (at + n) true more
+    → stream_of at comment (part_then (Ok (None, n)) text more) ≡ stream_of (at + n) true more
 placed_comment at n comment text more short =
     let len = length-take-le n text short in
     let behind : at + length (take n text ++ text_of more.parts) ≡ at + n + length (text_of more.parts) = omega (arith, len, length-append (take n text) (text_of more.parts)) in
@@ -35,8 +35,8 @@ placed_comment at n comment text more short =
 
 -- a token at the front, and what follows it
 pub placed_token : (at n : ℕ) (comment : Bool) (k : TokenKind) (text : List ℕ) (more : Parts) → n ≤ length text
-    → placed at comment (part_then (Ok (Some k, n)) text more)
-    ≡ record { tokens = record { kind = k; span = record { start = at; «end» = at + n }; comment_before = comment } ∷ (placed (at + n) false more).tokens; fault = (placed (at + n) false more).fault }
+    → stream_of at comment (part_then (Ok (Some k, n)) text more)
+    ≡ record { tokens = record { kind = k; span = record { start = at; «end» = at + n }; comment_before = comment } ∷ (stream_of (at + n) false more).tokens; fault = (stream_of (at + n) false more).fault }
 placed_token at n comment k text more short =
     let len = length-take-le n text short in
     let behind : at + length (take n text ++ text_of more.parts) ≡ at + n + length (text_of more.parts) = omega (arith, len, length-append (take n text) (text_of more.parts)) in
@@ -44,13 +44,13 @@ placed_token at n comment k text more short =
 
 -- a place where a comment stands
 pub next_comment : (source : List ℕ) (at n : ℕ) (comment : Bool) → part_at (drop at source) ≡ Ok (None, n)
-    → placed at comment (parts (drop at source)) ≡ placed (at + n) true (parts (drop (at + n) source))
+    → stream_of at comment (parts (drop at source)) ≡ stream_of (at + n) true (parts (drop (at + n) source))
 next_comment source at n comment is =
     let rest = drop at source in
     let len = part_len rest (None, n) is in
-    ap (placed at comment) (parts_part rest None n is len.0 len.1)
+    ap (stream_of at comment) (parts_part rest None n is len.0 len.1)
     ∙ placed_comment at n comment rest (parts (drop n rest)) len.1
-    ∙ ap (λ (cs : List ℕ). placed (at + n) true (parts cs)) (drop-drop n at source)
+    ∙ ap (λ (cs : List ℕ). stream_of (at + n) true (parts cs)) (drop-drop n at source)
 
 -- a token before the others
 abbrev pub token_before : Token → Stream → Stream
@@ -58,22 +58,22 @@ token_before t others = record { tokens = t ∷ others.tokens; fault = others.fa
 
 -- a place where a token stands
 pub next_token : (source : List ℕ) (at n : ℕ) (comment : Bool) (k : TokenKind) → part_at (drop at source) ≡ Ok (Some k, n)
-    → placed at comment (parts (drop at source))
-    ≡ token_before (record { kind = k; span = record { start = at; «end» = at + n }; comment_before = comment }) (placed (at + n) false (parts (drop (at + n) source)))
+    → stream_of at comment (parts (drop at source))
+    ≡ token_before (record { kind = k; span = record { start = at; «end» = at + n }; comment_before = comment }) (stream_of (at + n) false (parts (drop (at + n) source)))
 next_token source at n comment k is =
     let rest = drop at source in
     let len = part_len rest (Some k, n) is in
-    ap (placed at comment) (parts_part rest (Some k) n is len.0 len.1)
+    ap (stream_of at comment) (parts_part rest (Some k) n is len.0 len.1)
     ∙ placed_token at n comment k rest (parts (drop n rest)) len.1
-    ∙ ap (λ (cs : List ℕ). token_before (record { kind = k; span = record { start = at; «end» = at + n }; comment_before = comment }) (placed (at + n) false (parts cs))) (drop-drop n at source)
+    ∙ ap (λ (cs : List ℕ). token_before (record { kind = k; span = record { start = at; «end» = at + n }; comment_before = comment }) (stream_of (at + n) false (parts cs))) (drop-drop n at source)
 
 -- a place where nothing can be read
 pub next_flaw : (source : List ℕ) (at : ℕ) (comment : Bool) (f : TokenFlaw) → at < length source → part_at (drop at source) ≡ Err f
-    → placed at comment (parts (drop at source)) ≡ record { tokens = []; fault = Some (fault_at at f) }
+    → stream_of at comment (parts (drop at source)) ≡ record { tokens = []; fault = Some (fault_at at f) }
 next_flaw source at comment f inside is =
-    ap (placed at comment) (parts_flaw (drop at source) f (omega (arith, length-drop at source)) is)
+    ap (stream_of at comment) (parts_flaw (drop at source) f (omega (arith, length-drop at source)) is)
     ∙ ap (λ (place : ℕ). record { tokens = []; fault = Some (fault_at place f) }) (add-zero at)
 
 -- the end
-pub next_end : (source : List ℕ) (at : ℕ) (comment : Bool) → length source ≤ at → placed at comment (parts (drop at source)) ≡ record { tokens = []; fault = None }
-next_end source at comment past = ap (λ (cs : List ℕ). placed at comment (parts cs)) (drop_all at source past)
+pub next_end : (source : List ℕ) (at : ℕ) (comment : Bool) → length source ≤ at → stream_of at comment (parts (drop at source)) ≡ record { tokens = []; fault = None }
+next_end source at comment past = ap (λ (cs : List ℕ). stream_of at comment (parts cs)) (drop_all at source past)

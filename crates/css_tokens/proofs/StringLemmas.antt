@@ -3,9 +3,9 @@ use Rattle.std.proofs.Common.{ℕ, zero, suc, ◌+◌, ◌-◌, ◌<◌, ◌≤�
 use Rattle.std.proofs.lemmas.Bool.{false_from_ne_true, or_parts, cases_lt}
 use Rattle.std.proofs.lemmas.List.{get_or-take, length-take-le, drop-drop, drop_all, take_rest}
 use Rattle.memchr.specs.Find.{IsFirstByte, is_byte2, is_byte3}
-use Rattle.css_model.specs.Characters.{backslash, line_feed, carriage_return, form_feed}
-use Rattle.css_model.specs.Runs.{run}
-use Rattle.css_model.specs.Units.{string_unit}
+use Rattle.css_model.specs.Text.Characters.{backslash, line_feed, carriage_return, form_feed}
+use Rattle.css_model.specs.Text.Runs.{run}
+use Rattle.css_model.specs.Text.Units.{string_unit}
 use Rattle.css_tokens.specs.Plain.{IsPlain}
 
 -- what stands before the first byte that passes a test, or before the end, fails it

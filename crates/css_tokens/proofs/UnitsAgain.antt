@@ -1,8 +1,8 @@
 -- The units of tokens before another rest in which nothing begins that did not begin in the first.
 use Rattle.std.proofs.Common.{ℕ, zero, suc, ◌+◌, ◌<◌, ◌≤◌, ◌≡◌, Bool, true, false, cond, ◌&&◌, ◌||◌, ◌==◌, List, [], ◌∷◌, ◌++◌, length, refl, sym, ap, ◌∙◌, arith}
 use Rattle.std.specs.Char.{is_ascii_hexdigit}
-use Rattle.css_model.specs.Characters.{line_feed, carriage_return, backslash, close_round, is_newline, is_white, is_name, is_bad_in_url, begins, begins_with}
-use Rattle.css_model.specs.Units.{white_unit, hex_rest, escape_after, name_unit, url_unit, digit_unit, string_unit, string_escape}
+use Rattle.css_model.specs.Text.Characters.{line_feed, carriage_return, backslash, close_round, is_newline, is_white, is_name, is_bad_in_url, begins, first_passes}
+use Rattle.css_model.specs.Text.Units.{white_unit, hex_rest, escape_after, name_unit, url_unit, digit_unit, string_unit, string_escape}
 use Rattle.css_tokens.specs.Alike.{Alike}
 use Rattle.css_tokens.proofs.Keeps.{Keeps, Fits}
 
@@ -29,7 +29,7 @@ hex_zero : (text : List ℕ) → hex_rest 0 text ≡ white_unit text
 hex_zero [] = refl
 hex_zero (c ∷ cs) = refl
 
-hex_none : (n : ℕ) (text : List ℕ) → hex_rest (suc n) text ≡ 0 → (begins_with is_ascii_hexdigit text ≡ false) × (white_unit text ≡ 0)
+hex_none : (n : ℕ) (text : List ℕ) → hex_rest (suc n) text ≡ 0 → (first_passes is_ascii_hexdigit text ≡ false) × (white_unit text ≡ 0)
 hex_none n [] none = (refl, refl)
 hex_none n (c ∷ cs) none = which (is_ascii_hexdigit c) refl none
   where
@@ -37,7 +37,7 @@ hex_none n (c ∷ cs) none = which (is_ascii_hexdigit c) refl none
     which true is none = absurd (omega (arith, none))
     which false is none = (is, none)
 
-hex_stops : (n : ℕ) (text : List ℕ) → begins_with is_ascii_hexdigit text ≡ false → white_unit text ≡ 0 → hex_rest (suc n) text ≡ 0
+hex_stops : (n : ℕ) (text : List ℕ) → first_passes is_ascii_hexdigit text ≡ false → white_unit text ≡ 0 → hex_rest (suc n) text ≡ 0
 hex_stops n [] none white = refl
 hex_stops n (c ∷ cs) none white = rw none white
 

@@ -6,10 +6,10 @@ use Rattle.css_model.specs.declared.token.TokenKind.{TokenKind}
 use Rattle.css_model.specs.declared.token.TokenKind.TheVariants as kind
 use Rattle.css_model.specs.declared.token.TokenFlaw.{TokenFlaw}
 use Rattle.css_model.specs.declared.token.TokenFlaw.TheVariants as flaw
-use Rattle.css_model.specs.Characters.{close_round, begins, begins_with}
-use Rattle.css_model.specs.Runs.{run}
-use Rattle.css_model.specs.Units.{white_unit, escape_after, url_unit}
-use Rattle.css_model.specs.TokenAt.{Shape, url_shape, done, is_quote, after_white}
+use Rattle.css_model.specs.Text.Characters.{close_round, begins, first_passes}
+use Rattle.css_model.specs.Text.Runs.{run}
+use Rattle.css_model.specs.Text.Units.{white_unit, escape_after, url_unit}
+use Rattle.css_model.specs.Text.TokenAt.{Shape, url_shape, done, is_quote, after_white}
 use Rattle.css_tokens.specs.Alike.{Alike, begins_quoted}
 use Rattle.css_tokens.proofs.Keeps.{Fits, run_fits, seq_same}
 use Rattle.css_tokens.proofs.UnitsAgain.{white_fits, url_fits}
@@ -58,7 +58,7 @@ inner_same old new w fits =
     (units_same old new (drop (run white_unit (w ++ close_round ∷ old)) w))
     (λ _ last. white_same old new (drop (run url_unit (drop (run white_unit (w ++ close_round ∷ old)) w ++ close_round ∷ old)) (drop (run white_unit (w ++ close_round ∷ old)) w)) last) rest) fits
 
-quote_same : (old new t : List ℕ) → begins_with is_quote (t ++ close_round ∷ new) ≡ begins_with is_quote (t ++ close_round ∷ old)
+quote_same : (old new t : List ℕ) → first_passes is_quote (t ++ close_round ∷ new) ≡ first_passes is_quote (t ++ close_round ∷ old)
 quote_same old new [] = refl
 quote_same old new (c ∷ cs) = refl
 
@@ -68,7 +68,7 @@ quoted_same old new w fits =
     let same = white_same old new w fits in
     let before : after_white (w ++ close_round ∷ old) ≡ drop m w ++ close_round ∷ old = drop-append-le m w (close_round ∷ old) fits in
     let now : after_white (w ++ close_round ∷ new) ≡ drop m w ++ close_round ∷ new = ap (λ (n : ℕ). drop n (w ++ close_round ∷ new)) same ∙ drop-append-le m w (close_round ∷ new) fits in
-    ap (λ (cs : List ℕ). begins_with is_quote cs) now ∙ quote_same old new (drop m w) ∙ sym (ap (λ (cs : List ℕ). begins_with is_quote cs) before)
+    ap (λ (cs : List ℕ). first_passes is_quote cs) now ∙ quote_same old new (drop m w) ∙ sym (ap (λ (cs : List ℕ). first_passes is_quote cs) before)
 
 -- a url, after n bytes of it
 abbrev pub url_of : ℕ → List ℕ → Result Shape TokenFlaw

@@ -10,12 +10,12 @@ use Rattle.std.proofs.Math.Seq.{take-append_seam, drop-append_seam}
 use Rattle.css_model.specs.declared.token.TokenKind.{TokenKind}
 use Rattle.css_model.specs.declared.token.TokenKind.TheVariants as kind
 use Rattle.css_model.specs.declared.token.TokenFlaw.{TokenFlaw}
-use Rattle.css_model.specs.Characters.{dash, slash, star, hash, is_start, is_name, is_white, is_sign, is_newline, carriage_return, line_feed, less_than, greater_than, at_sign, percent, open_round, close_round, begins, begins_with}
-use Rattle.css_model.specs.Runs.{run}
-use Rattle.css_model.specs.Units.{white_unit, comment_unit, url_unit, string_unit, name_unit, start_unit, name_start, name_len, number_len, one_and, signed_decimal}
-use Rattle.css_model.specs.TokenAt.{Shape, rule_at, part_at, slash_shape, comment_shape, string_shape, hash_shape, number_shape, less_shape, at_shape, url_shape, url_end, opened_shape, named_shape, word_at, symbol_at, done, is_quote, after_white}
-use Rattle.css_model.specs.Tokens.{Part, text_of}
-use Rattle.css_model.specs.Unescaped.{is_url}
+use Rattle.css_model.specs.Text.Characters.{dash, slash, star, hash, is_start, is_name, is_white, is_sign, is_newline, carriage_return, line_feed, less_than, greater_than, at_sign, percent, open_round, close_round, begins, first_passes}
+use Rattle.css_model.specs.Text.Runs.{run}
+use Rattle.css_model.specs.Text.Units.{white_unit, comment_unit, url_unit, string_unit, name_unit, start_unit, name_start, name_len, number_len, one_and, signed_decimal}
+use Rattle.css_model.specs.Text.TokenAt.{Shape, rule_at, part_at, slash_shape, comment_shape, string_shape, hash_shape, number_shape, less_shape, at_shape, url_shape, url_end, opened_shape, named_shape, word_at, symbol_at, done, is_quote, after_white}
+use Rattle.css_model.specs.Text.Tokens.{Part, text_of}
+use Rattle.css_model.specs.Text.Names.{is_url}
 use Rattle.css_tokens.specs.Lexed.{IsLexed}
 use Rattle.css_tokens.proofs.CommentLemmas.{closes}
 use Rattle.css_tokens.proofs.CommentParts.{star_closes}
@@ -164,8 +164,8 @@ opened_whole text name whole n is =
     let call : Holds (WholeShape text) (done kind.Function (n + 1)) = ends text (Some kind.Function) (n + 1) (behind_low text whole n open_round is (omega arith)) in
     let url : Holds (WholeShape text) (url_shape (n + 1 + k) (after_white rest)) =
     subst (λ inner. Holds (WholeShape text) (url_shape (n + 1 + k) inner)) (sym (drop-drop k (n + 1) text)) (url_whole text whole (n + 1 + k)) in
-    branch (is_url name) (cond (begins_with is_quote (after_white rest)) (done kind.Function (n + 1)) (url_shape (n + 1 + k) (after_white rest))) (done kind.Function (n + 1))
-    (λ _. branch (begins_with is_quote (after_white rest)) (done kind.Function (n + 1)) (url_shape (n + 1 + k) (after_white rest)) (λ _. call) (λ _. url))
+    branch (is_url name) (cond (first_passes is_quote (after_white rest)) (done kind.Function (n + 1)) (url_shape (n + 1 + k) (after_white rest))) (done kind.Function (n + 1))
+    (λ _. branch (first_passes is_quote (after_white rest)) (done kind.Function (n + 1)) (url_shape (n + 1 + k) (after_white rest)) (λ _. call) (λ _. url))
     (λ _. call)
 
 named_whole : (text : List ℕ) → IsUtf8 text → Holds (WholeShape text) (named_shape text)
@@ -228,7 +228,7 @@ string_whole c cs whole low =
     let n = run (string_unit c) cs in
     branch (begins c (drop n cs)) (done kind.Str (2 + n)) _
     (λ is. ends (c ∷ cs) _ (2 + n) (λ within. subst (IsCharBoundary (c ∷ cs)) (let e : suc n + 1 ≡ 2 + n = omega arith in e) (behind_low (c ∷ cs) whole (suc n) c is low (omega (arith, within)))))
-    (λ _. branch (begins_with is_newline (drop n cs)) (Err _) (Err _) (λ _. no_end (c ∷ cs) _) (λ _. no_end (c ∷ cs) _))
+    (λ _. branch (first_passes is_newline (drop n cs)) (Err _) (Err _) (λ _. no_end (c ∷ cs) _) (λ _. no_end (c ∷ cs) _))
 
 slash_whole : (c : ℕ) (cs : List ℕ) → IsUtf8 (c ∷ cs) → c < 128 → Holds (WholeShape (c ∷ cs)) (slash_shape cs)
 slash_whole c [] whole low = ends (c ∷ []) _ 1 (one_low c [] whole low)

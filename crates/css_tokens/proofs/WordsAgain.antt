@@ -5,10 +5,10 @@ use Rattle.std.proofs.lemmas.Bool.{eqb-true, ltb-true, ltb-false, lt-ltb, le-ltb
 use Rattle.css_model.specs.declared.token.TokenKind.{TokenKind}
 use Rattle.css_model.specs.declared.token.TokenKind.TheVariants as kind
 use Rattle.css_model.specs.declared.token.TokenFlaw.{TokenFlaw}
-use Rattle.css_model.specs.Characters.{plus, dash, dot, backslash, less_than, greater_than, at_sign, is_sign, is_plus_or_minus, open_round, begins}
-use Rattle.css_model.specs.Runs.{run}
-use Rattle.css_model.specs.Units.{name_len, digit_unit, start_unit, name_start, decimal, signed_decimal, one_and}
-use Rattle.css_model.specs.TokenAt.{Shape, word_at, less_shape, at_shape, named_shape, opened_shape, done}
+use Rattle.css_model.specs.Text.Characters.{plus, dash, dot, backslash, less_than, greater_than, at_sign, is_sign, is_plus_or_minus, open_round, begins}
+use Rattle.css_model.specs.Text.Runs.{run}
+use Rattle.css_model.specs.Text.Units.{name_len, digit_unit, start_unit, name_start, decimal, signed_decimal, one_and}
+use Rattle.css_model.specs.Text.TokenAt.{Shape, word_at, less_shape, at_shape, named_shape, opened_shape, done}
 use Rattle.css_tokens.specs.Alike.{Alike, LooksAlike, ends_itself}
 use Rattle.css_tokens.proofs.RunLemmas.{run_none}
 use Rattle.css_tokens.proofs.Keeps.{unit_le_run}

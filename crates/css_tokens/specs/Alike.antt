@@ -4,16 +4,16 @@ use Rattle.std.specs.Prelude.{ℕ, ◌≡◌, ◌==◌, ◌&&◌, ◌||◌, Bool
 use Rattle.std.specs.Char.{is_ascii_hexdigit}
 use Rattle.css_model.specs.declared.token.TokenKind.{TokenKind}
 use Rattle.css_model.specs.declared.token.TokenKind.TheVariants as kind
-use Rattle.css_model.specs.Characters.{line_feed, hash, percent, open_round, star, dash, dot, slash, less_than, greater_than, at_sign, backslash, begins, begins_with, is_plus_or_minus}
-use Rattle.css_model.specs.Units.{white_unit, escape_after, name_unit, name_start, digit_unit, fraction, decimal, signed_digits}
-use Rattle.css_model.specs.Unescaped.{is_url}
-use Rattle.css_model.specs.TokenAt.{part_at, after_white, is_quote}
-use Rattle.css_model.specs.Tokens.{Part, text_of}
+use Rattle.css_model.specs.Text.Characters.{line_feed, hash, percent, open_round, star, dash, dot, slash, less_than, greater_than, at_sign, backslash, begins, first_passes, is_plus_or_minus}
+use Rattle.css_model.specs.Text.Units.{white_unit, escape_after, name_unit, name_start, digit_unit, fraction, decimal, signed_digits}
+use Rattle.css_model.specs.Text.Names.{is_url}
+use Rattle.css_model.specs.Text.TokenAt.{part_at, after_white, is_quote}
+use Rattle.css_model.specs.Text.Tokens.{Part, text_of}
 use Rattle.css_tokens.specs.Lexed.{IsLexed}
 
 -- What does not begin in one rest does not begin in another.
 pub record Alike (old new : List ℕ) : Type 0 where
-  pub hex : begins_with is_ascii_hexdigit old ≡ false → begins_with is_ascii_hexdigit new ≡ false
+  pub hex : first_passes is_ascii_hexdigit old ≡ false → first_passes is_ascii_hexdigit new ≡ false
   pub white : white_unit old ≡ 0 → white_unit new ≡ 0
   pub feed : begins line_feed old ≡ false → begins line_feed new ≡ false
   pub unit : name_unit old ≡ 0 → name_unit new ≡ 0
@@ -51,7 +51,7 @@ begins_bang_dashes text = begins 33 text && (begins dash (drop 1 text) && begins
 
 -- white space and a quote
 abbrev pub begins_quoted : List ℕ → Bool
-begins_quoted text = begins_with is_quote (after_white text)
+begins_quoted text = first_passes is_quote (after_white text)
 
 abbrev pub is_exponent : ℕ → Bool
 is_exponent c = c == 101 || c == 69
@@ -82,7 +82,7 @@ pub record LooksAlike (kind_of : Option TokenKind) (bytes old new : List ℕ) : 
 -- `url(` see a quote.
 pub record LooksThrough (kind_of : Option TokenKind) (old new : List ℕ) : Type 0 where
   pub at_bang : kind_of ≡ Some (kind.Delim 33) → begins_dashes old ≡ false → begins_dashes new ≡ false
-  pub at_white : kind_of ≡ Some kind.White → begins_with is_quote old ≡ true → begins_with is_quote new ≡ true
+  pub at_white : kind_of ≡ Some kind.White → first_passes is_quote old ≡ true → first_passes is_quote new ≡ true
 
 -- all of this of one part
 pub record EndsAlike (p : Part) (old new : List ℕ) : Type 0 where

@@ -4,11 +4,11 @@ use Rattle.std.specs.List.{flat_map, AllByRecursion}
 use Rattle.css_model.specs.declared.token.Token.{Token}
 use Rattle.css_model.specs.declared.token.TokenFault.{TokenFault}
 use Rattle.css_model.specs.declared.token.TokenFault.TheVariants as fault
-use Rattle.css_model.specs.Characters.{slash, star}
-use Rattle.css_model.specs.Runs.{run}
-use Rattle.css_model.specs.TokenAt.{part_at}
-use Rattle.css_model.specs.Units.{comment_unit}
-use Rattle.css_model.specs.Tokens.{parts, text_of, stream}
+use Rattle.css_model.specs.Text.Characters.{slash, star}
+use Rattle.css_model.specs.Text.Runs.{run}
+use Rattle.css_model.specs.Text.TokenAt.{part_at}
+use Rattle.css_model.specs.Text.Units.{comment_unit}
+use Rattle.css_model.specs.Text.Tokens.{parts, text_of, stream}
 
 -- The parts of a text, joined, are its front, and the whole text where nothing is wrong with it.
 abbrev pub PartsJoin : Type 0

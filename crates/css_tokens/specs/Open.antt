@@ -3,10 +3,10 @@
 use Rattle.std.specs.Prelude.{ℕ, suc, ◌≡◌, true, false, List, [], ◌∷◌, ◌++◌, length, Some, Ok, ◌==◌}
 use Rattle.std.specs.Char.{is_ascii_hexdigit}
 use Rattle.css_model.specs.declared.token.TokenKind.{TokenKind}
-use Rattle.css_model.specs.Characters.{backslash, space, begins_with}
-use Rattle.css_model.specs.Kept.{is_lone, is_open}
-use Rattle.css_model.specs.Lexemes.{is_white_kind}
-use Rattle.css_model.specs.TokenAt.{part_at, is_quote, after_white}
+use Rattle.css_model.specs.Text.Characters.{backslash, space, first_passes}
+use Rattle.css_model.specs.Text.Kept.{is_lone, is_open}
+use Rattle.css_model.specs.Text.Lexemes.{is_white_kind}
+use Rattle.css_model.specs.Text.TokenAt.{part_at, is_quote, after_white}
 use Rattle.css_tokens.specs.Alike.{ends_itself}
 
 -- these bytes are read before `old` as a token of this kind, which is no white space and no lone backslash
@@ -18,7 +18,7 @@ pub record IsRead (v old : List ℕ) (k : TokenKind) : Type 0 where
 -- Where white space and a string follow, they still do: `url(` before anything else is no function
 -- (section 4.3.4).
 abbrev pub KeepsQuote : List ℕ → List ℕ → Type 0
-KeepsQuote old new = begins_with is_quote (after_white old) ≡ true → begins_with is_quote (after_white new) ≡ true
+KeepsQuote old new = first_passes is_quote (after_white old) ≡ true → first_passes is_quote (after_white new) ≡ true
 
 -- a white space behind a token that is not open is no part of it
 abbrev pub SpaceEnds : Type 0

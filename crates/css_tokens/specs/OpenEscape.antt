@@ -1,9 +1,9 @@
 -- Texts that end in an escape of hex digits to which a white space behind it would belong.
 use Rattle.std.specs.Prelude.{ℕ, zero, suc, ◌==◌, ◌&&◌, ◌||◌, Bool, true, false, if◌then◌else◌, List, [], ◌∷◌}
 use Rattle.std.specs.Char.{is_ascii_hexdigit}
-use Rattle.css_model.specs.Characters.{backslash}
-use Rattle.css_model.specs.Unescaped.{less_one}
-use Rattle.css_model.specs.Units.{escape_after}
+use Rattle.css_model.specs.Text.Characters.{backslash}
+use Rattle.css_model.specs.Lists.{less_one}
+use Rattle.css_model.specs.Text.Units.{escape_after}
 
 -- at most n hex digits and nothing else
 abbrev pub is_open_hex : ℕ → List ℕ → Bool

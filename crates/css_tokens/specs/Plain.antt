@@ -1,6 +1,6 @@
 -- The bytes that stand for themselves inside a string.
 use Rattle.std.specs.Prelude.{ℕ, ◌≡◌, ◌==◌, false}
-use Rattle.css_model.specs.Characters.{backslash, is_newline}
+use Rattle.css_model.specs.Text.Characters.{backslash, is_newline}
 
 -- neither the quote nor a backslash nor a newline
 pub record IsPlain (quote c : ℕ) : Type 0 where

@@ -5,10 +5,10 @@ use Rattle.css_model.specs.declared.token.Gap.{Gap}
 use Rattle.css_model.specs.declared.token.Gap.TheVariants as gap
 use Rattle.css_model.specs.declared.token.TokenKind.{TokenKind}
 use Rattle.css_model.specs.declared.token.TokenKind.TheVariants as kind
-use Rattle.css_model.specs.Characters.{space, exclamation_mark, open_round, is_sign}
-use Rattle.css_model.specs.Kept.{Solid, solid, is_lone, is_open, is_white_gap, kept, value_text}
-use Rattle.css_model.specs.Lexemes.{is_white_kind, lexemes}
-use Rattle.css_model.specs.Tokens.{Part, parts, text_of, stream}
+use Rattle.css_model.specs.Text.Characters.{space, exclamation_mark, open_round, is_sign}
+use Rattle.css_model.specs.Text.Kept.{Solid, solid, is_lone, is_open, is_white_gap, kept, value_text}
+use Rattle.css_model.specs.Text.Lexemes.{is_white_kind, lexemes}
+use Rattle.css_model.specs.Text.Tokens.{Part, parts, text_of, stream}
 use Rattle.css_tokens.specs.Alike.{begins_dashes}
 use Rattle.css_tokens.specs.Lexed.{IsLexed}
 

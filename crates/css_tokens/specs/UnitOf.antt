@@ -1,6 +1,6 @@
 -- The units that the reader's runs are made of.
 use Rattle.std.specs.Prelude.{ℕ, List}
-use Rattle.css_model.specs.Units.{white_unit, name_unit, digit_unit, url_unit}
+use Rattle.css_model.specs.Text.Units.{white_unit, name_unit, digit_unit, url_unit}
 use Rattle.css_tokens.specs.declared.runs.Unit.{Unit}
 use Rattle.css_tokens.specs.declared.runs.Unit.TheVariants.{White, Name, Digit, Url}
 

@@ -1,7 +1,7 @@
 //! The classes of code points (CSS Syntax 3, section 4.2), on the bytes of their UTF-8.
 
 ghost use Rattle.std.specs.Prelude.{◌≡◌, drop, take};
-ghost use Rattle.css_model.specs.Characters as classes;
+ghost use Rattle.css_model.specs.Text.Characters as classes;
 
 pub(crate) fn is_newline(c: u8) -> bool
     ensures { result ≡ classes.is_newline c }

@@ -1,9 +1,9 @@
 //! Comments (CSS Syntax 3, section 4.3.2).
 
 ghost use Rattle.std.specs.Prelude.{◌≡◌, ◌≤◌, ◌+◌, length, drop, false, true, MatchOption};
-ghost use Rattle.css_model.specs.Characters.{star, begins};
-ghost use Rattle.css_model.specs.Runs.{run};
-ghost use Rattle.css_model.specs.Units.{comment_unit};
+ghost use Rattle.css_model.specs.Text.Characters.{star, begins};
+ghost use Rattle.css_model.specs.Text.Runs.{run};
+ghost use Rattle.css_model.specs.Text.Units.{comment_unit};
 
 use memchr::memmem;
 

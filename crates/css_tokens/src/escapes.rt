@@ -3,7 +3,7 @@
 
 ghost use Rattle.std.specs.Prelude.{◌≡◌, List, ℕ};
 ghost use Rattle.css_model.specs.declared.token.TokenKind.{TokenKind};
-ghost use Rattle.css_model.specs.Kept.{is_open};
+ghost use Rattle.css_model.specs.Text.Kept.{is_open};
 ghost use Rattle.css_tokens.specs.Open.{IsRead};
 ghost use Rattle.css_tokens.specs.OpenEscape as open_escape;
 

@@ -1,6 +1,6 @@
 //! Laws above the definition of the tokens. They do nothing when they run.
 
-ghost use Rattle.css_model.specs.Runs.{RunsAreLongest};
+ghost use Rattle.css_model.specs.Text.Runs.{RunsAreLongest};
 ghost use Rattle.css_tokens.specs.Alike.{PartsEndAlike, RowsEndAlike};
 ghost use Rattle.css_tokens.specs.Laws.{PartsJoin, TokensCover, TokensRestart};
 ghost use Rattle.css_tokens.specs.Lexed.{LexedAreParts, LexedAreUtf8, PartsAreLexed};

@@ -3,9 +3,9 @@
 ghost use Rattle.std.specs.Prelude.{◌≡◌, ◌≤◌, ◌+◌, ◌++◌, ◌<◌, ◌^◌, ◌*◌, List, ℕ, length, encode_utf8, false, true, MatchOption, IfSome, IfOk, OnOk};
 ghost use Rattle.std.specs.Char.{digit_value, is_ascii_hexdigit};
 ghost use Rattle.std.specs.Str.{IsAscii, chars, str_eq_ignore_ascii_case};
-ghost use Rattle.css_model.specs.Declarations as declarations;
-ghost use Rattle.css_model.specs.Source.{IsWithin, text_at};
-ghost use Rattle.css_model.specs.Unescaped as escapes;
+ghost use Rattle.css_model.specs.Sheets.Declarations as declarations;
+ghost use Rattle.css_model.specs.Text.Source.{IsWithin, text_at};
+ghost use Rattle.css_model.specs.Text.Names as escapes;
 ghost use Rattle.css_tokens.specs.Said.{said_text, IsWide};
 
 use crate::characters::is_newline;

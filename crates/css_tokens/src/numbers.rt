@@ -1,7 +1,7 @@
 //! Numbers (CSS Syntax 3, section 4.3.12).
 
 ghost use Rattle.std.specs.Prelude.{◌≡◌, ◌≤◌, ◌<◌, ◌+◌, ◌*◌, ◌^◌, length};
-ghost use Rattle.css_model.specs.Units as units;
+ghost use Rattle.css_model.specs.Text.Units as units;
 
 use crate::characters::{after, is_plus_or_minus};
 use crate::runs::{Unit, run};

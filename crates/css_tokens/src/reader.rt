@@ -1,7 +1,7 @@
 //! The tokens of a text, read one at a time.
 
 ghost use Rattle.std.specs.Prelude.{◌≡◌, ◌≤◌, ◌<◌, ◌^◌, ◌↔◌, drop, length, IsOk, IfOk, IfErr};
-ghost use Rattle.css_model.specs.Tokens as stream;
+ghost use Rattle.css_model.specs.Text.Tokens as stream;
 
 use crate::rules::part_at;
 use css_model::{Piece, Token, TokenFault, TokenFlaw};
@@ -41,7 +41,7 @@ fn fault_at(at: usize, flaw: TokenFlaw) -> TokenFault
 impl<'a> Tokens<'a> {
     ghost use Rattle.std.specs.Str.{IsUtf8};
     ghost use Rattle.std.specs.Str.Lossy.{utf8_valid_len};
-    ghost use Rattle.css_model.specs.Tokens.{Gives, tokens};
+    ghost use Rattle.css_model.specs.Text.Tokens.{Gives, tokens};
     ghost use Rattle.css_tokens.specs.Left.{left};
 
     /// The tokens of a source: that of a whole sheet may begin with a byte order mark, which is skipped;

@@ -2,9 +2,9 @@
 //! which is none for a comment, and a length in bytes, or what is wrong.
 
 ghost use Rattle.std.specs.Prelude.{◌≡◌, ◌≤◌, ◌+◌, ◌^◌, ◌<◌, IfOk, length};
-ghost use Rattle.css_model.specs.Characters as classes;
-ghost use Rattle.css_model.specs.TokenAt as rules;
-ghost use Rattle.css_model.specs.Units as units;
+ghost use Rattle.css_model.specs.Text.Characters as classes;
+ghost use Rattle.css_model.specs.Text.TokenAt as rules;
+ghost use Rattle.css_model.specs.Text.Units as units;
 
 use crate::characters::{after, before, begins, begins_newline, is_sign, is_white};
 use crate::comments::comment_len;

@@ -1,7 +1,7 @@
 //! Rows of units, each as long as it goes.
 
 ghost use Rattle.std.specs.Prelude.{◌≡◌, ◌≤◌, ◌+◌, length};
-ghost use Rattle.css_model.specs.Runs as runs;
+ghost use Rattle.css_model.specs.Text.Runs as runs;
 ghost use Rattle.css_tokens.specs.UnitOf.{unit_of};
 
 use crate::units::{digit_unit, name_unit, url_unit, white_unit};

@@ -1,8 +1,8 @@
 //! What stands inside strings (CSS Syntax 3, section 4.3.5).
 
 ghost use Rattle.std.specs.Prelude.{◌≡◌, ◌≤◌, ◌<◌, ◌+◌, ℕ, length, slice_index};
-ghost use Rattle.css_model.specs.Runs.{run};
-ghost use Rattle.css_model.specs.Units as units;
+ghost use Rattle.css_model.specs.Text.Runs.{run};
+ghost use Rattle.css_model.specs.Text.Units as units;
 ghost use Rattle.css_tokens.specs.Plain.{IsPlain};
 
 use crate::units::string_unit;

@@ -1,7 +1,7 @@
 //! The units that tokens are made of, by how many bytes each takes, 0 where none begins.
 
 ghost use Rattle.std.specs.Prelude.{◌≡◌, ◌≤◌, ◌+◌, ◌^◌, length};
-ghost use Rattle.css_model.specs.Units as units;
+ghost use Rattle.css_model.specs.Text.Units as units;
 
 use crate::characters::{begins, is_bad_in_url, is_name, is_newline, is_start, is_white};
 

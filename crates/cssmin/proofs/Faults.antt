@@ -3,9 +3,9 @@ use Rattle.std.proofs.Common.{◌≡◌, ◌<◌, Bool, true, false, cond, List,
 use Rattle.std.proofs.lemmas.Bool.{false≢true}
 use Rattle.css_model.specs.declared.fault.FaultKind.TheVariants.{TooLong}
 use Rattle.css_model.specs.declared.fault.SheetFault.{SheetFault}
-use Rattle.css_model.specs.declared.fault.TheConstants.{LIMIT}
+use Rattle.css_model.specs.declared.limits.TheConstants.{MAX_BYTES}
 use Rattle.css_model.specs.declared.sheet.Item.{Item}
-use Rattle.css_model.specs.Sheet.{sheet_of}
+use Rattle.css_model.specs.Sheets.Sheet.{sheet_of}
 use Rattle.sheet_read.specs.declared.fault.SheetError.{SheetError}
 use Rattle.sheet_read.specs.declared.fault.SheetError.TheVariants as errors
 use Rattle.sheet_read.specs.Reading.{Refuses}
@@ -16,9 +16,9 @@ by_test true x y test = refl
 by_test false x y test = absurd (false≢true test)
 
 -- a sheet of more bytes than the limit is too long
-pub too_long : (read : List ℕ) → LIMIT < length read → HasFault read (record { kind = TooLong; at = LIMIT })
+pub too_long : (read : List ℕ) → MAX_BYTES < length read → HasFault read (record { kind = TooLong; at = MAX_BYTES })
 unfolding HasFault
-too_long read long = by_test (nat_lt LIMIT (length read)) _ _ (above LIMIT (length read) long)
+too_long read long = by_test (nat_lt MAX_BYTES (length read)) _ _ (above MAX_BYTES (length read) long)
   where
     above : (limit n : ℕ) → limit < n → nat_lt limit n ≡ true
     above limit n more = grind (arith, more)

@@ -2,9 +2,9 @@
 use Rattle.std.proofs.Common.{inl, inr, List, [], ◌∷◌, ◌++◌, refl, sym, ◌∙◌, subst}
 use Rattle.css_model.specs.declared.sheet.Item.{Item}
 use Rattle.css_model.specs.declared.sheet.Item.TheVariants.{Rule, KeptRule, KeptBlock}
-use Rattle.css_model.specs.Laws.{joined}
-use Rattle.css_model.specs.RuleParts.{RuleParts}
-use Rattle.css_print.specs.ReadBack.{Follows}
+use Rattle.css_model.specs.Sheets.StyleRule.{joined}
+use Rattle.css_model.specs.Sheets.RuleParts.{RuleParts}
+use Rattle.css_model.specs.Sheets.ComesFrom.{Follows}
 use Rattle.cssmin.specs.Joining.{IsJoin}
 
 pub follows_itself : (items : List Item) → Follows items items

@@ -1,13 +1,16 @@
 -- A sheet that is read, joined and printed is minified.
 use Rattle.std.proofs.Common.{◌≡◌, ℕ, zero, suc, ◌≤◌, List, length, filter, Ok, sym, ◌∙◌, ap, subst, arith}
 use Rattle.css_model.specs.declared.sheet.Item.{Item}
-use Rattle.css_model.specs.Cascade.{winner}
-use Rattle.css_model.specs.Laws.{is_kept, WinAlike, JoiningASetKeepsWinners, PiecesDoNotCount, AlikeWinsAlike}
-use Rattle.css_model.specs.Printed.{printed}
-use Rattle.css_model.specs.Sheet.{sheet_of}
-use Rattle.css_model.specs.Sound.{ReadIsSound}
-use Rattle.css_model.specs.Spelling.{AreSame}
-use Rattle.css_print.specs.ReadBack.{ComesFrom, ReadsBack, IsNoLonger}
+use Rattle.css_model.specs.Cascade.Winner.{winner}
+use Rattle.css_model.specs.Sheets.KeptItems.{is_kept}
+use Rattle.css_model.specs.Cascade.Alike.{WinAlike}
+use Rattle.cascade_laws.specs.Joining.{JoiningASetKeepsWinners, PiecesDoNotCount, AlikeWinsAlike}
+use Rattle.css_model.specs.Sheets.Printed.{printed}
+use Rattle.css_model.specs.Sheets.Sheet.{sheet_of}
+use Rattle.sheet_laws.specs.Reading.{ReadIsSound}
+use Rattle.css_model.specs.Sheets.Spelling.{AreSame}
+use Rattle.css_model.specs.Sheets.ComesFrom.{ComesFrom}
+use Rattle.css_print.specs.ReadBack.{ReadsBack, IsNoLonger}
 use Rattle.cssmin.specs.Joining.{JoinsIn, HasNoEqualNeighbours}
 use Rattle.cssmin.specs.Minified.{IsMinified}
 use Rattle.cssmin.proofs.Limits.{within_limits}

@@ -3,14 +3,15 @@ use Rattle.std.proofs.Common.{◌≡◌, ◌≢◌, ℕ, zero, suc, ◌+◌, ◌
 use Rattle.std.specs.List.{AllByRecursion}
 use Rattle.std.proofs.lemmas.List.{length-append}
 use Rattle.std.proofs.lemmas.List.Elements.{filter-append}
-use Rattle.css_model.specs.declared.fault.TheConstants.{ITEMS, PAIRS}
+use Rattle.css_model.specs.declared.limits.TheConstants.{MAX_ITEMS, MAX_PAIRS}
 use Rattle.css_model.specs.declared.sheet.Item.{Item}
 use Rattle.css_model.specs.declared.sheet.Item.TheVariants.{Rule}
-use Rattle.css_model.specs.Laws.{is_kept, joined}
-use Rattle.css_model.specs.RuleParts.{RuleParts}
-use Rattle.css_model.specs.Sheet.{pairs_of}
-use Rattle.css_model.specs.Sound.{IsSoundDeclaration, IsSoundRule, IsSoundItem, IsSound}
-use Rattle.css_print.specs.ReadBack.{pair_count, ComesFrom}
+use Rattle.css_model.specs.Sheets.KeptItems.{is_kept}
+use Rattle.css_model.specs.Sheets.StyleRule.{joined}
+use Rattle.css_model.specs.Sheets.RuleParts.{RuleParts}
+use Rattle.css_model.specs.Sheets.Sheet.{pairs_of}
+use Rattle.css_model.specs.Sheets.Sound.{IsSoundDeclaration, IsSoundRule, IsSoundItem, IsSound}
+use Rattle.css_model.specs.Sheets.ComesFrom.{pair_count, ComesFrom}
 use Rattle.cssmin.specs.Joining.{IsJoin, JoinsIn}
 use Rattle.cssmin.proofs.Following.{follows_itself, follows_both, join_follows}
 use Rattle.cssmin.proofs.SelectorSets.{as_many}
@@ -83,7 +84,7 @@ join_comes_from source old between new so_far join = record {
 }
 
 -- joins lead to parts of the source that was read, within the limits
-pub joins_come_from : (source : List ℕ) (steps : ℕ) (old new : List Item) → IsSound source old → length old ≤ ITEMS → pair_count old ≤ PAIRS → JoinsIn steps old new → ComesFrom source old new
+pub joins_come_from : (source : List ℕ) (steps : ℕ) (old new : List Item) → IsSound source old → length old ≤ MAX_ITEMS → pair_count old ≤ MAX_PAIRS → JoinsIn steps old new → ComesFrom source old new
 joins_come_from source zero old new sound few few' joins =
     subst (ComesFrom source old) joins (record { sound = sound; follows = follows_itself old; few_items = few; few_pairs = few' })
 joins_come_from source (suc steps) old new sound few few' joins =

@@ -3,7 +3,7 @@ use Rattle.std.proofs.Common.{◌≡◌, ◌⊎◌, inl, inr, ℕ, ◌+◌, ◌<
 use Rattle.css_io.specs.Io.{Rose, HasTaken, HasAdded}
 use Rattle.css_model.specs.declared.fault.FaultKind.TheVariants.{TooLong}
 use Rattle.css_model.specs.declared.fault.SheetFault.{SheetFault}
-use Rattle.css_model.specs.declared.fault.TheConstants.{LIMIT}
+use Rattle.css_model.specs.declared.limits.TheConstants.{MAX_BYTES}
 use Rattle.cssmin.specs.declared.status.Status.{Status}
 use Rattle.cssmin.specs.declared.status.Status.TheVariants.{Done, Usage, SheetRefused, ReadFault, WriteFault, NoMemory}
 use Rattle.cssmin.specs.Minified.{HasFault, HasNoFault, IsMinified}
@@ -11,9 +11,9 @@ use Rattle.cssmin.specs.Run.{IsMin, IsAllRead, IsRefused, Counts, Began, Outcome
 use Rattle.cssmin.proofs.Faults.{too_long, one_fault, fault_or_none, minified_no_fault}
 
 -- one byte past the limit was read
-pub too_long_read : (left left' : Option (List ℕ)) → HasTaken (LIMIT + 1) left left' → IsRefused (record { kind = TooLong; at = LIMIT }) left left'
+pub too_long_read : (left left' : Option (List ℕ)) → HasTaken (MAX_BYTES + 1) left left' → IsRefused (record { kind = TooLong; at = MAX_BYTES }) left left'
 too_long_read None left' taken = tt
-too_long_read (Some bytes) left' taken = (too_long bytes (above LIMIT (length bytes) taken.0), taken.1)
+too_long_read (Some bytes) left' taken = (too_long bytes (above MAX_BYTES (length bytes) taken.0), taken.1)
   where
     above : (limit n : ℕ) → limit + 1 ≤ n → limit < n
     above limit n more = omega (arith, more)

@@ -14,11 +14,11 @@ use Rattle.std.proofs.lemmas.Map.Lookups.{hash_set_eq_decides}
 use Rattle.std.proofs.lemmas.Map.Made.{is_member-Decides, length-from_same_keys, IsDistinct-from_AllPairs}
 use Rattle.css_model.specs.contracts.selector.SelectorEq.TheImpl.Laws.{laws-law as selectors_equiv}
 use Rattle.css_model.specs.declared.sheet.SelItem.{SelItem}
-use Rattle.css_model.specs.RuleParts.{RuleParts}
-use Rattle.css_model.specs.SelectorParts.{SelectorParts}
-use Rattle.css_model.specs.StyleRule.{selectors_of}
-use Rattle.css_model.proofs.Members.{Contains-here, Contains-nil, Contains-cons_cases}
-use Rattle.css_model.proofs.Same.{selector_decides}
+use Rattle.css_model.specs.Sheets.RuleParts.{RuleParts}
+use Rattle.css_model.specs.Documents.SelectorParts.{SelectorParts}
+use Rattle.css_model.specs.Sheets.StyleRule.{selectors_of}
+use Rattle.list_facts.proofs.Members.{Contains-here, Contains-nil, Contains-cons_cases}
+use Rattle.css_model.proofs.ForCallers.{selector_decides}
 use Rattle.cssmin.specs.Joining.{AreJoinable}
 use Rattle.cssmin.specs.SelectorSet.{IsSetOf, same_reference}
 

@@ -5,11 +5,11 @@ use Rattle.std.proofs.lemmas.List.{length-append, map-append}
 use Rattle.std.proofs.lemmas.List.Concat.{flat_map-append}
 use Rattle.css_model.specs.declared.sheet.Item.{Item}
 use Rattle.css_model.specs.declared.sheet.Item.TheVariants.{Rule}
-use Rattle.css_model.specs.Characters.{comma, semicolon, open_curly, close_curly, space}
-use Rattle.css_model.specs.Laws.{joined}
-use Rattle.css_model.specs.Printed.{printed_selector, printed_declaration, printed_rule, printed_item, behind_mark, printed}
-use Rattle.css_model.specs.RuleParts.{RuleParts}
-use Rattle.css_model.specs.Tokens.{byte_order_mark}
+use Rattle.css_model.specs.Text.Characters.{comma, semicolon, open_curly, close_curly, space}
+use Rattle.css_model.specs.Sheets.StyleRule.{joined}
+use Rattle.css_model.specs.Sheets.Printed.{printed_selector, printed_declaration, printed_rule, printed_item, behind_mark, printed}
+use Rattle.css_model.specs.Sheets.RuleParts.{RuleParts}
+use Rattle.css_model.specs.Text.Tokens.{byte_order_mark}
 use Rattle.cssmin.specs.Joining.{IsJoin, JoinsIn}
 
 -- one more separator at most

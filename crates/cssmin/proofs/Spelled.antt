@@ -4,12 +4,13 @@ use Rattle.std.specs.List.{All, AllPairs, Contains}
 use Rattle.css_model.specs.declared.sheet.Decl.{Decl}
 use Rattle.css_model.specs.declared.sheet.Item.{Item}
 use Rattle.css_model.specs.declared.sheet.Item.TheVariants.{Rule, KeptRule, KeptBlock}
-use Rattle.css_model.specs.Cascade.{Declared, AreMeanings}
-use Rattle.css_model.specs.Laws.{is_kept, SameButPieces}
-use Rattle.css_model.specs.RuleParts.{RuleParts}
-use Rattle.css_model.specs.SelectorParts.{SelectorParts}
-use Rattle.css_model.specs.Spelling.{Style, Kept, Block, kept_text, said, all_said, AreSame}
-use Rattle.css_model.specs.StyleRule.{StyleRule, selectors_of, style_rule}
+use Rattle.css_model.specs.Cascade.Winner.{Declared, AreMeanings}
+use Rattle.css_model.specs.Sheets.KeptItems.{is_kept}
+use Rattle.css_model.specs.Cascade.Alike.{SameButPieces}
+use Rattle.css_model.specs.Sheets.RuleParts.{RuleParts}
+use Rattle.css_model.specs.Documents.SelectorParts.{SelectorParts}
+use Rattle.css_model.specs.Sheets.Spelling.{Style, Kept, Block, kept_text, content, all_content, AreSame}
+use Rattle.css_model.specs.Sheets.StyleRule.{StyleRule, selectors_of, style_rule}
 use Rattle.cssmin.specs.Joining.{AreJoinable, AreUnlike, HasNoEqualNeighbours}
 
 -- what two items that say the same are
@@ -34,7 +35,7 @@ style_no_block r text same = cc
 kept_no_block : (text text' : List ℕ) (decls : List Decl) (reason : ℕ) → Kept text decls reason ≡ Block text' → ⊥
 kept_no_block text text' decls reason same = cc
 
-spelled : (source source' : List ℕ) (a b : Item) → said source a ≡ said source' b → IsSpelled a b
+spelled : (source source' : List ℕ) (a b : Item) → content source a ≡ content source' b → IsSpelled a b
 spelled source source' (Rule r) (Rule q) same = style_same (style_rule r) (style_rule q) same
 spelled source source' (Rule r) (KeptRule l) same = style_no_kept (style_rule r) (kept_text source' l.piece) l.decls l.reason same
 spelled source source' (Rule r) (KeptBlock q) same = style_no_block (style_rule r) (kept_text source' q) same
@@ -62,11 +63,11 @@ AreSpelled _ _ = ⊥
 
 all_spelled : (source source' : List ℕ) (items items' : List Item) → AreSame source items source' items' → AreSpelled items items'
 all_spelled source source' [] [] same = tt
-all_spelled source source' [] (b ∷ items') same = nothing_said (said source' b) (all_said source' items') same
-all_spelled source source' (a ∷ items) [] same = nothing_said (said source a) (all_said source items) (sym same)
+all_spelled source source' [] (b ∷ items') same = nothing_said (content source' b) (all_content source' items') same
+all_spelled source source' (a ∷ items) [] same = nothing_said (content source a) (all_content source items) (sym same)
 all_spelled source source' (a ∷ items) (b ∷ items') same = (
-  spelled source source' a b (first_same (said source a) (said source' b) (all_said source items) (all_said source' items') same),
-  all_spelled source source' items items' (rest_same (said source a) (said source' b) (all_said source items) (all_said source' items') same),
+  spelled source source' a b (first_same (content source a) (content source' b) (all_content source items) (all_content source' items') same),
+  all_spelled source source' items items' (rest_same (content source a) (content source' b) (all_content source items) (all_content source' items') same),
 )
 
 same_but_pieces : (items items' : List Item) → AreSpelled items items' → SameButPieces items items'
@@ -125,8 +126,8 @@ spelled_meanings source source' items items' same meanings =
       λ are. here.1 (same_meanings (filter is_kept items') (filter is_kept items) (all_spelled source' source (filter is_kept items') (filter is_kept items) (sym same)) meanings (there.0 are)),
     )
 
-kept_said : (source source' : List ℕ) (a b : Item) (items items' : List Item) → said source a ≡ said source' b → IsSpelled a b → all_said source (filter is_kept items) ≡ all_said source' (filter is_kept items')
-    → all_said source (filter is_kept (a ∷ items)) ≡ all_said source' (filter is_kept (b ∷ items'))
+kept_said : (source source' : List ℕ) (a b : Item) (items items' : List Item) → content source a ≡ content source' b → IsSpelled a b → all_content source (filter is_kept items) ≡ all_content source' (filter is_kept items')
+    → all_content source (filter is_kept (a ∷ items)) ≡ all_content source' (filter is_kept (b ∷ items'))
 kept_said source source' (Rule r) (Rule q) items items' same spelled rest = rest
 kept_said source source' (Rule r) (KeptRule l) items items' same spelled rest = absurd spelled
 kept_said source source' (Rule r) (KeptBlock q) items items' same spelled rest = absurd spelled
@@ -140,11 +141,11 @@ kept_said source source' (KeptBlock p) (KeptBlock q) items items' same spelled r
 -- their kept items are the same up to spelling
 pub kept_spelled : (source source' : List ℕ) (items items' : List Item) → AreSame source items source' items' → AreSame source (filter is_kept items) source' (filter is_kept items')
 kept_spelled source source' [] [] same = refl
-kept_spelled source source' [] (b ∷ items') same = absurd (nothing_said (said source' b) (all_said source' items') same)
-kept_spelled source source' (a ∷ items) [] same = absurd (nothing_said (said source a) (all_said source items) (sym same))
+kept_spelled source source' [] (b ∷ items') same = absurd (nothing_said (content source' b) (all_content source' items') same)
+kept_spelled source source' (a ∷ items) [] same = absurd (nothing_said (content source a) (all_content source items) (sym same))
 kept_spelled source source' (a ∷ items) (b ∷ items') same =
-    let first = first_same (said source a) (said source' b) (all_said source items) (all_said source' items') same in
-    let rest = rest_same (said source a) (said source' b) (all_said source items) (all_said source' items') same in
+    let first = first_same (content source a) (content source' b) (all_content source items) (all_content source' items') same in
+    let rest = rest_same (content source a) (content source' b) (all_content source items) (all_content source' items') same in
     kept_said source source' a b items items' first (spelled source source' a b first) (kept_spelled source source' items items' rest)
 
 -- joinable by the selectors alone

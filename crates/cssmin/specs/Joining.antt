@@ -3,9 +3,9 @@ use Rattle.std.specs.Prelude.{◌≡◌, ◌≢◌, ◌⊎◌, Option, Some, Non
 use Rattle.std.specs.List.{AllPairs}
 use Rattle.css_model.specs.declared.sheet.Item.{Item}
 use Rattle.css_model.specs.declared.sheet.Item.TheVariants.{Rule}
-use Rattle.css_model.specs.Laws.{HaveSameSelectors, joined}
-use Rattle.css_model.specs.RuleParts.{RuleParts}
-use Rattle.css_model.specs.StyleRule.{selectors_of}
+use Rattle.css_model.specs.Sheets.StyleRule.{HaveSameSelectors, joined}
+use Rattle.css_model.specs.Sheets.RuleParts.{RuleParts}
+use Rattle.css_model.specs.Sheets.StyleRule.{selectors_of}
 
 -- a rule has no selector twice
 abbrev pub HasEachOnce : RuleParts → Type 0

@@ -3,11 +3,12 @@ use Rattle.std.specs.Prelude.{◌≡◌, ◌≤◌, ◌↔◌, ℕ, List, Ok, Er
 use Rattle.std.specs.List.{filter}
 use Rattle.css_model.specs.declared.fault.SheetFault.{SheetFault}
 use Rattle.css_model.specs.declared.sheet.Item.{Item}
-use Rattle.css_model.specs.Cascade.{Declared, AreMeanings}
-use Rattle.css_model.specs.Laws.{is_kept, WinAlike}
-use Rattle.css_model.specs.Printed.{printed}
-use Rattle.css_model.specs.Sheet.{sheet_of}
-use Rattle.css_model.specs.Spelling.{AreSame}
+use Rattle.css_model.specs.Cascade.Winner.{Declared, AreMeanings}
+use Rattle.css_model.specs.Sheets.KeptItems.{is_kept}
+use Rattle.css_model.specs.Cascade.Alike.{WinAlike}
+use Rattle.css_model.specs.Sheets.Printed.{printed}
+use Rattle.css_model.specs.Sheets.Sheet.{sheet_of}
+use Rattle.css_model.specs.Sheets.Spelling.{AreSame}
 use Rattle.sheet_read.specs.declared.fault.SheetError.{SheetError}
 use Rattle.sheet_read.specs.declared.fault.SheetError.TheVariants as errors
 use Rattle.cssmin.specs.Joining.{JoinsIn, HasNoEqualNeighbours}

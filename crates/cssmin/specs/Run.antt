@@ -3,7 +3,7 @@ use Rattle.std.specs.Prelude.{◌≡◌, ◌⊎◌, ℕ, ◌+◌, ◌<◌, ◌�
 use Rattle.std.specs.Global.{Global}
 use Rattle.css_io.specs.Io.{Rose, HasAdded}
 use Rattle.css_model.specs.declared.fault.SheetFault.{SheetFault}
-use Rattle.css_model.specs.declared.fault.TheConstants.{LIMIT}
+use Rattle.css_model.specs.declared.limits.TheConstants.{MAX_BYTES}
 use Rattle.cssmin.specs.declared.status.Status.{Status}
 use Rattle.cssmin.specs.declared.status.Status.TheVariants.{Done, Usage, SheetRefused, ReadFault, WriteFault, NoMemory}
 use Rattle.cssmin.specs.Minified.{HasFault, IsMinified}
@@ -39,7 +39,7 @@ pub record Began (left left' written written' : Option (List ℕ)) : Type 0 wher
 -- All that was left was read, but no more than one byte past the limit, and the sheet has this fault,
 -- where the source tells its bytes.
 abbrev pub IsRefused : SheetFault → (left left' : Option (List ℕ)) → Type 0
-IsRefused fault left left' = IfSome left (λ read. HasFault read fault × (left' ≡ Some (drop (LIMIT + 1) read)))
+IsRefused fault left left' = IfSome left (λ read. HasFault read fault × (left' ≡ Some (drop (MAX_BYTES + 1) read)))
 
 -- Counts of faults, before and after
 pub record Counts : Type 0 where

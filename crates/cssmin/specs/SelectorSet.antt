@@ -4,7 +4,7 @@ use Rattle.std.specs.Borrow.{Bor}
 use Rattle.std.specs.HashSet.{HashSet, contains}
 use Rattle.std.specs.List.{AllPairs, Contains}
 use Rattle.css_model.specs.contracts.selector.SelectorPartialEq.TheImpl as selector
-use Rattle.css_model.specs.SelectorParts.{SelectorParts}
+use Rattle.css_model.specs.Documents.SelectorParts.{SelectorParts}
 
 -- references are compared by the selectors behind them
 abbrev pub same_reference : Bor SelectorParts → Bor SelectorParts → Bool

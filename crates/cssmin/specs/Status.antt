@@ -1,6 +1,6 @@
 -- What a run tells on standard error, and the exit status that it ends with.
 use Rattle.std.specs.Prelude.{ℕ, List, [], ◌∷◌, ◌++◌, codes}
-use Rattle.css_model.specs.Fault.{text_of}
+use Rattle.css_model.specs.Sheets.Fault.{fault_text}
 use Rattle.cssmin.specs.declared.status.Status.{Status}
 use Rattle.cssmin.specs.declared.status.Status.TheVariants.{Done, Usage, SheetRefused, ReadFault, WriteFault, NoMemory}
 
@@ -16,7 +16,7 @@ number_of NoMemory = 6
 abbrev pub message : Status → List ℕ
 message Done = []
 message Usage = codes "usage: cssmin min" ++ 10 ∷ []
-message (SheetRefused fault) = codes "refused: " ++ text_of fault ++ 10 ∷ []
+message (SheetRefused fault) = codes "refused: " ++ fault_text fault ++ 10 ∷ []
 message ReadFault = codes "read fault" ++ 10 ∷ []
 message WriteFault = codes "write fault" ++ 10 ∷ []
 message NoMemory = codes "out of memory" ++ 10 ∷ []

@@ -10,7 +10,7 @@ ghost use Rattle.cssmin.specs.Status.{message};
 use crate::minify::minified;
 use crate::status::{Status, refusal};
 use css_io::{ReadError, Sink, Source, read_all, write_all};
-use css_model::{FaultKind, LIMIT, SheetFault};
+use css_model::{FaultKind, MAX_BYTES, SheetFault};
 use sheet_read::SheetError;
 use std::alloc::Global;
 
@@ -30,13 +30,13 @@ fn read_minified<S: Source>(alloc: Global, input: &mut S) -> Result<Vec<u8>, Sta
     ensures bounded { (n : ℕ) × (n ≤ 1048577) × HasTaken n (S.left input.old) (S.left input.new) }
     ensures later { S.faults input.old ≤ S.faults input.new }
 {
-    let bytes = match read_all(alloc, input, LIMIT) {
+    let bytes = match read_all(alloc, input, MAX_BYTES) {
         Ok(bytes) => bytes,
         Err(ReadError::ReadFault) => return Err(Status::ReadFault),
         Err(ReadError::TooLong) => {
             return Err(Status::SheetRefused(SheetFault {
                 kind: FaultKind::TooLong,
-                at: LIMIT,
+                at: MAX_BYTES,
             }));
         }
         Err(ReadError::NoMemory) => return Err(Status::NoMemory),

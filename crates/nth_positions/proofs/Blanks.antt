@@ -2,9 +2,10 @@
 use Rattle.std.proofs.Common.{◌≡◌, ℕ, zero, suc, ◌<◌, ◌≤◌, inl, inr, true, false, ◌&&◌, ◌||◌, cond, List, [], ◌∷◌, ◌++◌, length, refl, sym, ap, subst, ◌∙◌, arith, eqb-true, append_assoc}
 use Rattle.std.specs.Prelude.{Option, Some, None, ◌==◌, codes}
 use Rattle.std.specs.List.{concat, AllByRecursion}
-use Rattle.nth_positions.specs.Notation.{is_white_space, has_close, IsBlank, AreBlanks}
-use Rattle.nth_positions.specs.Notation.{white_space, comment}
-use Rattle.nth_positions.specs.Reading.{past_close, past_blank, skip, past_blanks}
+use Rattle.css_model.specs.Text.Characters.{is_white}
+use Rattle.css_model.specs.Positions.Notation.{has_close, IsBlank, AreBlanks}
+use Rattle.css_model.specs.Positions.Notation.{white_space, comment}
+use Rattle.css_model.specs.Positions.Reading.{past_close, past_blank, skip, past_blanks}
 use Rattle.nth_positions.proofs.Cases.{chosen, both_are, same_some, none_is_no_some, neither_is, not_with_false}
 
 -- ---- what follows the first `*/`
@@ -45,11 +46,11 @@ past_close_of (c ∷ d ∷ inside) rest h = (let n = neither_is ((c == 42) && (d
 
 pub past_blank_shorter : (text rest : List ℕ) → past_blank text ≡ Some rest → length rest < length text
 past_blank_shorter [] rest e = absurd (none_is_no_some e)
-past_blank_shorter (c ∷ []) rest e = elim (chosen (is_white_space c) (Some []) None (Some rest) e) [
+past_blank_shorter (c ∷ []) rest e = elim (chosen (is_white c) (Some []) None (Some rest) e) [
   | inl w ↦ (let s : 0 ≡ length rest = ap length (same_some w.1) in omega arith)
   | inr w ↦ absurd (none_is_no_some w.1)
 ]
-past_blank_shorter (c ∷ d ∷ cs) rest e = elim (chosen (is_white_space c) (Some (d ∷ cs)) (cond ((c == 47) && (d == 42)) (past_close cs) None) (Some rest) e) [
+past_blank_shorter (c ∷ d ∷ cs) rest e = elim (chosen (is_white c) (Some (d ∷ cs)) (cond ((c == 47) && (d == 42)) (past_close cs) None) (Some rest) e) [
   | inl w ↦ (let s : length (d ∷ cs) ≡ length rest = ap length (same_some w.1) in omega arith)
   | inr w ↦ elim (chosen ((c == 47) && (d == 42)) (past_close cs) None (Some rest) w.1) [
     | inl v ↦ (let s : length rest < length cs = past_close_shorter cs rest v.1 in omega arith)
@@ -59,11 +60,11 @@ past_blank_shorter (c ∷ d ∷ cs) rest e = elim (chosen (is_white_space c) (So
 
 past_blank_splits : (text rest : List ℕ) → past_blank text ≡ Some rest → (blank : List ℕ) × IsBlank blank × (text ≡ blank ++ rest)
 past_blank_splits [] rest e = absurd (none_is_no_some e)
-past_blank_splits (c ∷ []) rest e = elim (chosen (is_white_space c) (Some []) None (Some rest) e) [
+past_blank_splits (c ∷ []) rest e = elim (chosen (is_white c) (Some []) None (Some rest) e) [
   | inl w ↦ (c ∷ [], white_space c refl w.0, ap (λ (t : List ℕ). c ∷ t) (same_some w.1))
   | inr w ↦ absurd (none_is_no_some w.1)
 ]
-past_blank_splits (c ∷ d ∷ cs) rest e = elim (chosen (is_white_space c) (Some (d ∷ cs)) (cond ((c == 47) && (d == 42)) (past_close cs) None) (Some rest) e) [
+past_blank_splits (c ∷ d ∷ cs) rest e = elim (chosen (is_white c) (Some (d ∷ cs)) (cond ((c == 47) && (d == 42)) (past_close cs) None) (Some rest) e) [
   | inl w ↦ (c ∷ [], white_space c refl w.0, ap (λ (t : List ℕ). c ∷ t) (same_some w.1))
   | inr w ↦ elim (chosen ((c == 47) && (d == 42)) (past_close cs) None (Some rest) w.1) [
     | inl v ↦ (
@@ -77,7 +78,7 @@ past_blank_splits (c ∷ d ∷ cs) rest e = elim (chosen (is_white_space c) (Som
   ]
 ]
 
-past_white : (c : ℕ) (rest : List ℕ) → is_white_space c ≡ true → past_blank (c ∷ rest) ≡ Some rest
+past_white : (c : ℕ) (rest : List ℕ) → is_white c ≡ true → past_blank (c ∷ rest) ≡ Some rest
 past_white c [] w = ap (λ b. cond b (Some []) None) w
 past_white c (d ∷ cs) w = ap (λ b. cond b (Some (d ∷ cs)) (cond ((c == 47) && (d == 42)) (past_close cs) None)) w
 

@@ -3,8 +3,9 @@ use Rattle.std.proofs.Common.{◌≡◌, ℕ, ◌<◌, ◌≤◌, ◌⊎◌, inl
 use Rattle.std.specs.Prelude.{◌==◌, nat_le, Some, None}
 use Rattle.std.specs.Char.{is_ascii_digit}
 use Rattle.std.specs.List.{prefix_len, concat, AllByRecursion, list_all}
-use Rattle.nth_positions.specs.Notation.{is_white_space, IsBlank, white_space, comment, AreBlanks, AreDigits}
-use Rattle.nth_positions.specs.Reading.{past_blank, past_close}
+use Rattle.css_model.specs.Text.Characters.{is_white}
+use Rattle.css_model.specs.Positions.Notation.{IsBlank, white_space, comment, AreBlanks, AreDigits}
+use Rattle.css_model.specs.Positions.Reading.{past_blank, past_close}
 use Rattle.nth_positions.proofs.Cases.{both_are}
 use Rattle.nth_positions.proofs.Digits.{no_more}
 
@@ -12,10 +13,10 @@ pub is_false : (b : Bool) → (b ≡ true → ⊥) → b ≡ false
 is_false true h = absurd (h refl)
 is_false false h = refl
 
-white_cases : (c : ℕ) → is_white_space c ≡ true → (c ≡ 32) ⊎ ((c ≡ 9) ⊎ ((c ≡ 10) ⊎ ((c ≡ 12) ⊎ (c ≡ 13))))
+white_cases : (c : ℕ) → is_white c ≡ true → (c ≡ 32) ⊎ ((c ≡ 9) ⊎ ((c ≡ 10) ⊎ ((c ≡ 12) ⊎ (c ≡ 13))))
 white_cases c h = grind (arith, eqb-true)
 
-pub white_small : (c : ℕ) → is_white_space c ≡ true → c ≤ 32
+pub white_small : (c : ℕ) → is_white c ≡ true → c ≤ 32
 white_small c h = elim (white_cases c h) [
   | inl e ↦ omega arith
   | inr f ↦ elim f [
@@ -31,14 +32,14 @@ pub digit_range : (c : ℕ) → is_ascii_digit c ≡ true → (48 ≤ c) × (c �
 digit_range c h = (let b = both_are (nat_le 48 c) (nat_le c 57) h in (leb-true 48 c b.0, leb-true c 57 b.1))
 
 -- a white space is no digit
-white_no_digit : (c : ℕ) → is_white_space c ≡ true → is_ascii_digit c ≡ false
+white_no_digit : (c : ℕ) → is_white c ≡ true → is_ascii_digit c ≡ false
 white_no_digit c h = is_false (is_ascii_digit c) (λ d. let w : c ≤ 32 = white_small c h in let r : 48 ≤ c = (digit_range c d).0 in omega arith)
 
 -- no blank begins at a byte that is neither a white space nor a slash
 pub no_blank_at : (c : ℕ) (cs : List ℕ) → 32 < c → (c ≡ 47 → ⊥) → past_blank (c ∷ cs) ≡ None
-no_blank_at c cs h s = go cs (is_false (is_white_space c) (λ w. let l : c ≤ 32 = white_small c w in omega arith)) (is_false (c == 47) (λ e. s (eqb-true c 47 e)))
+no_blank_at c cs h s = go cs (is_false (is_white c) (λ w. let l : c ≤ 32 = white_small c w in omega arith)) (is_false (c == 47) (λ e. s (eqb-true c 47 e)))
   where
-    go : (cs : List ℕ) → is_white_space c ≡ false → (c == 47) ≡ false → past_blank (c ∷ cs) ≡ None
+    go : (cs : List ℕ) → is_white c ≡ false → (c == 47) ≡ false → past_blank (c ∷ cs) ≡ None
     go [] w n = ap (λ b. cond b (Some []) None) w
     go (d ∷ cs) w n = ap (λ b. cond b (Some (d ∷ cs)) (cond ((c == 47) && (d == 42)) (past_close cs) None)) w ∙ ap (λ b. cond (b && (d == 42)) (past_close cs) None) n
 

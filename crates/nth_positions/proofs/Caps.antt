@@ -3,8 +3,8 @@ use Rattle.std.proofs.Common.{◌≡◌, ℕ, zero, suc, ◌<◌, ◌≤◌, ◌
 use Rattle.std.specs.Prelude.{unsigned_abs}
 use Rattle.std.proofs.lemmas.Bool.{cases_lt}
 use Rattle.css_model.specs.declared.position.AnB.{AnB}
-use Rattle.nth_positions.specs.Positions.{IsInRange}
-use Rattle.nth_positions.specs.Reading.{capped, signed}
+use Rattle.css_model.specs.Positions.Range.{IsInRange}
+use Rattle.css_model.specs.Positions.Reading.{capped, signed}
 
 -- y was read as z: they are the same, or both beyond 1,000
 abbrev pub Caps : ℤ → ℤ → Type 0

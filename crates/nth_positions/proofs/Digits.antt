@@ -5,8 +5,8 @@ use Rattle.std.specs.List.{prefix_len, list_all, AllPass}
 use Rattle.std.proofs.lemmas.List.{take-append-drop}
 use Rattle.std.proofs.lemmas.List.Sums.{AllPass-from_list_all}
 use Rattle.std.proofs.Math.Seq.{take-append_seam, drop-append_seam}
-use Rattle.nth_positions.specs.Notation.{AreDigits}
-use Rattle.nth_positions.specs.Reading.{digits_of, past_digits}
+use Rattle.css_model.specs.Positions.Notation.{AreDigits}
+use Rattle.css_model.specs.Positions.Reading.{digits_of, past_digits}
 use Rattle.nth_positions.proofs.Cases.{both_are}
 
 one_more : (c : ℕ) (cs : List ℕ) → is_ascii_digit c ≡ true → prefix_len is_ascii_digit (c ∷ cs) ≡ suc (prefix_len is_ascii_digit cs)

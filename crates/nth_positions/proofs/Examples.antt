@@ -2,10 +2,10 @@
 use Rattle.std.proofs.Common.{◌≡◌, [], ◌∷◌, pos, negsuc, refl, inl, inr, arith}
 use Rattle.std.specs.Prelude.{codes}
 use Rattle.css_model.specs.declared.position.AnB.{AnB}
-use Rattle.css_model.specs.Matching.{IsNth}
+use Rattle.css_model.specs.Documents.Matching.{IsNth}
 use Rattle.nth_positions.specs.Gaps.{bounds_of, reduced}
-use Rattle.nth_positions.specs.Notation.{IsNotation, AreBlanks, white_space, comment, odd, step, written, signed}
-use Rattle.nth_positions.specs.Reading.{body_of, past_word, past_blanks, numbers_of, offset_of, last_number}
+use Rattle.css_model.specs.Positions.Notation.{IsNotation, AreBlanks, white_space, comment, odd, step, written, signed}
+use Rattle.css_model.specs.Positions.Reading.{body_of, past_word, past_blanks, numbers_of, offset_of, last_number}
 use Rattle.nth_positions.proofs.Outcomes.{no_notation}
 
 -- 2n+1 reaches 5, and -n+6 reaches 1

@@ -2,8 +2,9 @@
 use Rattle.std.proofs.Common.{◌≡◌, ℕ, ◌⊎◌, inl, inr, ◌||◌, cond, List, [], ◌∷◌, ◌++◌, ℤ, pos, refl, sym, ap, subst, ◌∙◌, append_assoc}
 use Rattle.std.specs.Prelude.{Some, None, ◌==◌, codes}
 use Rattle.css_model.specs.declared.position.AnB.{AnB}
-use Rattle.nth_positions.specs.Notation.{AreBlanks, AreDigits, value, IsSigned, IsSignBefore, IsStepSize, one, written, IsOffset, nothing, signed as with_sign, IsBody, odd, even, integer, step, IsNotation}
-use Rattle.nth_positions.specs.Reading.{past_blanks, is_empty, digits_of, past_digits, signed, is_minus, past_sign, past_word}
+use Rattle.css_model.specs.Positions.Notation.{AreBlanks, AreDigits, value, IsSigned, IsSignBefore, IsStepSize, one, written, IsOffset, nothing, signed as with_sign, IsBody, odd, even, integer, step, IsNotation}
+use Rattle.css_model.specs.Positions.Reading.{past_blanks, digits_of, past_digits, signed, is_minus, past_sign, past_word}
+use Rattle.css_model.specs.Lists.{is_empty}
 use Rattle.nth_positions.proofs.Blanks.{past_blanks_of}
 use Rattle.nth_positions.proofs.Bytes.{no_blank_at_digit, no_digit_in_blanks}
 use Rattle.nth_positions.proofs.Caps.{pair}

@@ -3,8 +3,9 @@ use Rattle.std.proofs.Common.{◌≡◌, ℕ, ◌<◌, ◌⊎◌, inl, inr, Bool
 use Rattle.std.specs.Prelude.{Option, Some, None, ◌==◌}
 use Rattle.std.proofs.lemmas.Bool.{false≢true}
 use Rattle.std.proofs.lemmas.List.{append-nil}
-use Rattle.nth_positions.specs.Notation.{AreBlanks, AreDigits, value, IsSignBefore, IsOffset, nothing, signed as with_sign}
-use Rattle.nth_positions.specs.Reading.{past_blanks, past_blank, is_empty, digits_of, past_digits, capped, signed, last_number, offset_from, offset_of}
+use Rattle.css_model.specs.Positions.Notation.{AreBlanks, AreDigits, value, IsSignBefore, IsOffset, nothing, signed as with_sign}
+use Rattle.css_model.specs.Positions.Reading.{past_blanks, past_blank, digits_of, past_digits, capped, signed, last_number, offset_from, offset_of}
+use Rattle.css_model.specs.Lists.{is_empty}
 use Rattle.nth_positions.proofs.Cases.{chosen, one_is, same_some, none_is_no_some, neither_is}
 use Rattle.nth_positions.proofs.Blanks.{past_blanks_of, past_blanks_splits, Skips}
 use Rattle.nth_positions.proofs.Bytes.{no_blank_at, no_blank_at_digit, no_digit_in_blanks}

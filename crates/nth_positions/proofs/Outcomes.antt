@@ -4,9 +4,9 @@ use Rattle.std.specs.Prelude.{Some, None, Result, Ok, Err}
 use Rattle.css_model.specs.declared.position.AnB.{AnB}
 use Rattle.nth_positions.specs.declared.notation.AnbFault.{AnbFault}
 use Rattle.nth_positions.specs.declared.notation.AnbFault.TheVariants.{NotAnB, OutOfRange}
-use Rattle.nth_positions.specs.Positions.{IsInRange}
-use Rattle.nth_positions.specs.Notation.{IsNotation}
-use Rattle.nth_positions.specs.Reading.{past_blanks, body_of}
+use Rattle.css_model.specs.Positions.Range.{IsInRange}
+use Rattle.css_model.specs.Positions.Notation.{IsNotation}
+use Rattle.css_model.specs.Positions.Reading.{past_blanks, body_of}
 use Rattle.nth_positions.proofs.Cases.{same_some, none_is_no_some}
 use Rattle.nth_positions.proofs.Caps.{CapsBoth, same_if_read_in_range, same_if_in_range}
 use Rattle.nth_positions.proofs.Steps.{ReadsBody}

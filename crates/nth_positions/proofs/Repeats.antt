@@ -5,7 +5,7 @@ use Rattle.std.proofs.lemmas.Int.{ints}
 use Rattle.std.proofs.lemmas.Bool.{cases_lt}
 use Rattle.std.proofs.Math.Nat.{mul-div_cancel', div-add-mod, mul-le-mul_left, mod-lt}
 use Rattle.css_model.specs.declared.position.AnB.{AnB}
-use Rattle.css_model.specs.Matching.{IsNth}
+use Rattle.css_model.specs.Documents.Matching.{IsNth}
 use Rattle.nth_positions.specs.Gaps.{bounds_of, reduced, threshold_of, period_of}
 use Rattle.nth_positions.proofs.Offsets.{offset_below}
 use Rattle.nth_positions.proofs.CommonMultiples.{step_divides, period_exists}

@@ -4,8 +4,9 @@ use Rattle.std.specs.Prelude.{Option, Some, None, ◌==◌, option_map}
 use Rattle.std.specs.Char.{is_ascii_digit}
 use Rattle.std.specs.List.{prefix_len, list_all, concat, AllByRecursion}
 use Rattle.css_model.specs.declared.position.AnB.{AnB}
-use Rattle.nth_positions.specs.Notation.{IsBlank, white_space, comment, AreBlanks, AreDigits, value, IsSignBefore, IsSigned, IsStepSize, one, written, IsBody, integer, step}
-use Rattle.nth_positions.specs.Reading.{is_empty, digits_of, past_digits, capped, signed, is_minus, past_sign, last_number, offset_of, step_size, numbers_from, numbers_of}
+use Rattle.css_model.specs.Positions.Notation.{IsBlank, white_space, comment, AreBlanks, AreDigits, value, IsSignBefore, IsSigned, IsStepSize, one, written, IsBody, integer, step}
+use Rattle.css_model.specs.Lists.{is_empty}
+use Rattle.css_model.specs.Positions.Reading.{digits_of, past_digits, capped, signed, is_minus, past_sign, last_number, offset_of, step_size, numbers_from, numbers_of}
 use Rattle.nth_positions.proofs.Cases.{chosen, both_are, one_is, same_some, none_is_no_some, neither_is}
 use Rattle.nth_positions.proofs.Bytes.{no_digit_in_blanks, digit_range, white_small, is_false}
 use Rattle.nth_positions.proofs.Digits.{digits_split, digits_found, digits_of_front, past_digits_of_front}

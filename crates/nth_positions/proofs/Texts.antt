@@ -9,8 +9,9 @@ use Rattle.std.proofs.lemmas.Bool.{cases_lt}
 use Rattle.std.proofs.lemmas.List.{take-append-drop, append-nil, length-map}
 use Rattle.std.proofs.Math.Seq.{take-append_seam, drop-append_seam}
 use Rattle.css_model.specs.declared.position.AnB.{AnB}
-use Rattle.nth_positions.specs.Notation.{AreBlanks, AreDigits, value, IsSigned, IsSignBefore, IsStepSize, one, written, IsBody, odd, even, integer, step, IsNotation}
-use Rattle.nth_positions.specs.Reading.{past_blank, past_blanks, is_empty, past_word, alone, numbers_of, body_of}
+use Rattle.css_model.specs.Positions.Notation.{AreBlanks, AreDigits, value, IsSigned, IsSignBefore, IsStepSize, one, written, IsBody, odd, even, integer, step, IsNotation}
+use Rattle.css_model.specs.Positions.Reading.{past_blank, past_blanks, past_word, alone, numbers_of, body_of}
+use Rattle.css_model.specs.Lists.{is_empty}
 use Rattle.nth_positions.proofs.Cases.{chosen, both_are, same_some, none_is_no_some}
 use Rattle.nth_positions.proofs.Blanks.{past_blanks_of, past_blanks_splits, Skips}
 use Rattle.nth_positions.proofs.Bytes.{no_blank_at, digit_range, is_false}

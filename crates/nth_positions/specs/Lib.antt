@@ -1,4 +1,2 @@
 pub mod Gaps
-pub mod Notation
-pub mod Positions
-pub mod Reading
+pub mod Read

@@ -1,6 +1,6 @@
 ghost use Rattle.std.specs.Prelude.{◌≡◌, ◌<◌, ◌≤◌, ◌+◌, ◌^◌, ◌↔◌, ℕ, List, Contains};
 ghost use Rattle.css_model.specs.declared.position.AnB.{AnB};
-ghost use Rattle.css_model.specs.Matching.{IsNth};
+ghost use Rattle.css_model.specs.Documents.Matching.{IsNth};
 ghost use Rattle.nth_positions.specs.Gaps.{reduced, bounds_of, greatest_count};
 
 /// How far a gap between siblings has to be looked at: a gap of at least `threshold + period` has the

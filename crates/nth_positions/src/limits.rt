@@ -1,7 +1,7 @@
 ghost use Rattle.std.specs.Prelude.{◌≡◌, ◌<◌, ◌≤◌, ◌*◌, ◌^◌, ℕ, true, List, All, Contains, count_by, unsigned_abs};
 ghost use Rattle.std.specs.Int.{◌∣◌};
 ghost use Rattle.css_model.specs.declared.position.AnB.{AnB};
-ghost use Rattle.nth_positions.specs.Positions.{IsInRange, is_stepped};
+ghost use Rattle.css_model.specs.Positions.Range.{IsInRange, is_stepped};
 ghost use Rattle.nth_positions.specs.Gaps.{bounds_of, threshold_of, is_common_multiple, period_of, width_of, greatest_count, IsLeastCommonMultiple};
 
 use crate::gap::Bounds;

@@ -1,5 +1,5 @@
 ghost use Rattle.std.specs.Prelude.{IsTrue, ◌↔◌, ◌≡◌, ◌≢◌, ℕ, pos, ◌*ℤ◌, ◌≤ℤ◌, ◌<◌, ◌^◌, unsigned_abs};
-ghost use Rattle.css_model.specs.Matching.{IsNth};
+ghost use Rattle.css_model.specs.Documents.Matching.{IsNth};
 
 use css_model::AnB;
 

@@ -2,10 +2,12 @@ ghost use Rattle.std.specs.Prelude.{◌≡◌, ℕ, ◌+◌, ◌<◌, ◌≤◌,
 ghost use Rattle.std.specs.List.{AllPass, prefix_len};
 ghost use Rattle.std.specs.Char.{is_ascii_digit, to_ascii_lowercase};
 ghost use Rattle.css_model.specs.declared.position.AnB.{AnB};
-ghost use Rattle.nth_positions.specs.Positions.{IsInRange};
+ghost use Rattle.css_model.specs.Positions.Range.{IsInRange};
 ghost use Rattle.nth_positions.specs.declared.notation.AnbFault.TheVariants.{NotAnB, OutOfRange};
-ghost use Rattle.nth_positions.specs.Notation.{IsNotation, value};
-ghost use Rattle.nth_positions.specs.Reading.{past_close, past_blank, past_blanks, is_empty, digits_of, past_digits, capped, signed, is_minus, past_sign, last_number, offset_of, step_size, numbers_of, past_word, alone, body_of};
+ghost use Rattle.nth_positions.specs.Read.{Gives};
+ghost use Rattle.css_model.specs.Positions.Notation.{IsNotation, value};
+ghost use Rattle.css_model.specs.Positions.Reading.{past_close, past_blank, past_blanks, digits_of, past_digits, capped, signed, is_minus, past_sign, last_number, offset_of, step_size, numbers_of, past_word, alone, body_of};
+ghost use Rattle.css_model.specs.Lists.{is_empty};
 
 use css_model::AnB;
 use thiserror::Error;
@@ -38,6 +40,7 @@ pub enum AnbFault {
 /// `NotAnB` where the text is not of this form; `OutOfRange` where it is, and the step is beyond 32
 /// or the offset beyond 1,000 in size.
 pub fn read_anb(text: &[u8]) -> Result<AnB, AnbFault>
+    ensures exact { Gives result (body_of (past_blanks text.now)) }
     ensures ok { (x : AnB) → (result ≡ Ok x) ↔ (IsNotation text.now x × IsInRange x) }
     ensures not_anb { (result ≡ Err NotAnB) ↔ ((x : AnB) → IsNotation text.now x → ⊥) }
     ensures out_of_range { (result ≡ Err OutOfRange) ↔ ((x : AnB) × IsNotation text.now x × (IsInRange x → ⊥)) }
@@ -62,7 +65,7 @@ fn is_in_range(x: AnB) -> bool
 }
 
 /// What the body at the front stands for, with only blanks behind it; numbers are capped.
-#[tactic(auto, unfolding(crate::specs::Reading::body_of))]
+#[tactic(auto, unfolding(css_model::specs::Positions::Reading::body_of))]
 fn read_body(text: &[u8]) -> Option<AnB>
     ensures { result ≡ body_of text.now }
 {
@@ -76,7 +79,7 @@ fn read_body(text: &[u8]) -> Option<AnB>
 }
 
 /// `x`, where the text holds only blanks.
-#[tactic(auto, unfolding(crate::specs::Reading::alone))]
+#[tactic(auto, unfolding(css_model::specs::Positions::Reading::alone))]
 fn alone(x: AnB, text: &[u8]) -> Option<AnB>
     ensures { result ≡ alone x text.now }
 {
@@ -88,7 +91,7 @@ fn alone(x: AnB, text: &[u8]) -> Option<AnB>
 }
 
 /// What follows the word at the front, which is in lower case and found without ASCII case.
-#[tactic(auto, unfolding(crate::specs::Reading::past_word))]
+#[tactic(auto, unfolding(css_model::specs::Positions::Reading::past_word))]
 fn after_word<'a>(text: &'a [u8], word: &[u8]) -> Option<&'a [u8]>
     requires { map to_ascii_lowercase word.now ≡ word.now }
     ensures { option_copied result ≡ past_word word.now text.now }
@@ -102,7 +105,7 @@ fn after_word<'a>(text: &'a [u8], word: &[u8]) -> Option<&'a [u8]>
 }
 
 /// An integer, or a step with an offset or without one, with only blanks behind it.
-#[tactic(auto, unfolding(crate::specs::Reading::numbers_of))]
+#[tactic(auto, unfolding(css_model::specs::Positions::Reading::numbers_of))]
 fn read_numbers(text: &[u8]) -> Option<AnB>
     ensures { result ≡ numbers_of text.now }
 {
@@ -122,7 +125,7 @@ fn read_numbers(text: &[u8]) -> Option<AnB>
 }
 
 /// What follows the `n` of a step: an offset with its sign, or only blanks.
-#[tactic(auto, unfolding(crate::specs::Reading::offset_of))]
+#[tactic(auto, unfolding(css_model::specs::Positions::Reading::offset_of))]
 fn read_offset(text: &[u8]) -> Option<i32>
     ensures { result ≡ offset_of text.now }
 {
@@ -135,7 +138,7 @@ fn read_offset(text: &[u8]) -> Option<i32>
 }
 
 /// The number at the front, with only blanks behind it.
-#[tactic(auto, unfolding(crate::specs::Reading::last_number))]
+#[tactic(auto, unfolding(css_model::specs::Positions::Reading::last_number))]
 fn read_last(negative: bool, text: &[u8]) -> Option<i32>
     ensures { result ≡ last_number negative text.now }
 {
@@ -220,7 +223,7 @@ fn digit_count(text: &[u8]) -> usize
 }
 
 /// What follows the blanks at the front: white space and whole comments.
-#[tactic(auto, unfolding(crate::specs::Reading::past_blanks))]
+#[tactic(auto, unfolding(css_model::specs::Positions::Reading::past_blanks))]
 fn after_blanks(text: &[u8]) -> &[u8]
     ensures { result.now ≡ past_blanks text.now }
 {

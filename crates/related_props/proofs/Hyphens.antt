@@ -2,7 +2,7 @@
 use Rattle.std.proofs.Common.{◌≡◌, ℕ, ◌+◌, ◌-◌, ◌<◌, ◌≤◌, Bool, true, false, List, [], ◌∷◌, length, take, drop, Some, None, refl, arith}
 use Rattle.std.proofs.lemmas.Grind.{common_steps}
 use Rattle.std.specs.List.{list_any, position_or_len}
-use Rattle.css_model.specs.Family.{is_hyphen, is_vendor}
+use Rattle.css_model.specs.Cascade.Family.{is_hyphen, is_vendor}
 use Rattle.related_props.specs.Parts.{behind_vendor}
 
 -- an element that passes stands where the first one does

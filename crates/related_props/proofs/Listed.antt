@@ -4,8 +4,8 @@ use Rattle.std.specs.Prelude.{find}
 use Rattle.std.specs.List.{list_any}
 use Rattle.std.specs.Option.{option_map}
 use Rattle.std.specs.Borrow.{Bor}
-use Rattle.css_model.specs.Document.{same_text}
-use Rattle.css_model.specs.Family.{family_in}
+use Rattle.css_model.specs.Lists.{same_text}
+use Rattle.css_model.specs.Cascade.Family.{family_in}
 use Rattle.related_props.specs.declared.table.Row.{Row}
 use Rattle.related_props.specs.Table.{row_of, words_of}
 

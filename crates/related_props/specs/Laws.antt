@@ -1,6 +1,6 @@
 -- The laws of related names. Each is the contract of a public function.
 use Rattle.std.specs.Prelude.{ℕ, List, codes}
-use Rattle.css_model.specs.Family.{Related}
+use Rattle.css_model.specs.Cascade.Family.{Related}
 
 -- each name is related to itself
 abbrev pub RelatedIsReflexive : Type 0

@@ -1,7 +1,7 @@
 -- Steps on the way to the part of a name.
 use Rattle.std.specs.Prelude.{ℕ, Bool, ◌&&◌, ◌==◌, if◌then◌else◌, List, Option, Some, None}
 use Rattle.std.specs.List.{after_first, before_first, list_any}
-use Rattle.css_model.specs.Family.{is_hyphen, is_vendor}
+use Rattle.css_model.specs.Cascade.Family.{is_hyphen, is_vendor}
 
 abbrev pub is_underscore : ℕ → Bool
 is_underscore c = c == 0x5F

@@ -1,7 +1,7 @@
 -- What the code's table says.
 use Rattle.std.specs.Prelude.{ℕ, List, map}
 use Rattle.std.specs.Borrow.{Bor}
-use Rattle.css_model.specs.Family as model
+use Rattle.css_model.specs.Cascade.Family as model
 use Rattle.related_props.specs.declared.table.Row.{Row}
 
 -- words by their bytes

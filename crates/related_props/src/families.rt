@@ -1,6 +1,6 @@
 ghost use Rattle.std.specs.Prelude.{◌≡◌, ◌↔◌, IfOk, IsTrue, codes};
-ghost use Rattle.css_model.specs.Attribute.{begins_with};
-ghost use Rattle.css_model.specs.Family.{Related, family_of, related, related_families};
+ghost use Rattle.css_model.specs.Lists.{begins_with};
+ghost use Rattle.css_model.specs.Cascade.Family.{Related, family_of, related, related_families};
 ghost use Rattle.related_props.specs.Seen.{family_seen};
 
 use crate::parts::part_of;

@@ -2,7 +2,7 @@ ghost use Rattle.std.specs.Prelude.{◌≡◌, ◌≤◌, length};
 ghost use Rattle.std.specs.List.{list_all, position_or_len, prefix_len};
 ghost use Rattle.std.specs.Option.{option_copied};
 ghost use Rattle.std.specs.Char.{is_ascii_alphanumeric};
-ghost use Rattle.css_model.specs.Family.{is_hyphen, is_vendor, part_of, without_underscores, without_vendor};
+ghost use Rattle.css_model.specs.Cascade.Family.{is_hyphen, is_vendor, part_of, without_underscores, without_vendor};
 ghost use Rattle.related_props.specs.Parts.{behind_vendor, is_underscore};
 
 fn count_underscores(name: &[char]) -> usize

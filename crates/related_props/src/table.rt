@@ -1,8 +1,8 @@
 ghost use Rattle.std.specs.Prelude.{◌≡◌, ◌==◌, find, map, zip};
 ghost use Rattle.std.specs.List.{list_all, list_any};
 ghost use Rattle.std.specs.Option.{option_copied};
-ghost use Rattle.css_model.specs.Document.{same_text};
-ghost use Rattle.css_model.specs.Family.{rows, family_in};
+ghost use Rattle.css_model.specs.Lists.{same_text};
+ghost use Rattle.css_model.specs.Cascade.Family.{rows, family_in};
 ghost use Rattle.related_props.specs.Table.{row_of};
 
 /// A family of the table, and the parts of names that lead to it, in ASCII.
@@ -16,7 +16,7 @@ const TABLE: [Row; 10] = [
     Row {
         family: b"grid",
         parts: &[
-            b"columns", b"column", b"gap", b"row", b"grid", b"page", b"break",
+            b"columns", b"column", b"gap", b"row", b"rule", b"grid", b"page", b"break",
         ],
     },
     Row {

@@ -4,10 +4,10 @@ use Rattle.std.specs.List.{list_any, filter_map, slice_split, position_or_len, a
 use Rattle.std.specs.Option.{option_map_or}
 use Rattle.css_model.specs.declared.sheet.DeclItem.{DeclItem}
 use Rattle.css_model.specs.declared.token.Lexeme.{Lexeme}
-use Rattle.css_model.specs.Characters.{semicolon}
-use Rattle.css_model.specs.Declarations.{is_nested, declaration}
-use Rattle.css_model.specs.Items.{block, entries, opens_block, closes_block}
-use Rattle.css_model.specs.Lexemes.{is_sign_at}
+use Rattle.css_model.specs.Text.Characters.{semicolon}
+use Rattle.css_model.specs.Sheets.Declarations.{is_nested, declaration}
+use Rattle.css_model.specs.Sheets.Items.{block, entries, opens_block, closes_block}
+use Rattle.css_model.specs.Text.Lexemes.{is_sign_at}
 use Rattle.sheet_read.proofs.Places.{all_take, all_drop, all_parts}
 use denote.Ref.{Bor}
 

@@ -2,8 +2,8 @@
 use Rattle.std.proofs.Common.{ℕ, zero, suc, ◌≡◌, ◌≤◌, ◌<◌, ◌+◌, ◌++◌, Bool, true, false, cond, List, [], ◌∷◌, length, take, drop, refl, sym, ap, ◌∙◌, get_or, append_assoc, arith}
 use Rattle.std.specs.List.{filter, position_or_len}
 use Rattle.css_model.specs.declared.token.Lexeme.{Lexeme}
-use Rattle.css_model.specs.Items.{is_at_keyword, is_between_items, opens_block, closes_block, ends_prelude, end_len, item_len, items_from, items, is_whole}
-use Rattle.css_model.specs.Unescaped.{less_one}
+use Rattle.css_model.specs.Sheets.Items.{is_at_keyword, is_between_items, opens_block, closes_block, ends_prelude, end_len, item_len, items_from, items, is_whole}
+use Rattle.css_model.specs.Lists.{less_one}
 use Rattle.sheet_read.specs.Steps.{whole_items}
 
 items_from-drop : (k : ℕ) (xs : List Lexeme) → items_from k xs ≡ items (drop k xs)

@@ -11,10 +11,10 @@ use Rattle.css_model.specs.declared.token.Token.{Token}
 use Rattle.css_model.specs.declared.token.TokenFault.{TokenFault}
 use Rattle.css_model.specs.declared.token.TokenFlaw.{TokenFlaw}
 use Rattle.css_model.specs.declared.token.TokenKind.{TokenKind}
-use Rattle.css_model.specs.Lexemes.{is_white_kind, after, lexeme, lexemes_in}
-use Rattle.css_model.specs.Sheet.{is_some}
-use Rattle.css_model.specs.TokenAt.{part_at, done}
-use Rattle.css_model.specs.Tokens.{Part, parts, text_of, is_comment, token_then, tokens_at, fault_behind, byte_order_mark, stream, tokens}
+use Rattle.css_model.specs.Text.Lexemes.{is_white_kind, after, lexeme, lexemes_in}
+use Rattle.css_model.specs.Lists.{is_some}
+use Rattle.css_model.specs.Text.TokenAt.{part_at, done}
+use Rattle.css_model.specs.Text.Tokens.{Part, parts, text_of, is_comment, token_then, tokens_at, fault_behind, byte_order_mark, stream, tokens}
 use Rattle.css_tokens.specs.Laws.{Cover, TokensCover, PartsJoin, place_of}
 use Rattle.css_tokens.specs.Lexed.{IsLexed, PartsAreLexed}
 use Rattle.sheet_read.specs.Placed.{ArePlaced}

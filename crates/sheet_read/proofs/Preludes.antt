@@ -4,10 +4,11 @@ use Rattle.std.specs.List.{slice_split, position_or_len, before_first, AllByRecu
 use Rattle.std.specs.Option.{option_map, option_map_or}
 use Rattle.css_model.specs.declared.sheet.SelItem.{SelItem}
 use Rattle.css_model.specs.declared.token.Lexeme.{Lexeme}
-use Rattle.css_model.specs.Characters.{comma}
-use Rattle.css_model.specs.Items.{selector_parts, opens_block}
-use Rattle.css_model.specs.Lexemes.{is_sign_at}
-use Rattle.css_model.specs.Selectors.{all_of, before_all, selector_item}
+use Rattle.css_model.specs.Text.Characters.{comma}
+use Rattle.css_model.specs.Sheets.Items.{selector_parts, opens_block}
+use Rattle.css_model.specs.Text.Lexemes.{is_sign_at}
+use Rattle.css_model.specs.Lists.{all_of, before_all}
+use Rattle.css_model.specs.Sheets.Selectors.{selector_item}
 use Rattle.sheet_read.proofs.Places.{all_take, all_parts}
 use denote.Ref.{Bor}
 

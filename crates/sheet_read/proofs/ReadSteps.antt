@@ -6,12 +6,13 @@ use Rattle.std.proofs.lemmas.List.{append-nil}
 use Rattle.std.proofs.lemmas.List.Sums.{sum_by-cons}
 use Rattle.std.proofs.lemmas.Option.{slice_get_past}
 use Rattle.css_model.specs.declared.fault.FaultKind.TheVariants.{TooManyItems}
-use Rattle.css_model.specs.declared.fault.TheConstants.{ITEMS}
+use Rattle.css_model.specs.declared.limits.TheConstants.{MAX_ITEMS}
 use Rattle.css_model.specs.declared.sheet.Item.{Item}
 use Rattle.css_model.specs.declared.sheet.Item.TheVariants.{KeptBlock}
 use Rattle.css_model.specs.declared.token.Lexeme.{Lexeme}
-use Rattle.css_model.specs.Lexemes.{piece_of}
-use Rattle.css_model.specs.Sheet.{is_import, is_namespace, namespace_at, item_of, read_items, start_of, fault_of, unless}
+use Rattle.css_model.specs.Text.Lexemes.{piece_of}
+use Rattle.css_model.specs.Sheets.Sheet.{is_import, is_namespace, namespace_at, item_of, read_items, start_of}
+use Rattle.css_model.specs.Sheets.Fault.{fault_of, unless}
 use Rattle.sheet_read.specs.Placed.{IsPlaced, ArePlaced}
 use Rattle.sheet_read.specs.Steps.{count_imports, item_before, items_of}
 
@@ -81,16 +82,16 @@ get_behind : (done later : List Item) (x : Item) → slice_get (done ++ x ∷ la
 get_behind [] later x = refl
 get_behind (y ∷ done) later x = get_behind done later x
 
-pub too_many : (source : List ℕ) (raw : List (List Lexeme)) (done later : List Item) (x : Item) → done ++ x ∷ later ≡ read_items source raw → length done ≡ ITEMS
+pub too_many : (source : List ℕ) (raw : List (List Lexeme)) (done later : List Item) (x : Item) → done ++ x ∷ later ≡ read_items source raw → length done ≡ MAX_ITEMS
     → items_of source raw ≡ Err (record { kind = TooManyItems; at = start_of x })
 too_many source raw done later x is full =
-    let here : slice_get (read_items source raw) ITEMS ≡ Some x =
+    let here : slice_get (read_items source raw) MAX_ITEMS ≡ Some x =
     ap (λ (n : ℕ). slice_get (read_items source raw) n) (sym full) ∙ ap (λ (xs : List Item). slice_get xs (length done)) (sym is) ∙ get_behind done later x
     in
     ap (λ (o : Option Item). unless (fault_of TooManyItems (option_map start_of o) ∷ []) (read_items source raw)) here
 
-pub not_too_many : (source : List ℕ) (raw : List (List Lexeme)) (done : List Item) → done ++ [] ≡ read_items source raw → length done ≤ ITEMS → items_of source raw ≡ Ok done
+pub not_too_many : (source : List ℕ) (raw : List (List Lexeme)) (done : List Item) → done ++ [] ≡ read_items source raw → length done ≤ MAX_ITEMS → items_of source raw ≡ Ok done
 not_too_many source raw done is few =
     let all : read_items source raw ≡ done = sym is ∙ append-nil done in
-    let past : slice_get (read_items source raw) ITEMS ≡ None = ap (λ (xs : List Item). slice_get xs ITEMS) all ∙ slice_get_past done ITEMS few in
+    let past : slice_get (read_items source raw) MAX_ITEMS ≡ None = ap (λ (xs : List Item). slice_get xs MAX_ITEMS) all ∙ slice_get_past done MAX_ITEMS few in
     ap (λ (o : Option Item). unless (fault_of TooManyItems (option_map start_of o) ∷ []) (read_items source raw)) past ∙ ap Ok all

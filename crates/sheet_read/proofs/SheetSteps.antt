@@ -6,14 +6,15 @@ use Rattle.std.specs.Str.Lossy.{utf8_valid_len}
 use Rattle.std.proofs.lemmas.Bool.{false≢true}
 use Rattle.css_model.specs.declared.fault.FaultKind.TheVariants.{NotUtf8, EndInside, TooDeep, Namespace, TooManyItems, TooManyPairs}
 use Rattle.css_model.specs.declared.fault.SheetFault.{SheetFault}
-use Rattle.css_model.specs.declared.fault.TheConstants.{LIMIT}
+use Rattle.css_model.specs.declared.limits.TheConstants.{MAX_BYTES}
 use Rattle.css_model.specs.declared.sheet.Item.{Item}
 use Rattle.css_model.specs.declared.token.Lexeme.{Lexeme}
 use Rattle.css_model.specs.declared.token.Token.{Token}
 use Rattle.css_model.specs.declared.token.TokenFault.{TokenFault}
-use Rattle.css_model.specs.Lexemes.{lexemes}
-use Rattle.css_model.specs.Sheet.{token_fault, fault_of, unless, read_items, namespace_at, too_deep, unclosed, too_many_items, too_many_pairs, sheet_of, sheet_of_stream, sheet_of_tokens}
-use Rattle.css_model.specs.Tokens.{tokens}
+use Rattle.css_model.specs.Text.Lexemes.{lexemes}
+use Rattle.css_model.specs.Sheets.Sheet.{token_fault, read_items, namespace_at, too_deep, unclosed, too_many_items, too_many_pairs, sheet_of, sheet_of_stream, sheet_of_tokens}
+use Rattle.css_model.specs.Sheets.Fault.{fault_of, unless}
+use Rattle.css_model.specs.Text.Tokens.{tokens}
 use Rattle.sheet_read.specs.declared.fault.SheetError.{SheetError}
 use Rattle.sheet_read.specs.declared.fault.SheetError.TheVariants as errors
 use Rattle.sheet_read.specs.Placed.{ArePlaced}
@@ -63,17 +64,17 @@ placed_lexemes laws source ts xs tokens_are lexemes_are =
     let same : lexemes ts ≡ xs = unless_value (fault_of TooDeep (too_deep (lexemes ts)) ∷ fault_of EndInside (unclosed ts) ∷ []) (lexemes ts) xs lexemes_are in
     subst (ArePlaced source) (ap lexemes parts.2 ∙ same) (placed laws source parts.1)
 
-not_too_long : (source : List ℕ) → length source ≤ LIMIT
+not_too_long : (source : List ℕ) → length source ≤ MAX_BYTES
     → sheet_of source ≡ cond (nat_lt (utf8_valid_len source) (length source)) (Err (record { kind = NotUtf8; at = utf8_valid_len source }))
     (sheet_of_stream source (tokens source true).fault (tokens source true).tokens)
-not_too_long source le = rw (le-ltb LIMIT (length source) le) refl
+not_too_long source le = rw (le-ltb MAX_BYTES (length source) le) refl
 
-pub sheet_of_read : (source : List ℕ) (ts : List Token) → length source ≤ LIMIT → tokens_of source ≡ Ok ts → sheet_of source ≡ sheet_of_tokens source ts
+pub sheet_of_read : (source : List ℕ) (ts : List Token) → length source ≤ MAX_BYTES → tokens_of source ≡ Ok ts → sheet_of source ≡ sheet_of_tokens source ts
 sheet_of_read source ts le h =
     not_too_long source le
     ∙ tokens_all source (nat_lt (utf8_valid_len source) (length source)) (record { kind = NotUtf8; at = utf8_valid_len source }) (tokens source true).fault (tokens source true).tokens ts h
 
-pub sheet_of_fault : (source : List ℕ) (f : SheetFault) → length source ≤ LIMIT → tokens_of source ≡ Err f → sheet_of source ≡ Err f
+pub sheet_of_fault : (source : List ℕ) (f : SheetFault) → length source ≤ MAX_BYTES → tokens_of source ≡ Err f → sheet_of source ≡ Err f
 sheet_of_fault source f le h =
     not_too_long source le
     ∙ tokens_fault source (nat_lt (utf8_valid_len source) (length source)) (record { kind = NotUtf8; at = utf8_valid_len source }) f (tokens source true).fault (tokens source true).tokens h

@@ -5,8 +5,8 @@ use Rattle.std.proofs.lemmas.List.{append-nil}
 use Rattle.css_model.specs.declared.fault.FaultKind.TheVariants.{NotUtf8}
 use Rattle.css_model.specs.declared.token.Token.{Token}
 use Rattle.css_model.specs.declared.token.TokenFault.{TokenFault}
-use Rattle.css_model.specs.Sheet.{token_fault}
-use Rattle.css_model.specs.Tokens.{Stream, tokens}
+use Rattle.css_model.specs.Sheets.Sheet.{token_fault}
+use Rattle.css_model.specs.Text.Tokens.{Stream, tokens}
 use Rattle.sheet_read.specs.Steps.{all_tokens, tokens_of}
 
 pub not_utf8 : (source : List ℕ) → utf8_valid_len source < length source → tokens_of source ≡ Err (record { kind = NotUtf8; at = utf8_valid_len source })

@@ -2,8 +2,8 @@
 use Rattle.std.specs.Prelude.{ℕ, ◌≡◌, ◌<◌, ◌≤◌, ◌-◌, false, List, drop, length, Some, Ok}
 use Rattle.std.specs.List.{AllByRecursion}
 use Rattle.css_model.specs.declared.token.Lexeme.{Lexeme}
-use Rattle.css_model.specs.Lexemes.{is_white_kind}
-use Rattle.css_model.specs.TokenAt.{part_at}
+use Rattle.css_model.specs.Text.Lexemes.{is_white_kind}
+use Rattle.css_model.specs.Text.TokenAt.{part_at}
 
 -- a token stands in a source, has a byte, is no white space, and is what is read at its place
 pub record IsPlaced (source : List ℕ) (x : Lexeme) : Type 0 where

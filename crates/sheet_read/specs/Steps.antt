@@ -5,17 +5,19 @@ use Rattle.std.specs.Option.{option_map}
 use Rattle.std.specs.Str.Lossy.{utf8_valid_len}
 use Rattle.css_model.specs.declared.fault.FaultKind.TheVariants.{NotUtf8, EndInside, TooDeep, Namespace, TooManyItems}
 use Rattle.css_model.specs.declared.fault.SheetFault.{SheetFault}
-use Rattle.css_model.specs.declared.fault.TheConstants.{BRACKETS}
+use Rattle.css_model.specs.declared.limits.TheConstants.{MAX_DEPTH}
 use Rattle.css_model.specs.declared.sheet.Item.{Item}
 use Rattle.css_model.specs.declared.sheet.Item.TheVariants.{KeptBlock}
 use Rattle.css_model.specs.declared.token.Bracket.{Bracket}
 use Rattle.css_model.specs.declared.token.Lexeme.{Lexeme}
 use Rattle.css_model.specs.declared.token.Token.{Token}
 use Rattle.css_model.specs.declared.token.TokenFault.{TokenFault}
-use Rattle.css_model.specs.Items.{items, is_whole}
-use Rattle.css_model.specs.Lexemes.{lexemes, piece_of}
-use Rattle.css_model.specs.Sheet.{token_fault, fault_of, unless, opens, too_deep, unclosed, is_import, namespace_at, item_of, read_items, too_many_items}
-use Rattle.css_model.specs.Tokens.{tokens}
+use Rattle.css_model.specs.Sheets.Items.{items, is_whole}
+use Rattle.css_model.specs.Text.Lexemes.{lexemes, piece_of}
+use Rattle.css_model.specs.Sheets.Sheet.{token_fault, too_deep, unclosed, is_import, namespace_at, item_of, read_items, too_many_items}
+use Rattle.css_model.specs.Sheets.Fault.{fault_of, unless}
+use Rattle.css_model.specs.Text.Lexemes.{opens}
+use Rattle.css_model.specs.Text.Tokens.{tokens}
 
 -- all tokens of a stream, or the fault that ends it
 abbrev pub all_tokens : Option TokenFault → List Token → Result (List Token) SheetFault
@@ -33,7 +35,7 @@ outermost brackets = option_map (λ b. b.at) (last_or None brackets)
 
 -- a token opens a bracket that is one too many
 abbrev pub is_too_deep : Lexeme → Bool
-is_too_deep x = opens x.kind && x.level == BRACKETS
+is_too_deep x = opens x.kind && x.level == MAX_DEPTH
 
 abbrev pub lexemes_of : List Token → Result (List Lexeme) SheetFault
 lexemes_of ts = unless (fault_of TooDeep (too_deep (lexemes ts)) ∷ fault_of EndInside (unclosed ts) ∷ []) (lexemes ts)

@@ -3,9 +3,9 @@
 ghost use Rattle.std.specs.Prelude.{◌≡◌, ◌++◌, not, ◌&&◌, ◌||◌, IfOk, OnOk};
 ghost use Rattle.std.specs.List.{list_any};
 ghost use Rattle.std.specs.Option.{option_map, option_to_list};
-ghost use Rattle.css_model.specs.Declarations as block;
-ghost use Rattle.css_model.specs.Items as items;
-ghost use Rattle.css_model.specs.Lexemes as lexemes;
+ghost use Rattle.css_model.specs.Sheets.Declarations as block;
+ghost use Rattle.css_model.specs.Sheets.Items as items;
+ghost use Rattle.css_model.specs.Text.Lexemes as lexemes;
 ghost use Rattle.sheet_read.specs.Placed.{IsPlaced, ArePlaced};
 
 use crate::items::is_at_rule;

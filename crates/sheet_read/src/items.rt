@@ -3,7 +3,7 @@
 ghost use Rattle.std.specs.Prelude.{◌≡◌, ◌<◌, ◌≤◌, ◌+◌, ◌∷◌, ◌++◌, List, [], length, take, drop, IfSome, MatchOption};
 ghost use Rattle.std.specs.List.{position_or_len};
 ghost use Rattle.css_model.specs.declared.token.Lexeme.{Lexeme};
-ghost use Rattle.css_model.specs.Items as spec;
+ghost use Rattle.css_model.specs.Sheets.Items as spec;
 ghost use Rattle.sheet_read.specs.Steps.{whole_items};
 
 use crate::signs::{has_sign_at, is_sign_at};

@@ -2,15 +2,15 @@
 //! sections 4 and 5.4.8).
 
 ghost use Rattle.std.specs.Prelude.{◌≡◌, ◌≤◌, length, reverse, OnOk};
-ghost use Rattle.css_model.specs.Lexemes as spec;
-ghost use Rattle.css_model.specs.Sheet as sheet;
+ghost use Rattle.css_model.specs.Text.Lexemes as spec;
+ghost use Rattle.css_model.specs.Sheets.Sheet as sheet;
 ghost use Rattle.sheet_read.specs.Reading.{Answers};
 ghost use Rattle.sheet_read.specs.Steps as steps;
 
 use crate::fault::SheetError;
 use crate::signs::is_sign_of;
 use css_model::{
-    BRACKETS, Bracket, FaultKind, Gap, Lexeme, Piece, SheetFault, Token, TokenFault, TokenKind,
+    MAX_DEPTH, Bracket, FaultKind, Gap, Lexeme, Piece, SheetFault, Token, TokenFault, TokenKind,
 };
 use css_tokens::Tokens;
 use std::alloc::{AllocError, Global};
@@ -172,7 +172,7 @@ fn lexeme(level: u32, token: Token, behind: &[Token]) -> Lexeme
 fn is_too_deep(x: &Lexeme) -> bool
     ensures { result ≡ steps.is_too_deep x.now }
 {
-    closer_of(x.kind).is_some() && x.level == BRACKETS
+    closer_of(x.kind).is_some() && x.level == MAX_DEPTH
 }
 
 /// The tokens that are no white space, where no bracket is one too many or is left open.

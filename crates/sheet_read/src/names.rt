@@ -1,7 +1,7 @@
 //! What the name of a property or of a type stands for.
 
 ghost use Rattle.std.specs.Prelude.{◌≡◌, IfOk};
-ghost use Rattle.css_model.specs.Declarations as declarations;
+ghost use Rattle.css_model.specs.Sheets.Declarations as declarations;
 
 use css_model::Text;
 use std::alloc::{AllocError, Global};

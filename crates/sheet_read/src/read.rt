@@ -3,8 +3,8 @@
 ghost use Rattle.std.specs.Prelude.{◌≡◌, ◌≤◌, ◌<◌, ◌+◌, ◌-◌, true, if◌then◌else◌, map, length, Result, IfOk};
 ghost use Rattle.std.specs.Option.{option_map};
 ghost use Rattle.std.specs.Str.{IsAscii};
-ghost use Rattle.css_model.specs.Sheet as spec;
-ghost use Rattle.css_model.specs.Sheet.{sheet_of};
+ghost use Rattle.css_model.specs.Sheets.Sheet as spec;
+ghost use Rattle.css_model.specs.Sheets.Sheet.{sheet_of};
 ghost use Rattle.sheet_read.specs.Placed.{ArePlaced};
 ghost use Rattle.sheet_read.specs.Reading.{Answers};
 ghost use Rattle.sheet_read.specs.Steps as steps;
@@ -16,7 +16,7 @@ use crate::lexing::{lexemes_of, tokens_of};
 use crate::selectors::selectors;
 use crate::signs::piece_of;
 use css_model::{
-    Decl, DeclItem, FaultKind, ITEMS, Item, KeptRule, LIMIT, Lexeme, PAIRS, Piece, Rule, SelItem,
+    Decl, DeclItem, FaultKind, MAX_ITEMS, Item, KeptRule, MAX_BYTES, Lexeme, MAX_PAIRS, Piece, Rule, SelItem,
     Sheet, SheetFault,
 };
 use css_tokens::{is_named, parts_join, parts_read_back, tokens_cover};
@@ -183,7 +183,7 @@ fn items_of(
     'items: while let Some((item, behind)) = next_item(rest) {
         imports_left = imports_behind(source, item, imports_left);
         if let Some(read) = item_before(alloc, source, item, imports_left)? {
-            if items.len() == ITEMS as usize {
+            if items.len() == MAX_ITEMS as usize {
                 return Err(SheetError::Fault(SheetFault {
                     kind: FaultKind::TooManyItems,
                     at: start_of(&read),
@@ -198,8 +198,8 @@ fn items_of(
 
 /// So many pairs and those of an item, or the greatest number where they are more.
 fn with_pairs_of(pairs: u64, item: &Item) -> u64
-    ensures few { pairs + spec.pairs_of item.now ≤ PAIRS → result ≡ pairs + spec.pairs_of item.now }
-    ensures many { PAIRS < pairs + spec.pairs_of item.now → PAIRS < result }
+    ensures few { pairs + spec.pairs_of item.now ≤ MAX_PAIRS → result ≡ pairs + spec.pairs_of item.now }
+    ensures many { MAX_PAIRS < pairs + spec.pairs_of item.now → MAX_PAIRS < result }
 {
     match item {
         Item::Rule(rule) => {
@@ -217,7 +217,7 @@ fn too_many_pairs(items: &[Item]) -> Option<u32>
     let mut pairs = 0;
     for item in items {
         pairs = with_pairs_of(pairs, item);
-        if pairs > u64::from(PAIRS) {
+        if pairs > u64::from(MAX_PAIRS) {
             return Some(start_of(item));
         }
     }
@@ -232,10 +232,10 @@ pub fn read_sheet(alloc: Global, source: &[u8]) -> Result<Sheet, SheetError>
     tokens_cover();
     parts_join();
     parts_read_back();
-    if source.len() > LIMIT as usize {
+    if source.len() > MAX_BYTES as usize {
         return Err(SheetError::Fault(SheetFault {
             kind: FaultKind::TooLong,
-            at: LIMIT,
+            at: MAX_BYTES,
         }));
     }
     let tokens = tokens_of(alloc, source)?;

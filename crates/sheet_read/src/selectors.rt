@@ -3,12 +3,12 @@
 ghost use Rattle.std.specs.Prelude.{◌≡◌, ◌<◌, ◌≤◌, ◌&&◌, not, drop, length, codes, IfOk};
 ghost use Rattle.std.specs.Option.{option_map};
 ghost use Rattle.css_model.specs.declared.selector.Test.TheVariants.{Id};
-ghost use Rattle.css_model.specs.Declarations.{is_delim_of, is_ident};
-ghost use Rattle.css_model.specs.Document.{same_text};
-ghost use Rattle.css_model.specs.Kept.{is_white_gap};
-ghost use Rattle.css_model.specs.Selectors as list;
-ghost use Rattle.css_model.specs.Source.{IsWithin, text_at};
-ghost use Rattle.css_model.specs.Unescaped.{decoded};
+ghost use Rattle.css_model.specs.Text.Lexemes.{is_delim_of, is_ident};
+ghost use Rattle.css_model.specs.Lists.{same_text};
+ghost use Rattle.css_model.specs.Text.Kept.{is_white_gap};
+ghost use Rattle.css_model.specs.Sheets.Selectors as list;
+ghost use Rattle.css_model.specs.Text.Source.{IsWithin, text_at};
+ghost use Rattle.css_model.specs.Text.Names.{decoded};
 ghost use Rattle.sheet_read.specs.Placed.{IsPlaced, ArePlaced};
 
 use crate::names::lower;

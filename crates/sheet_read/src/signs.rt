@@ -3,10 +3,10 @@
 ghost use Rattle.std.specs.Prelude.{◌≡◌, ◌∷◌, ◌<◌, [], length, IfSome};
 ghost use Rattle.std.specs.List.{position_from, before_first, after_first, slice_split, list_any};
 ghost use Rattle.std.specs.Option.{option_map_or};
-ghost use Rattle.css_model.specs.Declarations as declarations;
-ghost use Rattle.css_model.specs.Items as items;
-ghost use Rattle.css_model.specs.Kept as kept;
-ghost use Rattle.css_model.specs.Lexemes as lexemes;
+ghost use Rattle.css_model.specs.Sheets.Declarations as declarations;
+ghost use Rattle.css_model.specs.Sheets.Items as items;
+ghost use Rattle.css_model.specs.Text.Kept as kept;
+ghost use Rattle.css_model.specs.Text.Lexemes as lexemes;
 
 use css_model::{Gap, Lexeme, Piece, TokenKind};
 

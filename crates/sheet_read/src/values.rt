@@ -1,8 +1,8 @@
 //! The text of a value, as it is printed.
 
 ghost use Rattle.std.specs.Prelude.{◌≡◌, ◌++◌, ◌∷◌, false, map, IfOk};
-ghost use Rattle.css_model.specs.Kept as text;
-ghost use Rattle.css_model.specs.Source.{text_at};
+ghost use Rattle.css_model.specs.Text.Kept as text;
+ghost use Rattle.css_model.specs.Text.Source.{text_at};
 ghost use Rattle.sheet_read.specs.Placed.{IsPlaced, ArePlaced};
 
 use crate::signs::is_white_gap;

@@ -4,8 +4,8 @@ use Rattle.std.specs.List.{starts_with}
 use Rattle.std.proofs.lemmas.Bool.{cond_both}
 use Rattle.css_model.specs.declared.token.TokenFlaw.{TokenFlaw}
 use Rattle.css_model.specs.declared.token.TokenKind.{TokenKind}
-use Rattle.css_model.specs.TokenAt.{Shape, part_at}
-use Rattle.css_model.specs.Tokens.{Part, Parts, after_first, byte_order_mark, is_comment, part_then, parts, parts_from, stream, token_then, tokens, tokens_at}
+use Rattle.css_model.specs.Text.TokenAt.{Shape, part_at}
+use Rattle.css_model.specs.Text.Tokens.{Part, Parts, after_first, byte_order_mark, is_comment, part_then, parts, parts_from, stream, token_then, tokens, tokens_at}
 
 few-more : (r : Result Shape TokenFlaw) (text : List ℕ) (more : Parts) (n : ℕ) → length more.parts ≤ n → length (part_then r text more).parts ≤ suc n
 few-more (Ok s) text more n h = omega (arith, h)

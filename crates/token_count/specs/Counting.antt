@@ -1,7 +1,7 @@
 -- How many tokens a source has.
 use Rattle.std.specs.Prelude.{◌≡◌, ℕ, List, length, true, Some, None}
 use Rattle.std.specs.Str.Lossy.{utf8_valid_len}
-use Rattle.css_model.specs.Tokens.{tokens}
+use Rattle.css_model.specs.Text.Tokens.{tokens}
 use Rattle.token_count.specs.declared.count.Refused.{Refused}
 use Rattle.token_count.specs.declared.count.Refused.TheVariants.{NotUtf8, Token}
 

@@ -1,7 +1,7 @@
 //! The tokens of a style sheet, counted.
 
 ghost use Rattle.std.specs.Prelude.{◌≡◌, ◌≤◌, ◌+◌, ◌<◌, ◌^◌, length, true, None, IfOk, IfErr, Err, Some};
-ghost use Rattle.css_model.specs.Tokens.{tokens};
+ghost use Rattle.css_model.specs.Text.Tokens.{tokens};
 ghost use Rattle.token_count.specs.Counting.{IsCount, IsRefused};
 
 use css_model::TokenFault;

@@ -6,12 +6,12 @@ mod count;
 
 use count::token_count;
 use css_io::{ReadError, StdSource, read_all};
-use css_model::LIMIT;
+use css_model::MAX_BYTES;
 use std::process::ExitCode;
 
 fn main(rt: HostRuntime) -> ExitCode {
     let mut input = StdSource::new(rt.stdin());
-    let source = match read_all(rt.alloc(), &mut input, LIMIT) {
+    let source = match read_all(rt.alloc(), &mut input, MAX_BYTES) {
         Ok(source) => source,
         Err(ReadError::ReadFault) => return ExitCode::from(4),
         Err(ReadError::TooLong) => return ExitCode::from(3),

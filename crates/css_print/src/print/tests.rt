@@ -1,8 +1,8 @@
 //! Printed texts of sheets that are made by hand, and their lengths.
 
 ghost use Rattle.std.specs.Prelude.{◌≡◌, ◌∷◌, [], IfOk};
-ghost use Rattle.css_model.specs.Selectors.{of_one_test, class_test};
-ghost use Rattle.css_model.specs.Sound.{IsSoundSelector, IsSoundDeclaration, IsSoundRule, IsSoundItem, IsSound};
+ghost use Rattle.css_model.specs.Sheets.Selectors.{of_one_test, class_test};
+ghost use Rattle.css_model.specs.Sheets.Sound.{IsSoundSelector, IsSoundDeclaration, IsSoundRule, IsSoundItem, IsSound};
 
 use super::{print_decl, print_len, print_selector, print_sheet};
 use css_model::{

@@ -1,6 +1,6 @@
 use Rattle.std.proofs.Common.{◌≡◌, ◌≤◌, take}
 use Rattle.std.specs.List.{count_by}
-use Rattle.css_model.specs.Specificity.{is_id, is_class, is_type}
+use Rattle.css_model.specs.Documents.Specificity.{is_id, is_class, is_type}
 use Rattle.css_model.proofs.counting.compound_specificity.Given as goal
 
 abbrev pub invariant-loop-simple : goal.invariant-loop-simple

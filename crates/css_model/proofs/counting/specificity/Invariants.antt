@@ -1,6 +1,6 @@
 use Rattle.std.proofs.Common.{◌≡◌, ◌+◌, ◌*◌, ◌≤◌, take}
 use Rattle.std.specs.List.{count_by, flat_map}
-use Rattle.css_model.specs.Specificity.{is_id, is_class, is_type, pseudo_count}
+use Rattle.css_model.specs.Documents.Specificity.{is_id, is_class, is_type, pseudo_count}
 use Rattle.css_model.proofs.counting.specificity.Given as goal
 
 abbrev pub invariant-loop-compound : goal.invariant-loop-compound

@@ -1,6 +1,6 @@
 use Rattle.std.proofs.Common.{◌≡◌, ℕ, List, [], ◌∷◌, ◌++◌, refl, subst}
 use Rattle.std.proofs.lemmas.Result.{IfOk-weaker}
-use Rattle.css_model.specs.Printed.{printed_declaration}
+use Rattle.css_model.specs.Sheets.Printed.{printed_declaration}
 use Rattle.css_print.proofs.PieceLemmas.{name_within}
 use Rattle.css_print.proofs.print.put_declaration.Goals as goal
 

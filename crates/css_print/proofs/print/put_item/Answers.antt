@@ -1,7 +1,7 @@
 use Rattle.std.proofs.Common.{sym, subst}
 use Rattle.css_model.specs.declared.sheet.Item.{Item}
-use Rattle.css_model.specs.KeptRuleParts.{KeptRuleParts}
-use Rattle.css_model.specs.Sound.{IsSoundItem, IsSoundKeptRule, IsSoundBlock}
+use Rattle.css_model.specs.Sheets.KeptRuleParts.{KeptRuleParts}
+use Rattle.css_model.specs.Sheets.Sound.{IsSoundItem, IsSoundKeptRule, IsSoundBlock}
 use Rattle.css_print.specs.Places.{BeginsAt}
 use Rattle.css_print.proofs.PieceLemmas.{kept_begins, block_begins}
 use Rattle.css_print.proofs.print.put_item.Goals as goal

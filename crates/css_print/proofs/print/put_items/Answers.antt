@@ -2,7 +2,7 @@ use Rattle.std.proofs.Common.{ℕ, List, take, subst, sym, arith}
 use Rattle.std.specs.List.{flat_map}
 use Rattle.std.proofs.lemmas.List.{take_all}
 use Rattle.css_model.specs.declared.sheet.Item.{Item}
-use Rattle.css_model.specs.Printed.{printed_item}
+use Rattle.css_model.specs.Sheets.Printed.{printed_item}
 use Rattle.css_print.proofs.Joining.{flat_map_step}
 use Rattle.css_print.proofs.print.put_items.Goals as goal
 

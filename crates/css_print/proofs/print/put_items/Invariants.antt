@@ -1,6 +1,6 @@
 use Rattle.std.proofs.Common.{take}
 use Rattle.std.specs.List.{flat_map}
-use Rattle.css_model.specs.Printed.{printed_item}
+use Rattle.css_model.specs.Sheets.Printed.{printed_item}
 use Rattle.css_print.proofs.print.put_items.Given as goal
 
 -- what was written so far

@@ -1,7 +1,7 @@
 use Rattle.std.proofs.Common.{List, [], ◌++◌, map, ap, ◌∙◌}
 use Rattle.std.specs.List.{flat_map}
-use Rattle.css_model.specs.Kept.{solid}
-use Rattle.css_model.specs.Spelling.{tokens_in}
+use Rattle.css_model.specs.Text.Kept.{solid}
+use Rattle.css_model.specs.Sheets.Spelling.{tokens_in}
 use Rattle.css_print.specs.Walking.{left}
 use Rattle.css_print.specs.Words.{WordTexts}
 use Rattle.css_print.proofs.PieceWords.{begins_inside, begins_words}

@@ -1,6 +1,6 @@
 use Rattle.std.proofs.Common.{◌≡◌, ℕ, List, ◌++◌, length}
 use Rattle.std.specs.List.{flat_map}
-use Rattle.css_model.specs.Spelling.{kept_text}
+use Rattle.css_model.specs.Sheets.Spelling.{kept_text}
 use Rattle.css_print.specs.Walking.{left, IsReady}
 use Rattle.css_print.proofs.WordLemmas.{spelled}
 use Rattle.css_print.proofs.print.put_kept.Given as goal

@@ -1,6 +1,6 @@
 use Rattle.std.proofs.Common.{◌≡◌, ℕ, List, ◌∷◌, ◌++◌, [], map, subst, ap}
 use Rattle.std.specs.List.{join_with_byte}
-use Rattle.css_model.specs.Printed.{printed_selector, printed_declaration, printed_rule}
+use Rattle.css_model.specs.Sheets.Printed.{printed_selector, printed_declaration, printed_rule}
 use Rattle.css_print.proofs.print.put_rule.Goals as goal
 
 pub returns : goal.returns

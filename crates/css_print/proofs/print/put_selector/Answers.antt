@@ -1,6 +1,6 @@
 use Rattle.std.proofs.Common.{List, [], ◌++◌, ap, ◌∙◌}
 use Rattle.std.specs.List.{flat_map}
-use Rattle.css_model.specs.Spelling.{tokens_in}
+use Rattle.css_model.specs.Sheets.Spelling.{tokens_in}
 use Rattle.css_print.specs.Walking.{left}
 use Rattle.css_print.specs.Words.{WordTexts}
 use Rattle.css_print.proofs.PieceLemmas.{selector_begins}

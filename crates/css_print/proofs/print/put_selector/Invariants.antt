@@ -1,6 +1,6 @@
 use Rattle.std.proofs.Common.{◌≡◌, ℕ, List, ◌++◌, length}
 use Rattle.std.specs.List.{flat_map}
-use Rattle.css_model.specs.Printed.{printed_selector}
+use Rattle.css_model.specs.Sheets.Printed.{printed_selector}
 use Rattle.css_print.specs.Walking.{left, IsReady}
 use Rattle.css_print.proofs.WordLemmas.{bare}
 use Rattle.css_print.proofs.print.put_selector.Given as goal

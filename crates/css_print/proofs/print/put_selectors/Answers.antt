@@ -1,7 +1,7 @@
 use Rattle.std.proofs.Common.{ℕ, List, [], ◌∷◌, ◌++◌, map, take, if◌then◌else◌, subst, arith}
 use Rattle.std.specs.Prelude.{◌==◌}
 use Rattle.std.specs.List.{join_with_byte}
-use Rattle.css_model.specs.Printed.{printed_selector}
+use Rattle.css_model.specs.Sheets.Printed.{printed_selector}
 use Rattle.css_print.proofs.Joining.{join_step}
 use Rattle.css_print.proofs.print.put_selectors.Goals as goal
 

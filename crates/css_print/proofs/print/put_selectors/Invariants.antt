@@ -1,6 +1,6 @@
 use Rattle.std.proofs.Common.{map, take}
 use Rattle.std.specs.List.{join_with_byte}
-use Rattle.css_model.specs.Printed.{printed_selector}
+use Rattle.css_model.specs.Sheets.Printed.{printed_selector}
 use Rattle.css_print.proofs.print.put_selectors.Given as goal
 
 -- what was written so far

@@ -1,8 +1,8 @@
 use Rattle.std.proofs.Common.{ℕ, List, Some, None, ◌≡◌, ◌+◌, ◌-◌, false, true, sym, ap, ◌∙◌, drop, length, arith}
 use Rattle.std.proofs.lemmas.List.{take_rest, length-drop}
 use Rattle.memchr.specs.Find.{IsFirstByte, is_byte}
-use Rattle.css_model.specs.Characters.{backslash}
-use Rattle.css_model.specs.Units.{escape_after}
+use Rattle.css_model.specs.Text.Characters.{backslash}
+use Rattle.css_model.specs.Text.Units.{escape_after}
 use Rattle.css_tokens.specs.OpenEscape.{is_open_escape, ends_open}
 use Rattle.css_tokens.proofs.EscapeLemmas.{ends_none, ends_shut, ends_true}
 use Rattle.css_tokens.proofs.escapes.ends_in_open_escape.Goals as goal

@@ -1,5 +1,5 @@
 use Rattle.std.proofs.Common.{◌≡◌, ◌-◌, ℕ, sym, ap, ◌∙◌, drop, arith}
-use Rattle.css_model.specs.Unescaped.{hex_value}
+use Rattle.css_model.specs.Text.Names.{hex_value}
 use Rattle.css_tokens.proofs.SaidLemmas.{six_digits, hex_value-none}
 use Rattle.css_tokens.proofs.names.hex_value.Goals as goal
 

@@ -1,5 +1,5 @@
 use Rattle.std.proofs.Common.{◌≡◌, ◌≤◌, ◌<◌, ◌-◌, ◌^◌, length, drop}
-use Rattle.css_model.specs.Unescaped.{hex_value}
+use Rattle.css_model.specs.Text.Names.{hex_value}
 use Rattle.css_tokens.proofs.names.hex_value.Given as goal
 
 -- the number that the digits so far write, and what the rest makes of it

@@ -1,7 +1,7 @@
 use Rattle.std.proofs.Common.{◌≡◌, ◌≤◌, ◌+◌, ◌-◌, length, drop}
 use Rattle.std.specs.Str.{IsAscii, str_eq_ignore_ascii_case}
-use Rattle.css_model.specs.Declarations as declarations
-use Rattle.css_model.specs.Unescaped as escapes
+use Rattle.css_model.specs.Sheets.Declarations as declarations
+use Rattle.css_model.specs.Text.Names as escapes
 use Rattle.css_tokens.proofs.names.is_named.Given as goal
 
 -- the rest of the name spells what is left of the word exactly where the whole name spells it

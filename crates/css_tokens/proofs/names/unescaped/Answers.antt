@@ -1,6 +1,6 @@
 use Rattle.std.proofs.Common.{ℕ, List, ◌≡◌, ◌+◌, ◌++◌, sym, ap, ◌∙◌, drop, get_or, arith, append_assoc}
 use Rattle.std.proofs.lemmas.List.{take_rest}
-use Rattle.css_model.specs.Unescaped.{first_len, first_text, unescaped}
+use Rattle.css_model.specs.Text.Names.{first_len, first_text, unescaped}
 use Rattle.css_tokens.specs.Said.{said_text}
 use Rattle.css_tokens.proofs.SaidLemmas.{unescaped_more}
 use Rattle.css_tokens.proofs.names.unescaped.Goals as goal

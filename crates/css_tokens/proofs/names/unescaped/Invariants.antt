@@ -1,5 +1,5 @@
 use Rattle.std.proofs.Common.{◌≡◌, ◌≤◌, ◌+◌, ◌-◌, ◌++◌, length, drop}
-use Rattle.css_model.specs.Unescaped as escapes
+use Rattle.css_model.specs.Text.Names as escapes
 use Rattle.css_tokens.proofs.names.unescaped.Given as goal
 
 -- what was said so far, and what the rest says

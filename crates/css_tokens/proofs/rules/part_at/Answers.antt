@@ -1,5 +1,5 @@
 use Rattle.std.proofs.Common.{◌≡◌, Ok, sym, ◌∙◌}
-use Rattle.css_model.specs.TokenAt.{rule_at}
+use Rattle.css_model.specs.Text.TokenAt.{rule_at}
 use Rattle.css_tokens.proofs.PartLemmas.{rule_len}
 use Rattle.css_tokens.proofs.rules.part_at.Goals as goal
 

@@ -1,7 +1,7 @@
 use Rattle.std.proofs.Common.{ℕ, ◌≡◌, ◌<◌, sym, ap, ◌∙◌, drop, arith}
 use Rattle.std.proofs.lemmas.List.{take_rest}
-use Rattle.css_model.specs.Units.{signed_decimal, number_len}
-use Rattle.css_model.specs.TokenAt.{number_shape, less_shape, at_shape}
+use Rattle.css_model.specs.Text.Units.{signed_decimal, number_len}
+use Rattle.css_model.specs.Text.TokenAt.{number_shape, less_shape, at_shape}
 use Rattle.css_tokens.proofs.RuleLemmas.{symbol_number, symbol_less, symbol_at_sign}
 use Rattle.css_tokens.proofs.rules.symbol_at.Goals as goal
 

@@ -1,5 +1,5 @@
 use Rattle.std.proofs.Common.{◌≡◌, ◌≤◌, ◌+◌, ◌-◌, length, drop}
-use Rattle.css_model.specs.Runs.{run}
+use Rattle.css_model.specs.Text.Runs.{run}
 use Rattle.css_tokens.specs.UnitOf.{unit_of}
 use Rattle.css_tokens.proofs.runs.run.Given as goal
 

@@ -1,6 +1,6 @@
 use Rattle.std.proofs.Common.{◌≡◌, ◌+◌, ◌<◌, sym, ap, ◌∙◌, drop, arith}
 use Rattle.std.proofs.lemmas.List.{take_rest}
-use Rattle.css_model.specs.Units.{string_unit}
+use Rattle.css_model.specs.Text.Units.{string_unit}
 use Rattle.css_tokens.proofs.RunLemmas.{run_more, run_none}
 use Rattle.css_tokens.proofs.StringLemmas.{run_past_plain, unit_inside}
 use Rattle.css_tokens.proofs.strings.string_len.Goals as goal

@@ -1,6 +1,6 @@
 use Rattle.std.proofs.Common.{◌≡◌, ◌≤◌, ◌+◌, ◌-◌, length, drop}
-use Rattle.css_model.specs.Runs.{run}
-use Rattle.css_model.specs.Units.{string_unit}
+use Rattle.css_model.specs.Text.Runs.{run}
+use Rattle.css_model.specs.Text.Units.{string_unit}
 use Rattle.css_tokens.proofs.strings.string_len.Given as goal
 
 -- what was passed, and the run of the rest

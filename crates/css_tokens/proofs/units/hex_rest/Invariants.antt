@@ -1,5 +1,5 @@
 use Rattle.std.proofs.Common.{◌≡◌, ◌≤◌, ◌+◌, ◌-◌, length, drop}
-use Rattle.css_model.specs.Units.{hex_rest}
+use Rattle.css_model.specs.Text.Units.{hex_rest}
 use Rattle.css_tokens.proofs.units.hex_rest.Given as goal
 
 -- the digits that were passed, and what is left of the rest

@@ -1,5 +1,5 @@
 use Rattle.std.proofs.Common.{None, Some, length, ap, ◌∙◌, arith}
-use Rattle.css_model.specs.RuleParts.{RuleParts}
+use Rattle.css_model.specs.Sheets.RuleParts.{RuleParts}
 use Rattle.cssmin.proofs.SelectorSets.{other_numbers, upper_repeats, lower_repeats, set_of_rule, sets_decide}
 use Rattle.cssmin.proofs.join.are_joinable.Goals as goal
 

@@ -1,7 +1,7 @@
 use Rattle.std.proofs.Common.{ℕ, List, ap, subst}
 use Rattle.std.proofs.lemmas.Result.{err_from_is_err_and}
 use Rattle.css_model.specs.declared.sheet.Item.{Item}
-use Rattle.css_model.specs.SheetParts.{SheetParts}
+use Rattle.css_model.specs.Sheets.SheetParts.{SheetParts}
 use Rattle.cssmin.specs.Joining.{JoinsIn}
 use Rattle.cssmin.proofs.Faults.{cause}
 use Rattle.cssmin.proofs.Limits.{within_limits}

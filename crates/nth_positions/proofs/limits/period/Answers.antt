@@ -5,7 +5,7 @@ use Rattle.std.proofs.lemmas.Int.{to_z-of_z}
 use Rattle.std.proofs.lemmas.List.{take_more, take_all}
 use Rattle.std.proofs.lemmas.List.Sums.{sum_by_more, sum_by-take-le}
 use Rattle.css_model.specs.declared.position.AnB.{AnB}
-use Rattle.nth_positions.specs.Positions.{is_stepped}
+use Rattle.css_model.specs.Positions.Range.{is_stepped}
 use Rattle.nth_positions.specs.Gaps.{IsLeastCommonMultiple}
 use Rattle.nth_positions.proofs.CommonMultiples.{IsPeriod, period_none, period_more, period_past_zero, period_is, room, grown, period_small, kept, size_from_bits, no_size_from_bits}
 use Rattle.nth_positions.proofs.limits.period.Goals as goal

@@ -1,7 +1,7 @@
 -- So far it is the period of the parts so far, and has a factor of at most 32 for each stepped one.
 use Rattle.std.proofs.Common.{◌≤◌, ◌^◌, take}
 use Rattle.std.specs.Prelude.{count_by}
-use Rattle.nth_positions.specs.Positions.{is_stepped}
+use Rattle.css_model.specs.Positions.Range.{is_stepped}
 use Rattle.nth_positions.proofs.CommonMultiples.{IsPeriod}
 use Rattle.nth_positions.proofs.limits.period.Given as goal
 

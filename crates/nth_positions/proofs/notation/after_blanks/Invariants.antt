@@ -1,6 +1,6 @@
 -- What follows the blanks of the rest is what follows those of the text.
 use Rattle.std.proofs.Common.{◌≡◌, length}
-use Rattle.nth_positions.specs.Reading.{past_blanks}
+use Rattle.css_model.specs.Positions.Reading.{past_blanks}
 use Rattle.nth_positions.proofs.notation.after_blanks.Given as goal
 
 abbrev pub invariant-loop-next : goal.invariant-loop-next

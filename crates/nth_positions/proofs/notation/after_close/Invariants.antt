@@ -1,6 +1,6 @@
 -- What is left holds the first `*/` of the text.
 use Rattle.std.proofs.Common.{◌≡◌, length}
-use Rattle.nth_positions.specs.Reading.{past_close}
+use Rattle.css_model.specs.Positions.Reading.{past_close}
 use Rattle.nth_positions.proofs.notation.after_close.Given as goal
 
 abbrev pub invariant-loop-rest : goal.invariant-loop-rest

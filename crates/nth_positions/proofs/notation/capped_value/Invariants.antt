@@ -1,7 +1,7 @@
 -- The number of the digits so far.
 use Rattle.std.proofs.Common.{◌≡◌, ◌≤◌, take}
-use Rattle.nth_positions.specs.Notation.{value}
-use Rattle.nth_positions.specs.Reading.{capped}
+use Rattle.css_model.specs.Positions.Notation.{value}
+use Rattle.css_model.specs.Positions.Reading.{capped}
 use Rattle.nth_positions.proofs.notation.capped_value.Given as goal
 
 abbrev pub invariant-loop-digit : goal.invariant-loop-digit

@@ -1,6 +1,6 @@
 use Rattle.std.proofs.Common.{◌≡◌, length}
 use Rattle.std.specs.List.{AllByRecursion}
-use Rattle.css_model.specs.Declarations.{declarations}
+use Rattle.css_model.specs.Sheets.Declarations.{declarations}
 use Rattle.sheet_read.specs.Placed.{ArePlaced}
 use Rattle.sheet_read.proofs.Entries.{entries_left, listed}
 use Rattle.sheet_read.proofs.declarations.declarations.Given as goal

@@ -1,6 +1,6 @@
 use Rattle.std.proofs.Common.{◌≡◌, ◌+◌, length}
 use Rattle.std.specs.List.{position_or_len}
-use Rattle.css_model.specs.Items as spec
+use Rattle.css_model.specs.Sheets.Items as spec
 use Rattle.sheet_read.proofs.items.inside_len.Given as goal
 
 abbrev pub invariant-lexemes : goal.invariant-lexemes

@@ -1,7 +1,7 @@
 use Rattle.std.proofs.Common.{◌≡◌, ◌++◌, List, length, take, drop, ◌-◌, ◌∙◌, sym, ap}
 use Rattle.std.proofs.lemmas.List.{take_rest, take-append-drop}
 use Rattle.css_model.specs.declared.token.Lexeme.{Lexeme}
-use Rattle.css_model.specs.Items as spec
+use Rattle.css_model.specs.Sheets.Items as spec
 use Rattle.sheet_read.specs.Steps.{whole_items}
 use Rattle.sheet_read.proofs.ItemSteps.{whole_between, whole_here, whole_later, split_more}
 use Rattle.sheet_read.proofs.items.next_item.Goals as goal

@@ -1,9 +1,9 @@
 use Rattle.std.proofs.Common.{ℕ, ◌≡◌, ◌≤◌, ◌-◌, ◌++◌, false, List, [], ◌∷◌, length, take, drop, get_or, reverse, sym, ap, ◌∙◌, append_assoc, arith}
 use Rattle.std.proofs.lemmas.List.{take_rest, length-reverse}
-use Rattle.css_model.specs.declared.fault.TheConstants.{BRACKETS}
+use Rattle.css_model.specs.declared.limits.TheConstants.{MAX_DEPTH}
 use Rattle.css_model.specs.declared.token.Lexeme.{Lexeme}
-use Rattle.css_model.specs.Lexemes.{lexeme, lexemes_in}
-use Rattle.css_model.specs.Sheet.{too_deep}
+use Rattle.css_model.specs.Text.Lexemes.{lexeme, lexemes_in}
+use Rattle.css_model.specs.Sheets.Sheet.{too_deep}
 use Rattle.sheet_read.specs.Steps.{is_too_deep}
 use Rattle.sheet_read.proofs.Nesting.{lexemes_more, after_more, deep_later, after_short}
 use Rattle.sheet_read.proofs.lexing.lexemes_of.Goals as goal
@@ -21,7 +21,7 @@ tokens-preserved-in_ok-pass c =
     let made = c.lexeme-x.ensures ∙ ap (λ (n : ℕ). lexeme n (get_or rest 0 _) behind) level in
     let not_deep : is_too_deep x ≡ false = sym c.is_too_deep.ensures ∙ c.if-is_too_deep.false in
     let more = lexemes_more brackets inside rest behind _ x some solid (take_rest rest 1) made c.in_ok-pass.ensures in
-    let short : length inside ≤ BRACKETS =
+    let short : length inside ≤ MAX_DEPTH =
     rw c.in_ok-pass.ensures (after_short brackets (get_or rest 0 _) behind (omega (arith, length-reverse c.tokens.brackets.items, c.tokens.invariant.levels)) (ap is_too_deep (sym made) ∙ not_deep))
     in
     record {

@@ -1,5 +1,5 @@
 use Rattle.std.proofs.Common.{◌≡◌, ◌++◌, length, true}
-use Rattle.css_model.specs.Tokens.{tokens}
+use Rattle.css_model.specs.Text.Tokens.{tokens}
 use Rattle.css_tokens.specs.Left.{left}
 use Rattle.sheet_read.proofs.lexing.tokens_of.Given as goal
 

@@ -1,5 +1,5 @@
 use Rattle.std.proofs.Common.{◌≡◌, ◌≤◌, ◌+◌, length}
-use Rattle.css_model.specs.Sheet.{namespace_at}
+use Rattle.css_model.specs.Sheets.Sheet.{namespace_at}
 use Rattle.sheet_read.specs.Placed.{ArePlaced}
 use Rattle.sheet_read.specs.Steps.{whole_items, count_imports}
 use Rattle.sheet_read.proofs.read.imports_of.Given as goal

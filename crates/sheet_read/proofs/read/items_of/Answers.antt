@@ -1,7 +1,7 @@
 use Rattle.std.proofs.Common.{◌++◌, length, List, [], ◌∷◌, sym, ap, ◌∙◌, append_assoc, length-append, arith}
 use Rattle.css_model.specs.declared.sheet.Item.{Item}
 use Rattle.css_model.specs.declared.token.Lexeme.{Lexeme}
-use Rattle.css_model.specs.Sheet as spec
+use Rattle.css_model.specs.Sheets.Sheet as spec
 use Rattle.sheet_read.specs.Steps as steps
 use Rattle.sheet_read.proofs.ReadSteps.{placed_parts, count_behind, some_import, read_one, read_none, too_many, not_too_many}
 use Rattle.sheet_read.proofs.read.items_of.Goals as goal

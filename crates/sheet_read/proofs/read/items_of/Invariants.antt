@@ -1,6 +1,6 @@
 use Rattle.std.proofs.Common.{◌≡◌, ◌≤◌, ◌++◌, length}
-use Rattle.css_model.specs.declared.fault.TheConstants.{ITEMS}
-use Rattle.css_model.specs.Sheet.{read_items}
+use Rattle.css_model.specs.declared.limits.TheConstants.{MAX_ITEMS}
+use Rattle.css_model.specs.Sheets.Sheet.{read_items}
 use Rattle.sheet_read.specs.Placed.{ArePlaced}
 use Rattle.sheet_read.specs.Steps.{whole_items, count_imports}
 use Rattle.sheet_read.proofs.read.items_of.Given as goal
@@ -11,7 +11,7 @@ invariant-items l = record {
   read : l.items.items ++ read_items l.source (whole_items l.rest) ≡ read_items l.source (whole_items l.lexemes);
   imports : l.imports_left ≡ count_imports l.source (whole_items l.rest);
   placed : ArePlaced l.source l.rest;
-  few : length l.items.items ≤ ITEMS;
+  few : length l.items.items ≤ MAX_ITEMS;
 }
 
 abbrev pub decreases-items : goal.decreases-items

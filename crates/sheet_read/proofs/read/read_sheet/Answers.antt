@@ -1,9 +1,10 @@
 use Rattle.std.proofs.Common.{ℕ, ◌≡◌, ◌≤◌, List, [], ◌∷◌, length, Option, Some, None, Ok, sym, ap, ◌∙◌, arith}
 use Rattle.std.proofs.lemmas.Result.{err_from_is_err_and}
 use Rattle.css_model.specs.declared.fault.FaultKind.TheVariants.{TooManyPairs}
-use Rattle.css_model.specs.declared.fault.TheConstants.{LIMIT}
+use Rattle.css_model.specs.declared.limits.TheConstants.{MAX_BYTES}
 use Rattle.css_model.specs.declared.token.Lexeme.{Lexeme}
-use Rattle.css_model.specs.Sheet.{sheet_of, unless, fault_of, too_many_pairs}
+use Rattle.css_model.specs.Sheets.Sheet.{sheet_of, too_many_pairs}
+use Rattle.css_model.specs.Sheets.Fault.{unless, fault_of}
 use Rattle.sheet_read.specs.Steps as steps
 use Rattle.sheet_read.proofs.Placing.{TokenLaws}
 use Rattle.sheet_read.proofs.SheetSteps.{sheet_of_read, sheet_of_fault, lexemes_read, lexemes_fault, imports_read, imports_counted, imports_fault, items_read, items_fault, refused, placed_lexemes}
@@ -12,14 +13,14 @@ use Rattle.sheet_read.proofs.read.read_sheet.Goals as goal
 pub returns-in_err-tokens : goal.returns-in_err-tokens
 returns-in_err-tokens c =
     let source = c.args.source.now in
-    let le : length source ≤ LIMIT = omega arith in
+    let le : length source ≤ MAX_BYTES = omega arith in
     let p = err_from_is_err_and c.from_residual.result c.from_residual.ensures.1 in
     rw (p.1, p.2) (refused c.in_err-tokens.field-0.0 (steps.tokens_of source) (sheet_of source) (λ f h. sheet_of_fault source f le h) c.in_err-tokens.ensures)
 
 pub returns-in_err-lexemes : goal.returns-in_err-lexemes
 returns-in_err-lexemes c =
     let source = c.args.source.now in
-    let le : length source ≤ LIMIT = omega arith in
+    let le : length source ≤ MAX_BYTES = omega arith in
     let ts = c.in_ok-tokens.tokens.items in
     let sheet = sheet_of_read source ts le c.in_ok-tokens.ensures in
     let p = err_from_is_err_and c.from_residual-in_err-lexemes.result c.from_residual-in_err-lexemes.ensures.1 in
@@ -38,7 +39,7 @@ imports_of-requires c =
 pub returns-in_err-imports : goal.returns-in_err-imports
 returns-in_err-imports c =
     let source = c.args.source.now in
-    let le : length source ≤ LIMIT = omega arith in
+    let le : length source ≤ MAX_BYTES = omega arith in
     let ts = c.in_ok-tokens.tokens.items in
     let sheet = sheet_of_read source ts le c.in_ok-tokens.ensures in
     let xs = c.in_ok-lexemes.lexemes.items in
@@ -67,7 +68,7 @@ items_of-requires-clause-imports c =
 pub returns-in_err-items : goal.returns-in_err-items
 returns-in_err-items c =
     let source = c.args.source.now in
-    let le : length source ≤ LIMIT = omega arith in
+    let le : length source ≤ MAX_BYTES = omega arith in
     let ts = c.in_ok-tokens.tokens.items in
     let sheet = sheet_of_read source ts le c.in_ok-tokens.ensures in
     let xs = c.in_ok-lexemes.lexemes.items in
@@ -85,7 +86,7 @@ returns-in_err-items c =
 pub returns-in-Some : goal.returns-in-Some
 returns-in-Some c =
     let source = c.args.source.now in
-    let le : length source ≤ LIMIT = omega arith in
+    let le : length source ≤ MAX_BYTES = omega arith in
     let ts = c.in_ok-tokens.tokens.items in
     let sheet = sheet_of_read source ts le c.in_ok-tokens.ensures in
     let xs = c.in_ok-lexemes.lexemes.items in
@@ -107,7 +108,7 @@ returns-in-Some c =
 pub returns : goal.returns
 returns c =
     let source = c.args.source.now in
-    let le : length source ≤ LIMIT = omega arith in
+    let le : length source ≤ MAX_BYTES = omega arith in
     let ts = c.in_ok-tokens.tokens.items in
     let sheet = sheet_of_read source ts le c.in_ok-tokens.ensures in
     let xs = c.in_ok-lexemes.lexemes.items in

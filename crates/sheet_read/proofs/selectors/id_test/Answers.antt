@@ -1,6 +1,6 @@
 use Rattle.std.proofs.Common.{ap, drop, sym, ◌∙◌}
-use Rattle.css_model.proofs.SliceRange.{slice_range-cons}
-use Rattle.css_model.specs.Unescaped.{decoded}
+use Rattle.list_facts.proofs.SliceRange.{slice_range-cons}
+use Rattle.css_model.specs.Text.Names.{decoded}
 use Rattle.css_model.specs.declared.selector.Test.TheVariants.{Id}
 use Rattle.sheet_read.proofs.selectors.id_test.Goals as goal
 

@@ -1,6 +1,6 @@
 use Rattle.std.proofs.Common.{◌≡◌, ◌∷◌, Some, sym, ◌∙◌, ap}
-use Rattle.css_model.specs.Items.{selector_parts}
-use Rattle.css_model.specs.Selectors.{selector_item}
+use Rattle.css_model.specs.Sheets.Items.{selector_parts}
+use Rattle.css_model.specs.Sheets.Selectors.{selector_item}
 use Rattle.sheet_read.specs.Placed.{IsPlaced}
 use Rattle.sheet_read.proofs.Preludes.{all_selector_parts, read_start, read_step, read, parts_left}
 use Rattle.sheet_read.proofs.selectors.selectors.Goals as goal

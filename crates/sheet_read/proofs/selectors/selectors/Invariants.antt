@@ -1,6 +1,6 @@
 use Rattle.std.proofs.Common.{◌≡◌, length}
 use Rattle.std.specs.List.{AllByRecursion}
-use Rattle.css_model.specs.Selectors.{selectors}
+use Rattle.css_model.specs.Sheets.Selectors.{selectors}
 use Rattle.sheet_read.specs.Placed.{ArePlaced}
 use Rattle.sheet_read.proofs.Preludes.{parts_left, read}
 use Rattle.sheet_read.proofs.selectors.selectors.Given as goal

@@ -1,4 +1,4 @@
-use Rattle.css_model.specs.Lexemes.{is_sign_at}
+use Rattle.css_model.specs.Text.Lexemes.{is_sign_at}
 use Rattle.sheet_read.proofs.Places.{first_at, rest_at, parts_at, first_none, rest_none, parts_none}
 use Rattle.sheet_read.proofs.signs.cut.Goals as goal
 

@@ -1,7 +1,7 @@
 use Rattle.std.proofs.Common.{◌≡◌, ℕ, ◌<◌, List, [], ◌∷◌, ◌++◌, length, map, ap, arith}
 use Rattle.css_model.specs.declared.token.Lexeme.{Lexeme}
-use Rattle.css_model.specs.Kept.{between, solid, value_text}
-use Rattle.css_model.specs.Source.{text_at}
+use Rattle.css_model.specs.Text.Kept.{between, solid, value_text}
+use Rattle.css_model.specs.Text.Source.{text_at}
 use Rattle.sheet_read.proofs.values.behind.Goals as goal
 
 before_others : (source : List ℕ) (x : Lexeme) (others : List Lexeme) (gap : List ℕ) → 0 < length others → gap ≡ between (solid source x)

@@ -2,9 +2,9 @@ use Rattle.std.proofs.Common.{◌≡◌, ℕ, ◌-◌, ◌≤◌, List, ◌++◌
 use Rattle.std.proofs.lemmas.List.{length-take-le, length-drop}
 use Rattle.std.proofs.lemmas.List.Folds.{drop_split}
 use Rattle.css_model.specs.declared.token.Lexeme.{Lexeme}
-use Rattle.css_model.specs.Kept.{is_lone}
-use Rattle.css_model.specs.Source.{text_at}
-use Rattle.css_model.specs.TokenAt.{part_at}
+use Rattle.css_model.specs.Text.Kept.{is_lone}
+use Rattle.css_model.specs.Text.Source.{text_at}
+use Rattle.css_model.specs.Text.TokenAt.{part_at}
 use Rattle.css_tokens.specs.Open.{IsRead}
 use Rattle.sheet_read.specs.Placed.{IsPlaced}
 use Rattle.sheet_read.proofs.values.is_open.Goals as goal

@@ -1,5 +1,5 @@
 use Rattle.std.proofs.Common.{◌≡◌, ◌++◌, length, map}
-use Rattle.css_model.specs.Kept.{solid, value_text}
+use Rattle.css_model.specs.Text.Kept.{solid, value_text}
 use Rattle.sheet_read.specs.Placed.{ArePlaced}
 use Rattle.sheet_read.proofs.values.value_text.Given as goal
 

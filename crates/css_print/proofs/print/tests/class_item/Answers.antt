@@ -1,6 +1,6 @@
 use Rattle.std.proofs.Common.{sym, subst}
-use Rattle.css_model.specs.SelectorParts.{SelectorParts}
-use Rattle.css_model.specs.Sound.{IsSoundSelector}
+use Rattle.css_model.specs.Documents.SelectorParts.{SelectorParts}
+use Rattle.css_model.specs.Sheets.Sound.{IsSoundSelector}
 use Rattle.css_print.proofs.SoundExamples.{rule, class_sound}
 use Rattle.css_print.proofs.print.tests.class_item.Goals as goal
 

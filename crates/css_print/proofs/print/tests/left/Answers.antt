@@ -1,6 +1,6 @@
 use Rattle.std.proofs.Common.{sym, subst}
 use Rattle.css_model.specs.declared.sheet.Decl.{Decl}
-use Rattle.css_model.specs.Sound.{IsSoundDeclaration}
+use Rattle.css_model.specs.Sheets.Sound.{IsSoundDeclaration}
 use Rattle.css_print.proofs.SoundExamples.{rule, left_sound}
 use Rattle.css_print.proofs.print.tests.left.Goals as goal
 

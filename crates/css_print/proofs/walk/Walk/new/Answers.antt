@@ -1,7 +1,7 @@
 use Rattle.std.proofs.Common.{List, drop, ap, sym, ◌∙◌, subst}
 use Rattle.std.specs.List.{AllByRecursion}
 use Rattle.css_model.specs.declared.token.Token.{Token}
-use Rattle.css_model.specs.Tokens.{Stream, stream}
+use Rattle.css_model.specs.Text.Tokens.{Stream, stream}
 use Rattle.css_tokens.specs.Laws.{StandsIn}
 use Rattle.css_print.specs.Words.{up_to, after_white, solids, words}
 use Rattle.css_print.proofs.WordLemmas.{solids_after_white, stand_all, stand_up_to, stand_after_white}

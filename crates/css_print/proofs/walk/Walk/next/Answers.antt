@@ -2,9 +2,9 @@ use Rattle.std.proofs.Common.{◌≡◌, ℕ, true, cond, List, Option, Some, ap
 use Rattle.std.specs.List.{AllByRecursion}
 use Rattle.css_model.specs.declared.token.Gap.{Gap}
 use Rattle.css_model.specs.declared.token.Token.{Token}
-use Rattle.css_model.specs.Kept.{Solid, between, behind_last}
-use Rattle.css_model.specs.Lexemes.{gap_of}
-use Rattle.css_model.specs.Source.{text_at}
+use Rattle.css_model.specs.Text.Kept.{Solid, between, behind_last}
+use Rattle.css_model.specs.Text.Lexemes.{gap_of}
+use Rattle.css_model.specs.Text.Source.{text_at}
 use Rattle.css_tokens.specs.Laws.{StandsIn}
 use Rattle.css_tokens.specs.Left as reader
 use Rattle.css_print.specs.Words.{up_to, seen, is_solid, after_white, solids, words}

@@ -2,8 +2,8 @@ use Rattle.std.proofs.Common.{ℕ, List, [], Option, ◌≡◌, ◌+◌, Ok, Err
 use Rattle.std.proofs.lemmas.List.{take_rest, length-drop}
 use Rattle.css_model.specs.declared.token.TokenKind.{TokenKind}
 use Rattle.css_model.specs.declared.token.TokenFault.{TokenFault}
-use Rattle.css_model.specs.TokenAt.{part_at}
-use Rattle.css_model.specs.Tokens.{Stream, placed, parts}
+use Rattle.css_model.specs.Text.TokenAt.{part_at}
+use Rattle.css_model.specs.Text.Tokens.{Stream, stream_of, parts}
 use Rattle.css_tokens.proofs.StreamLemmas.{token_before, next_comment, next_token, next_flaw, next_end}
 use Rattle.css_tokens.proofs.reader.Tokens.next.Goals as goal
 
@@ -39,7 +39,7 @@ returns-in-Ok-Some-default c =
     let kind = c.in-Ok-Some-default.kind in
     let token : Ok (Some kind, len) ≡ Ok (c.in-Ok-Some-default.field-0-0, len) = ap (λ (k : Option TokenKind). Ok (k, len)) (sym c.in-Ok-Some-default.field-0-0-is) in
     let is : part_at (drop at source) ≡ Ok (Some kind, len) = sym (token ∙ c.in-Ok-Some-default.ensures.value ∙ ap part_at (take_rest source at)) in
-    let before : List ℕ → Stream = λ text. token_before (record { kind = kind; span = record { start = at; «end» = at + len }; comment_before = c.comments.comment_before }) (placed (at + len) false (parts (drop (at + len) text))) in
+    let before : List ℕ → Stream = λ text. token_before (record { kind = kind; span = record { start = at; «end» = at + len }; comment_before = c.comments.comment_before }) (stream_of (at + len) false (parts (drop (at + len) text))) in
     sym c.comments.invariant.0 ∙ next_token source at len c.comments.comment_before kind is ∙ ap before (sym c.comments.invariant.3)
 
 pub returns : goal.returns

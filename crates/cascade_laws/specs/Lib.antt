@@ -1,0 +1,4 @@
+pub mod Families
+pub mod Joining
+pub mod Matching
+pub mod Winning

@@ -1,0 +1,8 @@
+-- Documents and which of their elements a selector matches.
+pub mod Attribute
+pub mod Document
+pub mod FeatureParts
+pub mod Features
+pub mod Matching
+pub mod SelectorParts
+pub mod Specificity

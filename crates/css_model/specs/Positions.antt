@@ -1,0 +1,4 @@
+-- The An+B notation, and the positions that it stands for.
+pub mod Notation
+pub mod Range
+pub mod Reading

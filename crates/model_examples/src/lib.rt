@@ -1,0 +1,3 @@
+//! Examples of the definitions, worked by hand and checked by computation. There is no code in it: the
+//! examples stand in `proofs/`, a file a subject.
+#![tactic(auto)]
