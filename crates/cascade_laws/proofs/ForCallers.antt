@@ -1,6 +1,8 @@
 -- What the proofs of other crates may cite.
 pub use Rattle.cascade_laws.proofs.Applying.{some-same, rule-same, applied-words, words-applied}
+pub use Rattle.cascade_laws.proofs.AttributeWords.{passes-decides}
 pub use Rattle.cascade_laws.proofs.CascadeWords.{words-outranks, understood-listed}
 pub use Rattle.cascade_laws.proofs.Greatest.{winner-greatest, winner-none, none-winner}
 pub use Rattle.cascade_laws.proofs.Keeping.{keeps_itself, keeps_back, keeps_on, weigh_back, meet_back, there, earlier_one, later_one, nowhere, one, pair, member_of_one, other_order, free_order, over_kept, free_of_kept}
 pub use Rattle.cascade_laws.proofs.MatchingWords.{matches-words}
+pub use Rattle.cascade_laws.proofs.Ranking.{exceeds-irreflexive, exceeds-transitive, exceeds-not_transitive}

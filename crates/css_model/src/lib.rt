@@ -3,9 +3,9 @@
 
 mod bytes;
 mod counting;
-mod document;
 mod family;
 mod fault;
+mod features;
 mod limits;
 mod position;
 mod selector;
@@ -16,9 +16,9 @@ mod token;
 
 pub use bytes::Bytes;
 pub use counting::specificity;
-pub use document::Features;
 pub use family::Family;
 pub use fault::{FaultKind, SheetFault};
+pub use features::Features;
 pub use limits::{
     MAX_BYTES, MAX_COMPOUNDS, MAX_DEPTH, MAX_ITEMS, MAX_PAIRS, MAX_SIMPLES, MAX_STEPPED,
     limits_are_defined,
