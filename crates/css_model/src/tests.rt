@@ -1,6 +1,8 @@
+//! Copies, hashes, and what tells values apart.
+
 use crate::{
-    AttrTest, Bytes, Combinator, Compound, Decl, DeclItem, Item, KeptRule, Op, Piece, Pseudo, Rule,
-    SelItem, Selector, Sheet, Simple, Test, Text,
+    AttrTest, Bytes, Combinator, Compound, Decl, DeclItem, Family, Features, Item, KeptRule, Op,
+    Piece, Pseudo, Rule, SelItem, Selector, Sheet, Simple, Test, Text,
 };
 use smallvec::SmallVec;
 use std::alloc::{AllocError, Global};
@@ -135,116 +137,36 @@ fn sheet(alloc: Global, last: Item) -> Result<Sheet, AllocError> {
 }
 
 #[test]
-fn copies_texts(rt: HostRuntime) -> Result<(), Fail> {
-    let original = text(rt.alloc(), "größe")?;
-    let copied = original.copy()?;
-    assert_eq!(rt; copied, original);
-    assert_eq!(rt; copied.codes().len(), 5);
-    Ok(())
-}
-
-#[test]
-fn copies_bytes(rt: HostRuntime) -> Result<(), Fail> {
-    let original = bytes(rt.alloc(), b"0 auto")?;
-    let copied = original.copy()?;
-    assert_eq!(rt; copied, original);
-    assert_eq!(rt; copied.bytes().len(), 6);
-    Ok(())
-}
-
-#[test]
-fn copies_attribute_tests(rt: HostRuntime) -> Result<(), Fail> {
-    let original = attribute(rt.alloc(), "class", Op::Word, "x")?;
-    assert_eq!(rt; original.copy()?, original);
-    Ok(())
-}
-
-#[test]
-fn copies_tests(rt: HostRuntime) -> Result<(), Fail> {
-    let original = Test::Kind(text(rt.alloc(), "a")?);
-    assert_eq!(rt; original.copy()?, original);
-    assert_ne!(rt; Test::Id(text(rt.alloc(), "a")?), original);
-    Ok(())
-}
-
-#[test]
-fn copies_simple_selectors(rt: HostRuntime) -> Result<(), Fail> {
-    let original = simple(rt.alloc(), true, "class", Op::Word, "x")?;
-    assert_eq!(rt; original.copy()?, original);
-    Ok(())
-}
-
-#[test]
-fn copies_compounds(rt: HostRuntime) -> Result<(), Fail> {
+fn copies_families(rt: HostRuntime) -> Result<(), Fail> {
     let alloc = rt.alloc();
-    let first = simple(alloc, false, "lang", Op::Dash, "en")?;
-    let second = simple(alloc, true, "class", Op::Word, "x")?;
-    let original = compound(alloc, first, second)?;
-    let copied = original.copy()?;
-    assert_eq!(rt; copied, original);
-    assert_eq!(rt; copied.simples.len(), 2);
+    let custom = Family::Custom(text(alloc, "--gap")?);
+    let named = Family::Named(text(alloc, "--gap")?);
+    assert_eq!(rt; custom.copy()?, custom);
+    assert_eq!(rt; named.copy()?, named);
+    assert_eq!(rt; Family::All.copy()?, Family::All);
+    assert_ne!(rt; named, custom);
     Ok(())
 }
 
 #[test]
-fn copies_selectors(rt: HostRuntime) -> Result<(), Fail> {
-    let original = dotted(rt.alloc())?;
-    let copied = original.copy()?;
-    assert_eq!(rt; copied, original);
-    assert_eq!(rt; copied, dotted(rt.alloc())?);
-    Ok(())
-}
-
-#[test]
-fn copies_declarations(rt: HostRuntime) -> Result<(), Fail> {
-    let original = decl(rt.alloc(), "color", b"red", true)?;
-    assert_eq!(rt; original.copy()?, original);
-    Ok(())
-}
-
-#[test]
-fn copies_selector_items(rt: HostRuntime) -> Result<(), Fail> {
-    let selected = SelItem {
-        selector: dotted(rt.alloc())?,
-        piece: piece(0, 16),
+fn copies_features(rt: HostRuntime) -> Result<(), Fail> {
+    let alloc = rt.alloc();
+    let mut attrs = Vec::new(alloc);
+    attrs.push((text(alloc, "class")?, text(alloc, "größe")?))?;
+    let original = Features {
+        kind: text(alloc, "a")?,
+        attrs,
+        flags: 5,
+        text: true,
     };
-    assert_eq!(rt; selected.copy()?, selected);
-    Ok(())
-}
-
-#[test]
-fn copies_declaration_items(rt: HostRuntime) -> Result<(), Fail> {
-    let declared = decl_item(rt.alloc(), piece(17, 22), piece(23, 26))?;
-    assert_eq!(rt; declared.copy()?, declared);
-    Ok(())
-}
-
-#[test]
-fn copies_rules(rt: HostRuntime) -> Result<(), Fail> {
-    let original = rule(rt.alloc())?;
-    let copied = original.copy()?;
+    let mut copied = original.copy()?;
     assert_eq!(rt; copied, original);
-    assert_eq!(rt; copied, rule(rt.alloc())?);
+    copied.flags = 4;
+    assert_ne!(rt; copied, original);
     Ok(())
 }
 
-#[test]
-fn copies_kept_rules(rt: HostRuntime) -> Result<(), Fail> {
-    let original = kept_rule(rt.alloc(), 1)?;
-    assert_eq!(rt; original.copy()?, original);
-    assert_ne!(rt; kept_rule(rt.alloc(), 2)?, original);
-    Ok(())
-}
-
-#[test]
-fn copies_items(rt: HostRuntime) -> Result<(), Fail> {
-    let original = sheet(rt.alloc(), Item::KeptBlock(piece(45, 55)))?;
-    for item in &original.items {
-        assert_eq!(rt; item.copy()?, *item);
-    }
-    Ok(())
-}
-
+/// A sheet's copy is made of copies of all that it holds.
 #[test]
 fn copies_sheets(rt: HostRuntime) -> Result<(), Fail> {
     let alloc = rt.alloc();
@@ -261,22 +183,6 @@ fn hash_of<T: Hash>(value: &T) -> u64 {
     let mut hasher = DefaultHasher::new();
     value.hash(&mut hasher);
     hasher.finish()
-}
-
-#[test]
-fn tells_simple_selectors_apart(rt: HostRuntime) -> Result<(), Fail> {
-    let original = simple(rt.alloc(), false, "class", Op::Word, "x")?;
-    for (negated, name, op, value) in [
-        (true, "class", Op::Word, "x"),
-        (false, "Class", Op::Word, "x"),
-        (false, "class", Op::Part, "x"),
-        (false, "class", Op::Word, "xx"),
-    ] {
-        let other = simple(rt.alloc(), negated, name, op, value)?;
-        assert_ne!(rt; other, original);
-        assert_ne!(rt; hash_of(&other), hash_of(&original));
-    }
-    Ok(())
 }
 
 #[test]
@@ -306,28 +212,5 @@ fn tells_texts_apart(rt: HostRuntime) -> Result<(), Fail> {
         assert_eq!(rt; other == original, same, "at {word}");
         assert_eq!(rt; hash_of(&other) == hash_of(&original), same, "at {word}");
     }
-    Ok(())
-}
-
-#[test]
-fn tells_declarations_apart(rt: HostRuntime) -> Result<(), Fail> {
-    let original = decl(rt.alloc(), "color", b"red", false)?;
-    assert_ne!(rt; decl(rt.alloc(), "color", b"red", true)?, original);
-    assert_ne!(rt; decl(rt.alloc(), "color", b"Red", false)?, original);
-    assert_ne!(rt; decl(rt.alloc(), "colour", b"red", false)?, original);
-    Ok(())
-}
-
-#[test]
-fn tells_pieces_apart(rt: HostRuntime) -> Result<(), Fail> {
-    let original = decl_item(rt.alloc(), piece(17, 22), piece(23, 26))?;
-    assert_ne!(rt;
-        decl_item(rt.alloc(), piece(17, 21), piece(23, 26))?,
-        original
-    );
-    assert_ne!(rt;
-        decl_item(rt.alloc(), piece(17, 22), piece(22, 26))?,
-        original
-    );
     Ok(())
 }

@@ -1,3 +1,5 @@
+//! Specificities.
+
 ghost use Rattle.std.specs.Prelude.{◌≤◌, IsTrue, length};
 ghost use Rattle.std.specs.List.{All};
 
