@@ -28,6 +28,11 @@ GivesFirst old new into (Ok n) = HasTaken n old new × IfSome old (λ bytes.
     (take n into ≡ take n bytes) × (0 < length into → (n ≡ 0) ↔ (bytes ≡ [])))
 GivesFirst old new into (Err e) = new ≡ old
 
+-- a count of faults over one read or write: it rose where that failed, and never falls
+abbrev pub CountsFaults : {E : Type 0} → ℕ → Result ℕ E → ℕ → Type 0
+CountsFaults old (Ok n) new = old ≤ new
+CountsFaults old (Err e) new = Rose old new
+
 -- a write of `from`: its first n bytes were written, at least one if there was one; a write that
 -- failed wrote none
 abbrev pub TakesFirst : {E : Type 0} → Option (List ℕ) → Option (List ℕ) → List ℕ → Result ℕ E → Type 0

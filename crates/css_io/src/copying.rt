@@ -1,3 +1,5 @@
+//! Copying bytes from one slice to another.
+
 ghost use Rattle.std.specs.Prelude.{◌≡◌, ◌++◌, min, length, take, drop};
 
 /// Copies bytes from the front of `from` to the front of `into`: as many as both have, and `most`

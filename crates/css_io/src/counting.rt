@@ -1,3 +1,5 @@
+//! A count that stays at its last value.
+
 ghost use Rattle.std.specs.Prelude.{◌≡◌};
 ghost use Rattle.css_io.specs.Io.{next_count};
 

@@ -1,23 +1,37 @@
+//! Reading all bytes of a source, and writing all of some bytes to a sink.
+
 ghost use Rattle.std.specs.Prelude.{◌≡◌, ◌+◌, ◌≤◌, ◌<◌, ◌++◌, ℕ, List, [], Some, length, take, IfSome, IsSomeAnd, IfOk, IsErr, IsErrOf, OnOk, OnErr, vec_len};
 ghost use Rattle.css_io.specs.Io.{Rose, HasTaken, HasAdded};
+ghost use Rattle.css_io.specs.Messages.{read_error, write_fault};
+ghost use Rattle.css_io.specs.Reading.{ReadsAll};
 ghost use Rattle.css_io.specs.declared.moves.ReadError.TheVariants.{NoMemory};
 
 use crate::traits::{Failed, Sink, Source};
 use std::alloc::{AllocError, Global};
+use std::fmt;
 use thiserror::Error;
 
 /// Why the bytes of a source could not all be read.
 #[derive(Clone, Copy, Debug, PartialEq, Eq, Error)]
 pub enum ReadError {
     /// A read failed.
-    #[error("the input could not be read to its end")]
     ReadFault,
     /// There are more bytes than the limit.
-    #[error("the input has more bytes than are allowed")]
     TooLong,
     /// There is no memory for as many bytes as are allowed.
-    #[error("not enough memory to hold the input")]
     NoMemory,
+}
+
+impl fmt::Display for ReadError {
+    ghost output = { λ error. Some (read_error error) };
+
+    fn fmt<W: fmt::Write>(&self, f: &mut fmt::Formatter<W>) -> fmt::Result {
+        f.write_str(match self {
+            ReadError::ReadFault => "the input could not be read to its end",
+            ReadError::TooLong => "the input has more bytes than are allowed",
+            ReadError::NoMemory => "not enough memory to hold the input",
+        })
+    }
 }
 
 impl From<AllocError> for ReadError {
@@ -30,8 +44,15 @@ impl From<AllocError> for ReadError {
 
 /// A write failed before all bytes were written.
 #[derive(Clone, Copy, Debug, PartialEq, Eq, Error)]
-#[error("the output could not be written to its end")]
 pub struct WriteFault;
+
+impl fmt::Display for WriteFault {
+    ghost output = { λ _. Some write_fault };
+
+    fn fmt<W: fmt::Write>(&self, f: &mut fmt::Formatter<W>) -> fmt::Result {
+        f.write_str("the output could not be written to its end")
+    }
+}
 
 /// How many bytes one call of `read` is asked for.
 const PIECE: usize = 4096;
@@ -42,7 +63,7 @@ const PIECE: usize = 4096;
 /// read before is lost; `TooLong` where there are more than `limit` bytes, of which `limit + 1`
 /// are then taken; `NoMemory` before anything is read.
 pub fn read_all<S: Source>(alloc: Global, src: &mut S, limit: u32) -> Result<Vec<u8>, ReadError>
-    requires { limit < 4294967295 }
+    requires { limit < u32.MAX }
 
     // All that was left, within the limit, and nothing is left.
     ensures ok { IfOk result (λ read. IfSome (S.left src.old) (λ bytes.
@@ -63,6 +84,9 @@ pub fn read_all<S: Source>(alloc: Global, src: &mut S, limit: u32) -> Result<Vec
     // Before the first read.
     ensures no_memory { IsErrOf result ReadError.NoMemory → src.new ≡ src.old }
     ensures later { S.faults src.old ≤ S.faults src.new }
+
+    // Each read gave at least one byte, found the end, or failed; it is not read on after that.
+    ensures reads { ReadsAll S.read_gives limit result src.old src.new }
 {
     let room = limit as usize + 1;
     let mut read = Vec::with_capacity(alloc, room)?;

@@ -1,6 +1,8 @@
+//! A source and a sink that never fail.
+
 ghost use Rattle.std.specs.Prelude.{◌≡◌, ◌+◌, ◌≤◌, ◌++◌, ℕ, List, [], Some, Ok, min, length, take, drop, IfOk};
 ghost use Rattle.css_io.specs.Io.{GivesFirst};
-ghost use Rattle.css_io.specs.Sure.{sure_room};
+ghost use Rattle.css_io.specs.Sure.{sure_room, SureGives};
 
 use crate::copying::copy_front;
 use crate::traits::{Failed, Sink, Source};
@@ -48,11 +50,14 @@ impl Source for SureSource {
 
     ghost faults = { λ _. 0 };
 
+    ghost read_gives = { SureGives };
+
     /// Reads as many bytes as are left and fit. Never fails, and takes no memory.
     fn read(&mut self, into: &mut [u8]) -> Result<usize, Failed>
         // What every source says; its count of faults is always 0.
         ensures bytes { GivesFirst (Some self.old) (Some self.new) into.new result }
         ensures bound { IfOk result (λ n. n ≤ length into.new) }
+        ensures gives { SureGives self.old result self.new }
 
         // What this one adds.
         ensures sure { result ≡ Ok (min (length self.old) (length into.old)) }

@@ -1,12 +1,24 @@
-ghost use Rattle.std.specs.Prelude.{◌≡◌, ◌+◌, ◌<◌, ◌≤◌, ◌++◌, ℕ, List, Option, drop, length, IfOk, OnErr};
-ghost use Rattle.css_io.specs.Io.{Rose, GivesFirst, TakesFirst};
+//! What a source of bytes and a sink for them do.
 
+ghost use Rattle.std.specs.Prelude.{◌≡◌, ◌+◌, ◌<◌, ◌≤◌, ◌++◌, ℕ, List, Option, Result, Some, drop, length, IfOk, OnErr};
+ghost use Rattle.css_io.specs.Io.{Rose, GivesFirst, TakesFirst};
+ghost use Rattle.css_io.specs.Messages.{failed};
+ghost use Rattle.css_io.specs.declared.traits.Failed.{Failed};
+
+use std::fmt;
 use thiserror::Error;
 
 /// A read or a write failed. The source or sink has counted it, if its count was not at its end.
 #[derive(Clone, Copy, Debug, PartialEq, Eq, Error)]
-#[error("the read or write failed")]
 pub struct Failed;
+
+impl fmt::Display for Failed {
+    ghost output = { λ _. Some failed };
+
+    fn fmt<W: fmt::Write>(&self, f: &mut fmt::Formatter<W>) -> fmt::Result {
+        f.write_str("the read or write failed")
+    }
+}
 
 /// Where bytes come from.
 pub trait Source {
@@ -16,6 +28,10 @@ pub trait Source {
     // How often reading failed. It never falls, and stays at 18,446,744,073,709,551,615.
     ghost faults: { Self → ℕ };
 
+    // That one read may lead from a state to another with this answer. Reading all is told by it,
+    // read by read, also over a source that does not tell its bytes.
+    ghost read_gives: { Self → Result ℕ Failed → Self → Type 0 };
+
     /// Reads into the front of `into`, and answers how many bytes that were.
     ///
     /// `Ok(0)` into a buffer with room comes exactly at the end of the input. `Failed` takes no
@@ -24,7 +40,8 @@ pub trait Source {
         ensures bytes { GivesFirst (left self.old) (left self.new) into.new result }
         ensures bound { IfOk result (λ n. n ≤ length into.new) }
         ensures later { faults self.old ≤ faults self.new }
-        ensures cause { OnErr result (Rose (faults self.old) (faults self.new)) };
+        ensures cause { OnErr result (Rose (faults self.old) (faults self.new)) }
+        ensures gives { read_gives self.old result self.new };
 }
 
 /// Where bytes go to.

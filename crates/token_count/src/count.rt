@@ -16,7 +16,11 @@ pub enum Refused {
     Token(TokenFault),
 }
 
-/// How many tokens a style sheet has, the white space among them counted too.
+/// How many tokens a style sheet of at most 1,048,576 bytes has, the white space among them counted too
+/// (CSS Syntax 3, section 4.3). A byte order mark at its front is none.
+///
+/// `NotUtf8` comes exactly where the sheet is not UTF-8, and else `Token` where one of them cannot be read.
+/// Takes no memory.
 pub fn token_count(source: &[u8]) -> Result<usize, Refused>
     requires { length source.now ≤ 1048576 }
     ensures counts { IfOk result (IsCount source.now) }

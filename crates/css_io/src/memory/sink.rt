@@ -1,3 +1,5 @@
+//! A sink in memory, which fails at chosen calls.
+
 ghost use Rattle.std.specs.Prelude.{◌≡◌, ◌⊎◌, ◌↔◌, ◌-◌, ◌≤◌, ◌<◌, ◌++◌, [], Some, min, max, length, take, IfOk, IsErr, OnErr, Contains};
 ghost use Rattle.css_io.specs.Io.{next_count, Rose, TakesFirst};
 

@@ -1,5 +1,8 @@
+//! A source in memory, which fails at chosen calls.
+
 ghost use Rattle.std.specs.Prelude.{◌≡◌, ◌↔◌, ◌≤◌, ◌++◌, Some, min, max, length, take, drop, IfOk, IsErr, OnErr, Contains};
 ghost use Rattle.css_io.specs.Io.{next_count, Rose, GivesFirst};
+ghost use Rattle.css_io.specs.Memory.{SourceGives};
 
 use crate::copying::copy_front;
 use crate::counting::next_count_of;
@@ -72,6 +75,8 @@ impl Source for MemSource {
 
     ghost faults = { λ s. s.faults };
 
+    ghost read_gives = { SourceGives };
+
     /// Reads a piece, or fails if the number of this call is in `fails`. Takes no memory.
     fn read(&mut self, into: &mut [u8]) -> Result<usize, Failed>
         // What every source says.
@@ -79,6 +84,7 @@ impl Source for MemSource {
         ensures bound { IfOk result (λ n. n ≤ length into.new) }
         ensures later { self.old.faults ≤ self.new.faults }
         ensures cause { OnErr result (Rose self.old.faults self.new.faults) }
+        ensures gives { SourceGives self.old result self.new }
 
         // What this one adds: exactly when it fails, how much it gives, and what it is afterwards.
         ensures fails { IsErr result ↔ Contains self.old.fails self.old.call }

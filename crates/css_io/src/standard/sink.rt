@@ -1,3 +1,5 @@
+//! The adapter over std's writers.
+
 ghost use Rattle.std.specs.Prelude.{◌≡◌, ◌≤◌, None, OnErr};
 ghost use Rattle.std.specs.Io.KnownBytes.{WriteAppends};
 ghost use Rattle.css_io.specs.Io.{Rose, TakesFirst};

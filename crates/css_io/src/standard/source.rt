@@ -1,6 +1,8 @@
+//! The adapter over std's readers.
+
 ghost use Rattle.std.specs.Prelude.{◌≡◌, ◌≤◌, None, length, IfOk, OnErr};
 ghost use Rattle.std.specs.Io.KnownBytes.{ReadConsumes};
-ghost use Rattle.css_io.specs.Io.{Rose, GivesFirst};
+ghost use Rattle.css_io.specs.Io.{CountsFaults, Rose, GivesFirst};
 ghost use Rattle.css_io.specs.Standard.{source_reader, source_faults};
 
 use super::INTERRUPTIONS;
@@ -40,6 +42,8 @@ impl<R: Read + Drop> Source for StdSource<R> {
 
     ghost faults = { λ s. source_faults s };
 
+    ghost read_gives = { λ old result new. CountsFaults (source_faults old) result (source_faults new) };
+
     /// Reads once, and again where the reader was interrupted. `Failed` comes at any other error,
     /// and after 1,000 interruptions.
     fn read(&mut self, into: &mut [u8]) -> Result<usize, Failed>
@@ -48,6 +52,7 @@ impl<R: Read + Drop> Source for StdSource<R> {
         ensures bound { IfOk result (λ n. n ≤ length into.new) }
         ensures later { source_faults self.old ≤ source_faults self.new }
         ensures cause { OnErr result (Rose (source_faults self.old) (source_faults self.new)) }
+        ensures gives { CountsFaults (source_faults self.old) result (source_faults self.new) }
 
         // What this one adds: where the bytes of the reader are known, they are passed on.
         ensures passes { ReadConsumes (R.remaining (source_reader self.old))

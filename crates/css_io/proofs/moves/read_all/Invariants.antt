@@ -1,4 +1,5 @@
 use Rattle.std.proofs.Common.{◌-◌, ◌≤◌, vec_len, vec_capacity}
+use Rattle.css_io.specs.Reading.{Gave}
 use Rattle.css_io.proofs.Moving.{TookFront}
 use Rattle.css_io.proofs.moves.read_all.Given as goal
 
@@ -8,6 +9,7 @@ invariant-pieces g l = record {
   within : vec_len l.read ≤ l.room;
   room : l.room ≤ vec_capacity l.read;
   later : g.S.Source.faults l.fn.src ≤ g.S.Source.faults l.src;
+  gave : Gave g.S.Source.read_gives (vec_len l.read) l.fn.src l.src;
 }
 
 abbrev pub decreases-pieces : goal.decreases-pieces

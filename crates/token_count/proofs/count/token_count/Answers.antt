@@ -5,5 +5,5 @@ use Rattle.token_count.proofs.count.token_count.Goals as goal
 pub overflow_add-count : goal.overflow_add-count
 overflow_add-count c =
     let h = few c.args.source.now in
-    let e = c.tokens.invariant.0 in
+    let e = c.tokens.invariant.1 in
     omega (arith, h, e, c.requires)
