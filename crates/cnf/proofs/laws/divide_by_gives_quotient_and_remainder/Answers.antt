@@ -2,7 +2,7 @@ use Rattle.std.proofs.Common.{◌≢◌, ◌<◌, ℕ, arith}
 use Rattle.cnf.proofs.DivisionLemmas.{division-facts, quotient_of, remainder_of}
 use Rattle.cnf.proofs.RangeLemmas.{division-below}
 use Rattle.cnf.proofs.SizeLemmas.{division-size, length-quotient, length-remainder}
-use Rattle.cnf.proofs.laws.divide_by_law.Goals as goal
+use Rattle.cnf.proofs.laws.divide_by_gives_quotient_and_remainder.Goals as goal
 
 positive : (by : ℕ) → by ≢ 0 → 0 < by
 positive by h = omega arith

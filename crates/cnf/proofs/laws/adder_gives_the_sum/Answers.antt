@@ -1,7 +1,7 @@
 use Rattle.cnf.proofs.RangeLemmas.{adder-below}
 use Rattle.cnf.proofs.SizeLemmas.{adder-size}
 use Rattle.cnf.proofs.SumLemmas.{adder-facts, length-adder}
-use Rattle.cnf.proofs.laws.adder_law.Goals as goal
+use Rattle.cnf.proofs.laws.adder_gives_the_sum.Goals as goal
 
 pub returns : goal.returns
 returns c = record {

@@ -1,6 +1,6 @@
 use Rattle.cnf.proofs.GateLemmas.{and_gate-extends, and_gate-below, and_gate-means}
 use Rattle.cnf.proofs.SizeLemmas.{and_gate-size}
-use Rattle.cnf.proofs.laws.and_gate_law.Goals as goal
+use Rattle.cnf.proofs.laws.and_gate_is_true_where_all_are.Goals as goal
 
 pub returns : goal.returns
 returns c = record {

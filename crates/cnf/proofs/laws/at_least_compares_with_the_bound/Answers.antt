@@ -3,7 +3,7 @@ use Rattle.std.proofs.lemmas.Bool.{false≢true}
 use Rattle.cnf.proofs.ComparisonLemmas.{at_least-facts}
 use Rattle.cnf.proofs.RangeLemmas.{at_least-below}
 use Rattle.cnf.proofs.SizeLemmas.{at_least-size}
-use Rattle.cnf.proofs.laws.at_least_law.Goals as goal
+use Rattle.cnf.proofs.laws.at_least_compares_with_the_bound.Goals as goal
 
 exactly : (b : Bool) (bound n : ℕ) → MatchBool b (bound ≤ n) (n < bound) → IsTrue b ↔ (bound ≤ n)
 exactly true bound n h = (λ _. h, λ _. refl)
