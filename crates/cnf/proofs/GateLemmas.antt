@@ -3,13 +3,14 @@ use Rattle.std.proofs.Common.{◌≡◌, ◌+◌, ◌≤◌, ◌⊎◌, ◌↔�
 use Rattle.std.specs.Prelude.{count_by}
 use Rattle.std.specs.List.{list_all, list_any}
 use Rattle.std.proofs.lemmas.Bool.{and_parts, and_from, cases_Bool, cases_eq, false≢true, or_from, or_left, or_right, or_parts}
+use Rattle.std.proofs.lemmas.List.Folds.{list_all-append}
 use Rattle.std.proofs.lemmas.List.Sums.{sum_by-cons}
 use Rattle.cnf.specs.declared.lit.Lit.{Lit}
 use Rattle.cnf.specs.Cnf.{Cnf, Satisfies, is_in_range}
 use Rattle.cnf.specs.Gates.{Extends, with_exactly_one, not_both, all_clauses, with_and_gate, with_or_gate, with_true, with_false}
 use Rattle.cnf.specs.Lits.{negation, positive, is_below, are_below}
 use Rattle.cnf.specs.Values.{value, holds, all_hold}
-use Rattle.cnf.proofs.LitLemmas.{value-negation, value-append, is_below-negation, is_below-positive, is_below-mono, are_below-mono, are_below-negations, pair_below, list_all-append, list_all-append-from, list_all-append-parts}
+use Rattle.cnf.proofs.LitLemmas.{value-negation, value-append, is_below-negation, is_below-positive, is_below-mono, are_below-mono, are_below-negations, pair_below, list_all-append-from, list_all-append-parts}
 use Rattle.cnf.proofs.ExtensionLemmas.{extends-by, value-first}
 
 -- one formula for "gate or not" over a list

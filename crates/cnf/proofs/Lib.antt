@@ -6,10 +6,12 @@ pub mod DivisionCode
 pub mod DivisionLemmas
 pub mod Examples
 pub mod ExtensionLemmas
+pub mod ForCallers
 pub mod GateLemmas
 pub mod GrowLemmas
 pub mod LayoutLemmas
 pub mod LitLemmas
+pub mod MemberLemmas
 pub mod PropagationLemmas
 pub mod RangeLemmas
 pub mod Rooms

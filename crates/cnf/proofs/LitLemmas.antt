@@ -3,9 +3,14 @@ use Rattle.std.proofs.Common.{◌≡◌, ◌+◌, ◌-◌, ◌%◌, ◌<◌, ◌
 use Rattle.std.specs.List.{list_all, slice_get}
 use Rattle.std.proofs.lemmas.Bool.{cases_eq, cond-true, cond-false, eq-eqb, ne_eqb, ltb-true, lt-ltb, and_parts, and_from}
 use Rattle.std.proofs.lemmas.List.{get_or_append_left}
+use Rattle.std.proofs.lemmas.List.Folds.{list_all-append}
 use Rattle.cnf.specs.declared.lit.Lit.{Lit}
 use Rattle.cnf.specs.Lits.{variable, positive, negation, is_below, are_below}
 use Rattle.cnf.specs.Values.{value, holds, all_hold}
+
+-- a literal is its number
+pub number-eq : (a b : Lit) → a.0 ≡ b.0 → a ≡ b
+number-eq a b e = let number : ℕ → Lit = λ n. record { 0 = n } in ap number e
 
 -- the negation of a literal by its number
 pub negation-even : (l : Lit) → l.0 % 2 ≡ 0 → (negation l).0 ≡ l.0 + 1
@@ -16,7 +21,7 @@ pub negation-odd : (l : Lit) → l.0 % 2 ≡ 1 → (negation l).0 ≡ l.0 - 1
 unfolding negation
 negation-odd l e = cond-false (eqb (l.0 % 2) 0) (l.0 + 1) (l.0 - 1) (ne_eqb _ _ (λ z. omega arith))
 
-parity : (n : ℕ) → (n % 2 ≡ 0) ⊎ (n % 2 ≡ 1)
+pub parity : (n : ℕ) → (n % 2 ≡ 0) ⊎ (n % 2 ≡ 1)
 parity n = elim (cases_eq (n % 2) 0) [ inl e ↦ inl e | inr e ↦ inr (omega arith) ]
 
 -- a literal by the number of its negation
@@ -97,14 +102,6 @@ all_hold-values vs ws (c ∷ cs) below =
     ap (λ b. b && all_hold (vs ++ ws) cs) one ∙ ap (λ b. holds vs c && b) rest
 
 -- tests of each element of two lists, one behind the other
-pub list_all-append : {X : Type 0} (p : X → Bool) (xs ys : List X) → list_all p (xs ++ ys) ≡ (list_all p xs && list_all p ys)
-list_all-append p [] ys = refl
-list_all-append p (x ∷ xs) ys = ap (λ b. p x && b) (list_all-append p xs ys) ∙ and_assoc (p x) (list_all p xs) (list_all p ys)
-  where
-    and_assoc : (a b c : Bool) → (a && (b && c)) ≡ ((a && b) && c)
-    and_assoc true b c = refl
-    and_assoc false b c = refl
-
 pub list_all-append-from : {X : Type 0} (p : X → Bool) (xs ys : List X) → IsTrue (list_all p xs) → IsTrue (list_all p ys) → IsTrue (list_all p (xs ++ ys))
 list_all-append-from p xs ys h k = list_all-append p xs ys ∙ and_from _ _ h k
 

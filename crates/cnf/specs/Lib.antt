@@ -1,3 +1,4 @@
+pub mod Budgets
 pub mod Cnf
 pub mod Gates
 pub mod Layout

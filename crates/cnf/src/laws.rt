@@ -1,5 +1,6 @@
 ghost use Rattle.std.specs.Prelude.{◌≡◌, ◌≢◌, ◌+◌, ◌*◌, ◌/◌, ◌%◌, ◌^◌, ◌<◌, ◌≤◌, ◌↔◌, ℕ, max, List, ◌++◌, length, slice_index_or, Bool, not, false, IsTrue, count_by};
 ghost use Rattle.std.specs.List.{list_all};
+ghost use Rattle.cnf.specs.Budgets.{no_limit};
 ghost use Rattle.cnf.specs.Cnf.{Cnf, Satisfies, Follows, is_in_range};
 ghost use Rattle.cnf.specs.Gates.{Extends, GrowsBy, with_exactly_one, with_and_gate};
 ghost use Rattle.cnf.specs.Lits.{is_below, are_below, negation, positive};
@@ -9,6 +10,8 @@ ghost use Rattle.cnf.specs.Sums.{number, with_adder};
 ghost use Rattle.cnf.specs.Values.{value, all_hold};
 ghost use Rattle.cnf.specs.declared.lit.Lit.{Lit};
 
+use crate::ledger::NO_LIMIT;
+
 /// A clause that unit propagation forces follows from the formula (Goldberg and Novikov,
 /// "Verification of proofs of unsatisfiability for CNF formulas", 2003).
 pub fn forced_clause_follows()
@@ -17,7 +20,7 @@ pub fn forced_clause_follows()
 
 /// What values make of literals: a negation is true where its literal is false; a variable's literal
 /// has the variable's value; and more values behind change no literal that has one.
-pub fn values_law()
+pub fn literals_follow_variables()
     ensures negation { (vs : List Bool) (l : Lit) → value vs (negation l) ≡ not (value vs l) }
     ensures positive { (vs : List Bool) (v : ℕ)
         → value vs (positive v) ≡ slice_index_or vs v false }
@@ -26,7 +29,7 @@ pub fn values_law()
 {}
 
 /// A formula that a second one extends, which a third one extends, is extended by the third.
-pub fn extends_law()
+pub fn extending_is_a_preorder()
     ensures none { (f : Cnf) → IsTrue (is_in_range f) → Extends f f }
     ensures both { (f g h : Cnf) → Extends f g → Extends g h → Extends f h }
 {}
@@ -34,7 +37,7 @@ pub fn extends_law()
 /// What [`exactly_one`](crate::exactly_one) makes of a formula: its clauses stay in front, and a list
 /// of values satisfies the new one exactly where it satisfies the old one and the number of places
 /// whose literal is true is one. (`means` says so of lists of any length.)
-pub fn exactly_one_law()
+pub fn exactly_one_counts_one()
     ensures kept { (f : Cnf) (lits : List Lit)
         → (more : List (List Lit)) × ((with_exactly_one f lits).clauses ≡ f.clauses ++ more) }
     ensures in_range { (f : Cnf) (lits : List Lit) → IsTrue (is_in_range f)
@@ -51,7 +54,7 @@ pub fn exactly_one_law()
 
 /// What [`and_gate`](crate::and_gate) makes of a formula: it extends it, and the answer is true
 /// exactly where all the literals are, in every list of values under which the new clauses hold.
-pub fn and_gate_law()
+pub fn and_gate_is_true_where_all_are()
     ensures extends { (f : Cnf) (lits : List Lit) → IsTrue (is_in_range f)
         → IsTrue (are_below f.vars lits) → Extends f (with_and_gate f lits).0 }
     ensures in_range { (f : Cnf) (lits : List Lit)
@@ -65,7 +68,7 @@ pub fn and_gate_law()
 
 /// What [`adder`](crate::adder) makes of a formula: it extends it, and the answer is the sum, with one
 /// digit more than the longer number.
-pub fn adder_law()
+pub fn adder_gives_the_sum()
     ensures extends { (f : Cnf) (x y : List Lit) → IsTrue (is_in_range f)
         → IsTrue (are_below f.vars x) → IsTrue (are_below f.vars y)
         → Extends f (with_adder f x y).0 }
@@ -84,7 +87,7 @@ pub fn adder_law()
 
 /// What [`at_least`](crate::at_least) makes of a formula: it extends it, and the answer is true
 /// exactly where the number is at least the bound.
-pub fn at_least_law()
+pub fn at_least_compares_with_the_bound()
     ensures extends { (f : Cnf) (x : List Lit) (bound : ℕ) → IsTrue (is_in_range f)
         → IsTrue (are_below f.vars x) → Extends f (with_at_least f x bound).0 }
     ensures in_range { (f : Cnf) (x : List Lit) (bound : ℕ) → IsTrue (are_below f.vars x)
@@ -99,7 +102,7 @@ pub fn at_least_law()
 
 /// What [`divide_by`](crate::divide_by) makes of a formula: it extends it, and the answers are the
 /// quotient, with as many digits as the number, and the remainder.
-pub fn divide_by_law()
+pub fn divide_by_gives_quotient_and_remainder()
     ensures extends { (f : Cnf) (x : List Lit) (by : ℕ) → IsTrue (is_in_range f)
         → IsTrue (are_below f.vars x) → by ≢ 0 → by < 2 ^ 32
         → Extends f (with_division f x by).formula }
@@ -120,4 +123,9 @@ pub fn divide_by_law()
         → number vs (with_division f x by).remainder ≡ number vs x % by }
     ensures size { (f : Cnf) (x : List Lit) (by : ℕ) → GrowsBy f (with_division f x by).formula
         ((3 * remainder_digits by + 2) * length x) ((23 * remainder_digits by + 4) * length x) }
+{}
+
+/// The constant [`NO_LIMIT`](crate::NO_LIMIT) is the budget that the definitions call `no_limit`.
+pub fn no_limit_is_defined()
+    ensures { NO_LIMIT ≡ no_limit }
 {}

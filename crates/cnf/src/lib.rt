@@ -16,8 +16,9 @@ pub use division::divide_by;
 pub use formula::Formula;
 pub use gates::{and_gate, exactly_one};
 pub use laws::{
-    adder_law, and_gate_law, at_least_law, divide_by_law, exactly_one_law, extends_law,
-    forced_clause_follows, values_law,
+    adder_gives_the_sum, and_gate_is_true_where_all_are, at_least_compares_with_the_bound,
+    divide_by_gives_quotient_and_remainder, exactly_one_counts_one, extending_is_a_preorder,
+    forced_clause_follows, literals_follow_variables, no_limit_is_defined,
 };
 pub use ledger::{Bits, Clause, Ledger, NO_LIMIT};
 pub use lit::Lit;

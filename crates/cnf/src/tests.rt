@@ -194,6 +194,16 @@ fn exactly_one_of_two_is_not_both(rt: HostRuntime) -> Result<(), Fail> {
 }
 
 #[test]
+fn copies_a_clause(rt: HostRuntime) -> Result<(), Fail> {
+    let alloc = rt.alloc();
+    let clause = Clause {
+        lits: vec![in alloc; Lit(2), Lit(5)]?,
+    };
+    assert!(rt; clause.copy()? == clause);
+    Ok(())
+}
+
+#[test]
 fn copies_a_ledger(rt: HostRuntime) -> Result<(), Fail> {
     let alloc = rt.alloc();
     let lits = vec![in alloc; Lit(2), Lit(5)]?;

@@ -1,0 +1,37 @@
+-- The lemmas that other crates cite.
+pub use Rattle.cnf.proofs.LitLemmas.{
+  parity,
+  number-eq,
+  negation-even,
+  negation-odd,
+  variable-negation,
+  variable-positive,
+  value-negation,
+  value-positive,
+  is_below-negation,
+  are_below-get,
+  are_below-take,
+  list_all-append-from,
+  list_all-append-parts,
+  list_all-mono,
+  list_all-get,
+}
+pub use Rattle.cnf.proofs.MemberLemmas.{
+  same-eq,
+  same-refl,
+  same-from_eq,
+  any-among,
+  any-witness,
+  all-among,
+  all-from,
+  any-at,
+  any-mono,
+  negation-twice,
+  negation-apart,
+  among-negations,
+  negations-among,
+  among-append_left,
+  among-append_right,
+  among-append_cases,
+}
+pub use Rattle.cnf.proofs.PropagationLemmas.{follows-from_forced}

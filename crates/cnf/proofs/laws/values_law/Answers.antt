@@ -1,5 +1,0 @@
-use Rattle.cnf.proofs.LitLemmas.{value-negation, value-positive, value-append}
-use Rattle.cnf.proofs.laws.values_law.Goals as goal
-
-pub returns : goal.returns
-returns c = record { negation = value-negation; positive = value-positive; more = value-append }

@@ -1,0 +1,12 @@
+pub mod AttachLemmas
+pub mod ForCallers
+pub mod LinkLemmas
+pub mod Members
+pub mod ModelLemmas
+pub mod MoveLemmas
+pub mod MoveSteps
+pub mod MoveWrites
+pub mod ReadLemmas
+pub mod WalkLemmas
+pub mod WordLemmas
+pub mod WriteLemmas

@@ -1,0 +1,4 @@
+pub mod EntryLemmas
+pub mod ForCallers
+pub mod LevelLemmas
+pub mod PlaceLemmas

@@ -1,0 +1,13 @@
+//! The trail of a solver: the literals that are true, in the order in which they became so, each
+//! with its level and the clause that implied it.
+#![tactic(auto)]
+
+mod entry;
+mod places;
+mod trail;
+
+pub use entry::Entry;
+pub use trail::Trail;
+
+#[cfg(test)]
+mod tests;
