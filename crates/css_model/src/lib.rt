@@ -8,6 +8,7 @@ mod fault;
 mod features;
 mod limits;
 mod position;
+mod reason;
 mod selector;
 mod sheet;
 mod source;
@@ -24,6 +25,7 @@ pub use limits::{
     limits_are_defined,
 };
 pub use position::AnB;
+pub use reason::Reason;
 pub use selector::{
     AttrTest, Combinator, Compound, Flag, Op, Pseudo, Selector, Simple, Specificity, Test,
 };
