@@ -141,15 +141,15 @@ period_exists parts = record {
         last = let p : 0 < product_of_steps parts = product_of_steps_positive parts in omega arith
 
 -- the factors of a period: at most 32 for each stepped part
-pub room : (p s c : ℕ) → p ≤ 32 ^ c → c ≤ 3 → s ≤ 32 → p * s < 2 ^ 32
-room p s c h few small = (let m : 32 ^ c ≤ 32 ^ 3 = pow-le-pow_right {n = 32} (omega arith) few in let k : p * s ≤ 32768 * 32 = mul-le-mul {n₁ = p} {n₂ = 32768} (omega arith) small in omega arith)
+pub room : (p s c : ℕ) → p ≤ 32 ^ c → c ≤ 4 → s ≤ 32 → p * s < 2 ^ 32
+room p s c h few small = (let m : 32 ^ c ≤ 32 ^ 4 = pow-le-pow_right {n = 32} (omega arith) few in let k : p * s ≤ 1048576 * 32 = mul-le-mul {n₁ = p} {n₂ = 1048576} (omega arith) small in omega arith)
 
 pub grown : (p s c q : ℕ) (b : Bool) → p ≤ 32 ^ c → q ≤ p * s → s ≤ 32 → nat_le 2 s ≡ b → q ≤ 32 ^ (c + cond b 1 0)
 grown p s c q true h le small e = (let k : p * s ≤ 32 ^ c * 32 = mul-le-mul h small in let w : 32 ^ (c + 1) ≡ 32 ^ c * 32 = rw add-one (pow-suc 32 c) in omega arith)
 grown p s c q false h le small e = (let k : p * s ≤ p * 1 = mul-le-mul_left p (let l : s < 2 = leb-false 2 s e in omega arith) in let w : c + 0 ≡ c = omega arith in rw w (omega arith))
 
-pub period_small : (p c : ℕ) → p ≤ 32 ^ c → c ≤ 3 → p ≤ 32 ^ 3
-period_small p c h few = (let m : 32 ^ c ≤ 32 ^ 3 = pow-le-pow_right {n = 32} (omega arith) few in omega arith)
+pub period_small : (p c : ℕ) → p ≤ 32 ^ c → c ≤ 4 → p ≤ 32 ^ 4
+period_small p c h few = (let m : 32 ^ c ≤ 32 ^ 4 = pow-le-pow_right {n = 32} (omega arith) few in omega arith)
 
 pub kept : (p c : ℕ) (b : Bool) → p ≤ 32 ^ c → p ≤ 32 ^ (c + cond b 1 0)
 kept p c b h = (let m : 32 ^ c ≤ 32 ^ (c + cond b 1 0) = pow-le-pow_right {n = 32} (omega arith) {i = c} {j = c + cond b 1 0} (omega arith) in omega arith)

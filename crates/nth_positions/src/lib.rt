@@ -8,7 +8,7 @@ mod membership;
 mod notation;
 
 pub use gap::{Bounds, reduce, reduction_keeps_members};
-pub use limits::{bounds, bounds_are_tight};
+pub use limits::{MAX_WIDTH, bounds, bounds_are_tight};
 pub use membership::member;
 pub use notation::{AnbFault, notation_is_unambiguous, read_anb};
 

@@ -2,24 +2,29 @@ ghost use Rattle.std.specs.Prelude.{◌≡◌, ◌<◌, ◌≤◌, ◌*◌, ◌^
 ghost use Rattle.std.specs.Int.{◌∣◌};
 ghost use Rattle.css_model.specs.declared.position.AnB.{AnB};
 ghost use Rattle.css_model.specs.Positions.Range.{IsInRange, is_stepped};
+ghost use Rattle.css_model.specs.Sheets.Limits.{max_stepped};
 ghost use Rattle.nth_positions.specs.Gaps.{bounds_of, threshold_of, is_common_multiple, period_of, width_of, greatest_count, IsLeastCommonMultiple};
 
 use crate::gap::Bounds;
+use crate::notation::MAX_STEP;
 use css_model::AnB;
 
 /// The elements that one row can hold: those of two selectors of 12 compounds each.
 const ROW: u32 = 24;
 
+/// How many bits hold the number of siblings in such a row, whatever the parts.
+pub const MAX_WIDTH: u32 = 25;
+
 /// The bounds for gaps beside these steps and offsets, which may be none.
 ///
-/// Each step is at most 32 and each offset at most 1,000 in size, and at most three steps have a size
-/// of 2 or more, so the period is at most 32,768 and the width at most 20.
+/// Each step is at most 32 and each offset at most 1,000 in size, and at most four steps have a size
+/// of 2 or more, so the period is at most 32^4 and the width at most `MAX_WIDTH`.
 pub fn bounds(parts: &[AnB]) -> Bounds
     requires in_range { All IsInRange parts.now }
-    requires few { count_by is_stepped parts.now ≤ 3 }
+    requires few { count_by is_stepped parts.now ≤ max_stepped }
     ensures exact { result ≡ bounds_of parts.now }
     ensures positive { 0 < result.period }
-    ensures small { result.width ≤ 20 }
+    ensures small { result.width ≤ MAX_WIDTH }
 {
     let threshold = threshold(parts);
     let period = period(parts);
@@ -64,10 +69,10 @@ fn threshold(parts: &[AnB]) -> u32
 /// The least common multiple of the sizes of the steps that are not 0, and 1 where there is none.
 fn period(parts: &[AnB]) -> u32
     requires in_range { All IsInRange parts.now }
-    requires few { count_by is_stepped parts.now ≤ 3 }
+    requires few { count_by is_stepped parts.now ≤ max_stepped }
     ensures exact { result ≡ period_of parts.now }
     ensures positive { 0 < result }
-    ensures small { result ≤ 32 ^ 3 }
+    ensures small { result ≤ MAX_STEP ^ max_stepped }
 {
     let mut period = 1;
     for x in parts {

@@ -13,7 +13,7 @@ use css_model::AnB;
 use thiserror::Error;
 
 /// The greatest size of a step.
-const MAX_STEP: u32 = 32;
+pub(crate) const MAX_STEP: u32 = 32;
 
 /// The greatest size of an offset.
 const MAX_OFFSET: u32 = 1000;

@@ -222,13 +222,23 @@ fn bounds_reduce_gaps(rt: HostRuntime) {
         AnB { a: 32, b: 1000 },
         AnB { a: 31, b: -1000 },
         AnB { a: 29, b: 3 },
+        AnB { a: -27, b: 0 },
     ];
     assert_eq!(rt;
         bounds(&greatest),
         Bounds {
             threshold: 1000,
-            period: 28768,
-            width: 20
+            period: 776736,
+            width: 25
+        }
+    );
+    let coprime = [32, 31, 29, 27].map(|a| AnB { a, b: 0 });
+    assert_eq!(rt;
+        bounds(&coprime),
+        Bounds {
+            threshold: 1,
+            period: 776736,
+            width: 25
         }
     );
 }
