@@ -1,0 +1,4 @@
+pub mod Edits
+pub mod Keeping
+pub mod Reversing
+pub mod Slots

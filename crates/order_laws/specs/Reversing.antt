@@ -1,0 +1,33 @@
+-- Which pairs and kept items change their order with what an edit moves.
+use Rattle.std.specs.Prelude.{◌≡◌, ◌⊎◌, ◌↔◌, ℕ, true, List, Some, slice_get}
+use Rattle.css_model.specs.declared.sheet.Item.{Item}
+use Rattle.css_model.specs.Order.{Meet, Pair, HasPair, Weigh, WeighsKept, IsBefore, IsBeforeKept, kept_items, Keeps}
+use Rattle.order_laws.specs.Edits.{Moved, is_moved, Edit, edited, IsRearrangement}
+
+-- one of two facts holds and the other does not
+abbrev pub Differ : Type 0 → Type 0 → Type 0
+Differ P Q = (P × (Q → ⊥)) ⊎ ((P → ⊥) × Q)
+
+-- A moved pair and another one that weighs with it are reversed: the one comes last before the other in
+-- one of two sheets alone.
+pub record ReversesPair (items items' : List Item) (m : Moved) (p q : Pair) : Type 0 where
+  pub moved : is_moved m p ≡ true
+  pub there : HasPair items q
+  pub weigh : Weigh p q
+  pub order : Differ (IsBefore items p q) (IsBefore items' p q)
+
+-- A moved pair and a kept item that weighs with it, by its number among the kept items, are reversed.
+pub record ReversesKept (items items' : List Item) (m : Moved) (p : Pair) (number : ℕ) : Type 0 where
+  pub item : Item
+  pub moved : is_moved m p ≡ true
+  pub item_at : slice_get (kept_items items) number ≡ Some item
+  pub weighs : WeighsKept p item
+  pub order : Differ (IsBeforeKept items p number) (IsBeforeKept items' p number)
+
+-- The law of steps: a rearrangement that reverses no pairs that meet, and no pair and a kept item, keeps
+-- the sheet.
+abbrev pub RearrangingKeeps : Type 0
+RearrangingKeeps = (source : List ℕ) (items : List Item) (e : Edit) → IsRearrangement items e →
+    ((p q : Pair) → ReversesPair items (edited e items) e.moved p q → Meet p.selector q.selector → ⊥) →
+    ((p : Pair) (number : ℕ) → ReversesKept items (edited e items) e.moved p number → ⊥) →
+    Keeps source items source (edited e items)

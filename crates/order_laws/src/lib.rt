@@ -1,0 +1,12 @@
+//! When a sheet keeps the winners of another one, and when a change of a sheet keeps the sheet.
+#![tactic(auto)]
+
+mod keeping;
+mod slots;
+mod steps;
+
+pub use keeping::{
+    each_sheet_keeps_itself, keeping_goes_on, keeping_is_mutual, keeping_keeps_winners,
+};
+pub use slots::{fair_slots_keep, unmoved_pairs_keep_their_order, unmoved_pairs_pass_no_kept_item};
+pub use steps::rearranging_keeps;

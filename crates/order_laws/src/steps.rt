@@ -1,0 +1,8 @@
+//! When a step, as a change of a sheet in general, keeps the sheet.
+
+ghost use Rattle.order_laws.specs.Reversing.{RearrangingKeeps};
+
+/// A rearrangement that reverses no pairs that meet, and no pair and a kept item, keeps the sheet.
+pub fn rearranging_keeps()
+    ensures { RearrangingKeeps }
+{}
