@@ -1,7 +1,11 @@
 pub mod Appended
 pub mod Lasts
+pub mod Lists
 pub mod Numbers
+pub mod RulePlaces
 pub mod Places
 pub mod Rearranging
+pub mod Rules
+pub mod SheetPlaces
 pub mod SlotLemmas
 pub mod Winners

@@ -1,4 +1,6 @@
 pub mod Edits
 pub mod Keeping
+pub mod Places
+pub mod Reversed
 pub mod Reversing
 pub mod Slots
