@@ -5,6 +5,7 @@ pub mod Numbers
 pub mod RulePlaces
 pub mod Places
 pub mod Rearranging
+pub mod ReversedTests
 pub mod Rules
 pub mod SheetPlaces
 pub mod SlotLemmas
