@@ -5,8 +5,8 @@ use Rattle.css_model.specs.declared.sheet.Item.TheVariants.{Rule, KeptRule, Kept
 use Rattle.css_model.specs.Cascade.{Place}
 use Rattle.css_model.specs.Laws.{IsLater, kept_before}
 use Rattle.css_model.specs.Order.{Pair, IsPairAt, HasPair, IsLast, IsBefore, kept_items}
-use Rattle.order_laws.proofs.Lasts.{among, behind, last_or_none, last_of}
-use Rattle.order_laws.proofs.Places.{which_later}
+use Rattle.order_laws.proofs.LastPlaces.{among, behind, last_or_none, last_of}
+use Rattle.order_laws.proofs.PlaceOrder.{which_later}
 
 abbrev place : ℕ → ℕ → Place
 place item position = record { item = item; position = position }

@@ -1,12 +1,13 @@
 pub mod Appended
-pub mod Lasts
+pub mod LastPlaces
 pub mod Lists
-pub mod Numbers
+pub mod KeptNumbers
 pub mod RulePlaces
-pub mod Places
+pub mod PlaceOrder
 pub mod Rearranging
+pub mod ReversedList
 pub mod ReversedTests
-pub mod Rules
+pub mod RulePairs
 pub mod SheetPlaces
 pub mod SlotLemmas
 pub mod Winners

@@ -9,8 +9,8 @@ use Rattle.order_laws.specs.Slots.{old_items, new_items, IsFair}
 use Rattle.order_laws.specs.Edits.{Edit, Change, is_moved, slots_from, slots_of, edited, StandsIn, IsRearrangement}
 use Rattle.order_laws.specs.Reversing.{ReversesPair, ReversesKept}
 use Rattle.order_laws.proofs.Appended.{last_same}
-use Rattle.order_laws.proofs.Lasts.{last_or_none, last_of}
-use Rattle.order_laws.proofs.Places.{which_less, which_later, later_one_way}
+use Rattle.order_laws.proofs.LastPlaces.{last_or_none, last_of}
+use Rattle.order_laws.proofs.PlaceOrder.{which_less, which_later, later_one_way}
 use Rattle.order_laws.proofs.SlotLemmas.{pairs_still, fair_slots_keep}
 use Rattle.order_laws.proofs.Winners.{other_places}
 

@@ -20,9 +20,9 @@ use Rattle.css_model.specs.SelectorParts.{SelectorParts}
 use Rattle.css_model.specs.StyleRule.{selectors_of}
 use Rattle.order_laws.specs.Edits.{has_decl}
 use Rattle.order_laws.specs.Places.{PairPlace, PlacedPair, place_of, StandsLast, same_selector, same_decl, same_pair, first_selectors, last_decls, placed, pairs_of, has_pair, last_pairs_from}
-use Rattle.order_laws.proofs.Lasts.{LastIn, among, behind}
+use Rattle.order_laws.proofs.LastPlaces.{LastIn, among, behind}
 use Rattle.order_laws.proofs.Lists.{any_from, any_of, map_has, map_from, flat_map_has, flat_map_from}
-use Rattle.order_laws.proofs.Rules.{decls, sels, decl_in, in_decl, behind_last, has_decl_is}
+use Rattle.order_laws.proofs.RulePairs.{decls, sels, decl_in, in_decl, behind_last, has_decl_is}
 
 -- ---- Equal pairs
 

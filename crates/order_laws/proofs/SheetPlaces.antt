@@ -18,11 +18,11 @@ use Rattle.css_model.specs.RuleParts.{RuleParts}
 use Rattle.css_model.specs.SelectorParts.{SelectorParts}
 use Rattle.css_model.specs.StyleRule.{selectors_of}
 use Rattle.order_laws.specs.Places.{PairPlace, PlacedPair, place_of, StandsLast, same_pair, first_selectors, last_decls, placed, pairs_of, has_pair, last_pairs_from}
-use Rattle.order_laws.proofs.Lasts.{LastIn, among}
+use Rattle.order_laws.proofs.LastPlaces.{LastIn, among}
 use Rattle.order_laws.proofs.Lists.{any_from, any_of, map_has, map_from, flat_map_has, flat_map_from}
-use Rattle.order_laws.proofs.Places.{which_later}
+use Rattle.order_laws.proofs.PlaceOrder.{which_later}
 use Rattle.order_laws.proofs.RulePlaces.{pair_is, is_pair, FirstIn, first_selectors_sound, first_selectors_complete, last_decls_sound, last_decls_complete}
-use Rattle.order_laws.proofs.Rules.{decls, sels, decl_in}
+use Rattle.order_laws.proofs.RulePairs.{decls, sels, decl_in}
 
 abbrev at : ℕ → ℕ → Place
 at item position = record { item = item; position = position }

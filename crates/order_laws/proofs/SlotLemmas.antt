@@ -13,7 +13,7 @@ use Rattle.css_model.specs.Order.{Meet, Pair, IsPairAt, HasPair, IsLast, Weigh, 
 use Rattle.css_model.specs.Spelling.{said}
 use Rattle.css_model.proofs.Keeping.{weigh_back, meet_back}
 use Rattle.order_laws.specs.Slots.{Slot, old_items, new_items, IsFair, KeepsOrderOfPairs, KeepsOrderOfKept}
-use Rattle.order_laws.proofs.Lasts.{last_of}
+use Rattle.order_laws.proofs.LastPlaces.{last_of}
 use Rattle.order_laws.proofs.Appended.{has_append, BeforeInTwo, before_in_two, LastBehind, BehindInTwo, behind_in_two}
 
 -- ---- Two lists of two parts whose parts agree

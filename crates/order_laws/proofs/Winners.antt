@@ -27,9 +27,9 @@ use Rattle.css_model.specs.SelectorParts.{SelectorParts}
 use Rattle.css_model.specs.Specificity.{specificity_of}
 use Rattle.css_model.specs.Spelling.{Kept, said, kept_text}
 use Rattle.order_laws.specs.Keeping.{AreRelated}
-use Rattle.order_laws.proofs.Lasts.{same_decl_or_not, last_of}
-use Rattle.order_laws.proofs.Numbers.{kept_at, KeptPlace, place_of_kept, kept_before-monotone, kept_before-behind, Fits, MeaningsFit, meanings_fit}
-use Rattle.order_laws.proofs.Places.{which_less, which_later, later_than_both}
+use Rattle.order_laws.proofs.LastPlaces.{same_decl_or_not, last_of}
+use Rattle.order_laws.proofs.KeptNumbers.{kept_at, KeptPlace, place_of_kept, kept_before-monotone, kept_before-behind, Fits, MeaningsFit, meanings_fit}
+use Rattle.order_laws.proofs.PlaceOrder.{which_less, which_later, later_than_both}
 
 -- ---- An entry that a rule applies, by its pair
 

@@ -20,7 +20,7 @@ use Rattle.css_model.specs.RuleParts.{RuleParts}
 use Rattle.css_model.specs.SelectorParts.{SelectorParts}
 use Rattle.css_model.specs.StyleRule.{selectors_of}
 use Rattle.order_laws.specs.Edits.{has_selector, has_decl, Moved, is_moved}
-use Rattle.order_laws.proofs.Lasts.{LastIn, NoneIn, last_decl}
+use Rattle.order_laws.proofs.LastPlaces.{LastIn, NoneIn, last_decl}
 
 abbrev place : ℕ → ℕ → Place
 place item position = record { item = item; position = position }
