@@ -6,6 +6,7 @@ pub mod RulePlaces
 pub mod PlaceOrder
 pub mod Rearranging
 pub mod ReversedList
+pub mod ReversedOrder
 pub mod ReversedTests
 pub mod RulePairs
 pub mod SheetPlaces

@@ -8,72 +8,19 @@ use Rattle.std.proofs.lemmas.List.Elements.{All-contains, Contains-append_left, 
 use Rattle.css_model.proofs.Applying.{some-same}
 use Rattle.css_model.proofs.Members.{Contains-here, Contains-there, Contains-nil, Contains-cons_cases, Contains-filter, Contains-filtered}
 use Rattle.css_model.specs.declared.sheet.Item.{Item}
-use Rattle.css_model.specs.Cascade.{exceeds}
 use Rattle.css_model.specs.Family.{RelatingIsDecided}
 use Rattle.css_model.specs.Laws.{is_kept, kept_before}
 use Rattle.css_model.specs.Order.{Meet, Pair, HasPair, Weigh, WeighsKept, IsBefore, IsBeforeKept, kept_items, Keeps}
 use Rattle.order_laws.specs.Edits.{Moved, is_moved, has_number, Edit, edited, StandsIn, IsRearrangement}
 use Rattle.order_laws.specs.Places.{PlacedPair, place_of, last_pairs, last_pairs_from, StandsLast}
-use Rattle.order_laws.specs.Reversed.{weigh, weighs_kept, comes_before, comes_before_kept, Other, AnotherPair, KeptAt, Reversal, kept_from, is_reversed, is_reversed_kept, with_pair, with_kept, reversed_with, moved_pairs, sort_key, put_in, ascending, reversed, IsReversedWith, IsApart}
+use Rattle.order_laws.specs.Reversed.{weigh, weighs_kept, comes_before, comes_before_kept, Other, AnotherPair, KeptAt, Reversal, kept_from, is_reversed, is_reversed_kept, with_pair, with_kept, reversed_with, moved_pairs, ascending, reversed, IsReversedWith, IsApart}
 use Rattle.order_laws.specs.Reversing.{Differ, ReversesPair, ReversesKept}
 use Rattle.order_laws.proofs.Lists.{map_has, map_from, flat_map_has, flat_map_from}
 use Rattle.order_laws.proofs.KeptNumbers.{kept_at, KeptPlace, place_of_kept}
 use Rattle.order_laws.proofs.Rearranging.{rearranging_keeps}
+use Rattle.order_laws.proofs.ReversedOrder.{ascending_from, ascending_has}
 use Rattle.order_laws.proofs.ReversedTests.{weigh_is, weighs_kept_is, comes_before_is, comes_before_kept_is, differ_is}
 use Rattle.order_laws.proofs.SheetPlaces.{last_stands, listed_stands_last, stands_last_somewhere}
-
--- ---- Put in order, the list has the same entries
-
-put_in_from : (r : Reversal) (rest : List Reversal) (s : Reversal) → Contains (put_in r rest) s → (r ≡ s) ⊎ Contains rest s
-put_in_from r [] s = λ h. Contains-cons_cases r [] s h
-put_in_from r (t ∷ rest) s =
-    cond_both (exceeds (sort_key r) (sort_key t)) (t ∷ put_in r rest) (r ∷ t ∷ rest) (λ ys. Contains ys s → (r ≡ s) ⊎ Contains (t ∷ rest) s)
-    (λ behind h. which (put_in_from r rest s) (Contains-cons_cases t (put_in r rest) s h))
-    (λ here h. Contains-cons_cases r (t ∷ rest) s h)
-  where
-    later : (r ≡ s) ⊎ Contains rest s → (r ≡ s) ⊎ Contains (t ∷ rest) s
-    later (inl e) = inl e
-    later (inr h) = inr (Contains-there t rest s h)
-
-    which : (Contains (put_in r rest) s → (r ≡ s) ⊎ Contains rest s) → (t ≡ s) ⊎ Contains (put_in r rest) s → (r ≡ s) ⊎ Contains (t ∷ rest) s
-    which ih (inl e) = inr (subst (λ (z : Reversal). Contains (t ∷ rest) z) e (Contains-here t rest))
-    which ih (inr h) = later (ih h)
-
-put_in_has : (r : Reversal) (rest : List Reversal) (s : Reversal) → (r ≡ s) ⊎ Contains rest s → Contains (put_in r rest) s
-put_in_has r [] s (inl e) = subst (λ (z : Reversal). Contains (r ∷ []) z) e (Contains-here r [])
-put_in_has r [] s (inr h) = absurd (Contains-nil s h)
-put_in_has r (t ∷ rest) s h =
-    cond_both (exceeds (sort_key r) (sort_key t)) (t ∷ put_in r rest) (r ∷ t ∷ rest) (λ ys. Contains ys s)
-    (λ behind. which h (put_in_has r rest s))
-    (λ here. first h)
-  where
-    rest_of : (t ≡ s) ⊎ Contains rest s → ((r ≡ s) ⊎ Contains rest s → Contains (put_in r rest) s) → Contains (t ∷ put_in r rest) s
-    rest_of (inl e) ih = subst (λ (z : Reversal). Contains (t ∷ put_in r rest) z) e (Contains-here t (put_in r rest))
-    rest_of (inr g) ih = Contains-there t (put_in r rest) s (ih (inr g))
-
-    which : (r ≡ s) ⊎ Contains (t ∷ rest) s → ((r ≡ s) ⊎ Contains rest s → Contains (put_in r rest) s) → Contains (t ∷ put_in r rest) s
-    which (inl e) ih = Contains-there t (put_in r rest) s (ih (inl e))
-    which (inr g) ih = rest_of (Contains-cons_cases t rest s g) ih
-
-    first : (r ≡ s) ⊎ Contains (t ∷ rest) s → Contains (r ∷ t ∷ rest) s
-    first (inl e) = subst (λ (z : Reversal). Contains (r ∷ t ∷ rest) z) e (Contains-here r (t ∷ rest))
-    first (inr g) = Contains-there r (t ∷ rest) s g
-
-ascending_from : (rs : List Reversal) (s : Reversal) → Contains (ascending rs) s → Contains rs s
-ascending_from [] s h = h
-ascending_from (r ∷ rs) s h = which (put_in_from r (ascending rs) s h) (ascending_from rs s)
-  where
-    which : (r ≡ s) ⊎ Contains (ascending rs) s → (Contains (ascending rs) s → Contains rs s) → Contains (r ∷ rs) s
-    which (inl e) ih = subst (λ (z : Reversal). Contains (r ∷ rs) z) e (Contains-here r rs)
-    which (inr g) ih = Contains-there r rs s (ih g)
-
-ascending_has : (rs : List Reversal) (s : Reversal) → Contains rs s → Contains (ascending rs) s
-ascending_has [] s h = h
-ascending_has (r ∷ rs) s h = put_in_has r (ascending rs) s (which (Contains-cons_cases r rs s h) (ascending_has rs s))
-  where
-    which : (r ≡ s) ⊎ Contains rs s → (Contains rs s → Contains (ascending rs) s) → (r ≡ s) ⊎ Contains (ascending rs) s
-    which (inl e) ih = inl e
-    which (inr g) ih = inr (ih g)
 
 -- ---- The kept items
 

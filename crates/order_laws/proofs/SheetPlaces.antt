@@ -188,6 +188,15 @@ stands_last counts items x l =
 pub last_stands : (counts : ℕ → Bool) (items : List Item) (x : PlacedPair) → StandsLast counts items x → IsPairAt items x.pair (place_of x.place)
 last_stands counts items x l = record { rule = l.rule; decl = l.item; rule_at = l.rule_at; selector_in = (x.place.selector, slice_get_within (selectors_of l.rule) x.place.selector x.pair.selector l.selector_at, get_or_from_slice_get (selectors_of l.rule) x.place.selector x.pair.selector x.pair.selector l.selector_at); decl_at = l.decl_at; decl_is = l.decl_is }
 
+abbrev record_of : ℕ → ℕ → ℕ → PairPlace
+record_of item selector decl = record { item = item; selector = selector; decl = decl }
+
+placed_same : (x y : PlacedPair) → x.pair ≡ y.pair → x.place.item ≡ y.place.item → x.place.selector ≡ y.place.selector → x.place.decl ≡ y.place.decl → x ≡ y
+placed_same x y p i s d =
+    let within : (n : ℕ) → record_of n x.place.selector x.place.decl ≡ record_of n y.place.selector y.place.decl = λ n. ap₂ (record_of n) s d in
+    let places : x.place ≡ y.place = ap (λ (n : ℕ). record_of n x.place.selector x.place.decl) i ∙ within y.place.item in
+    ap₂ (λ (q : Pair) (w : PairPlace). record { pair = q; place = w }) p places
+
 -- and at one place alone
 place_is_one : (counts : ℕ → Bool) (items : List Item) (x y : PlacedPair) → StandsLast counts items x → StandsLast counts items y → x.pair ≡ y.pair → x ≡ y
 place_is_one counts items x y l m same = which (which_later (place_of x.place) (place_of y.place))
@@ -208,8 +217,7 @@ place_is_one counts items x y l m same = which (which_later (place_of x.place) (
         let low : x.place.selector ≤ y.place.selector = l.selector_first y.place.selector second in
         let high : y.place.selector ≤ x.place.selector = m.selector_first x.place.selector first in
         let selector_is : x.place.selector ≡ y.place.selector = omega (arith, low, high) in
-        let places : x.place ≡ y.place = ap₂ (λ (i : ℕ) (w : PairPlace). record { item = i; selector = w.selector; decl = w.decl }) item_is (ap₂ (λ (s d : ℕ). record { item = y.place.item; selector = s; decl = d }) selector_is decl_is) in
-        ap₂ (λ (p : Pair) (w : PairPlace). record { pair = p; place = w }) same places
+        placed_same x y same item_is selector_is decl_is
 
     which : IsLater (place_of x.place) (place_of y.place) ⊎ (place_of x.place ≡ place_of y.place) ⊎ IsLater (place_of y.place) (place_of x.place) → x ≡ y
     which (inl later) = absurd (m.last (place_of x.place) stands' l.counted later)

@@ -11,4 +11,4 @@ pub use keeping::{
 };
 pub use places::listed_stands_last;
 pub use slots::{fair_slots_keep, unmoved_pairs_keep_their_order, unmoved_pairs_pass_no_kept_item};
-pub use steps::{listed_is_reversed, rearranging_keeps, reversing_apart_keeps};
+pub use steps::{listed_ascends, listed_is_reversed, rearranging_keeps, reversing_apart_keeps};

@@ -1,6 +1,6 @@
 //! When a step, as a change of a sheet in general, keeps the sheet.
 
-ghost use Rattle.order_laws.specs.Reversed.{ListedIsReversed, ReversingApartKeeps};
+ghost use Rattle.order_laws.specs.Reversed.{ListedIsReversed, ListedAscends, ReversingApartKeeps};
 ghost use Rattle.order_laws.specs.Reversing.{RearrangingKeeps};
 
 use css_model::relating_is_decided;
@@ -17,6 +17,12 @@ pub fn listed_is_reversed()
 {
     relating_is_decided();
 }
+
+/// The list of what is reversed ascends: by how far the other's item is from the moved pair's, then by
+/// the other's place, then by the moved pair's.
+pub fn listed_ascends()
+    ensures { ListedAscends }
+{}
 
 /// A rearrangement that reverses only pairs that do not meet, by its list, keeps the sheet.
 pub fn reversing_apart_keeps()
