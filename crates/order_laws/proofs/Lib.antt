@@ -1,8 +1,11 @@
 pub mod Appended
 pub mod LastPlaces
 pub mod Lists
+pub mod EditedItems
+pub mod FairSlots
 pub mod KeptNumbers
 pub mod RulePlaces
+pub mod MovingRules
 pub mod PlaceOrder
 pub mod Rearranging
 pub mod ReversedList

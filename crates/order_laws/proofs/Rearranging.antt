@@ -9,14 +9,11 @@ use Rattle.order_laws.specs.Slots.{old_items, new_items, IsFair}
 use Rattle.order_laws.specs.Edits.{Edit, Change, is_moved, slots_from, slots_of, edited, StandsIn, IsRearrangement}
 use Rattle.order_laws.specs.Reversing.{ReversesPair, ReversesKept}
 use Rattle.order_laws.proofs.Appended.{last_same}
+use Rattle.order_laws.proofs.EditedItems.{old_same}
 use Rattle.order_laws.proofs.LastPlaces.{last_or_none, last_of}
 use Rattle.order_laws.proofs.PlaceOrder.{which_less, which_later, later_one_way}
 use Rattle.order_laws.proofs.SlotLemmas.{pairs_still, fair_slots_keep}
 use Rattle.order_laws.proofs.Winners.{other_places}
-
-pub old_same : (n : ℕ) (changes : List Change) (items : List Item) → old_items (slots_from n changes items) ≡ items
-old_same n changes [] = refl
-old_same n changes (x ∷ items) = ap (λ (xs : List Item). x ∷ xs) (old_same (n + 1) changes items)
 
 -- ---- What can be decided
 

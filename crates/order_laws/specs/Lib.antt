@@ -1,5 +1,6 @@
 pub mod Edits
 pub mod Keeping
+pub mod Moving
 pub mod Places
 pub mod Reversed
 pub mod Reversing
