@@ -12,7 +12,7 @@ use Rattle.order_laws.proofs.Appended.{last_same}
 use Rattle.order_laws.proofs.EditedItems.{old_same}
 use Rattle.order_laws.proofs.LastPlaces.{last_or_none, last_of}
 use Rattle.order_laws.proofs.PlaceOrder.{which_less, which_later, later_one_way}
-use Rattle.order_laws.proofs.SlotLemmas.{pairs_still, fair_slots_keep}
+use Rattle.order_laws.proofs.SlotLemmas.{pairs_still, order_still, kept_order_still, fair_slots_keep}
 use Rattle.order_laws.proofs.Winners.{other_places}
 
 -- ---- What can be decided
@@ -50,7 +50,15 @@ kept_or_not items p n = which (last_or_none items p)
     which (inl l) = at_place l.0 l.1 (which_less n (kept_before l.0.item items))
     which (inr none) = inr (λ b. none b.place b.stands.stands)
 
--- ---- The law
+-- ---- The laws
+
+pub unmoved_keep_their_order : (items : List Item) (e : Edit) → IsRearrangement items e →
+    ((p q : Pair) → is_moved e.moved p ≡ false → is_moved e.moved q ≡ false → IsBefore items p q ↔ IsBefore (edited e items) p q)
+    × ((p : Pair) (number : ℕ) → is_moved e.moved p ≡ false → IsBeforeKept items p number ↔ IsBeforeKept (edited e items) p number)
+unmoved_keep_their_order items e is = (
+  λ p q still still'. subst (λ (xs : List Item). IsBefore xs p q ↔ IsBefore (edited e items) p q) (old_same 0 e.changes items) (order_still (is_moved e.moved) (slots_of e items) is.fair p q still still'),
+  λ p number still. subst (λ (xs : List Item). IsBeforeKept xs p number ↔ IsBeforeKept (edited e items) p number) (old_same 0 e.changes items) (kept_order_still (is_moved e.moved) (slots_of e items) is.fair p number still),
+)
 
 pub rearranging_keeps : (source : List ℕ) (items : List Item) (e : Edit) → IsRearrangement items e →
     ((p q : Pair) → ReversesPair items (edited e items) e.moved p q → Meet p.selector q.selector → ⊥) →

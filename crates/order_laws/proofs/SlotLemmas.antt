@@ -12,7 +12,7 @@ use Rattle.css_model.specs.Laws.{is_kept, kept_before}
 use Rattle.css_model.specs.Order.{Meet, Pair, IsPairAt, HasPair, IsLast, Weigh, WeighsKept, IsBefore, IsBeforeKept, kept_items, Keeps}
 use Rattle.css_model.specs.Spelling.{said}
 use Rattle.css_model.proofs.Keeping.{weigh_back, meet_back}
-use Rattle.order_laws.specs.Slots.{Slot, old_items, new_items, IsFair, KeepsOrderOfPairs, KeepsOrderOfKept}
+use Rattle.order_laws.specs.Slots.{Slot, old_items, new_items, IsFair}
 use Rattle.order_laws.proofs.LastPlaces.{last_of}
 use Rattle.order_laws.proofs.Appended.{has_append, BeforeInTwo, before_in_two, LastBehind, BehindInTwo, behind_in_two}
 
@@ -144,6 +144,18 @@ same_kept moved (s ∷ slots) fair =
     filter-append is_kept (s.old ∷ []) (old_items slots)
     ∙ ap₂ (λ (xs ys : List Item). xs ++ ys) (sym (All-head (IsFair moved) s slots fair).kept) (same_kept moved slots (All-tail (IsFair moved) s slots fair))
     ∙ sym (filter-append is_kept s.new (new_items slots))
+
+-- ---- The sheet is kept
+
+-- a moved pair keeps its order with each pair that it weighs with and meets
+abbrev pub KeepsOrderOfPairs : (Pair → Bool) → List Item → List Item → Type 0
+KeepsOrderOfPairs moved items items' = (p q : Pair) → moved p ≡ true → Weigh p q → Meet p.selector q.selector →
+    (IsBefore items p q ↔ IsBefore items' p q) × (IsBefore items q p ↔ IsBefore items' q p)
+
+-- a moved pair keeps its order with each kept item that it weighs with
+abbrev pub KeepsOrderOfKept : (Pair → Bool) → List Item → List Item → Type 0
+KeepsOrderOfKept moved items items' = (p : Pair) (number : ℕ) (item : Item) → moved p ≡ true →
+    slice_get (kept_items items) number ≡ Some item → WeighsKept p item → IsBeforeKept items p number ↔ IsBeforeKept items' p number
 
 pub fair_slots_keep : (moved : Pair → Bool) (source : List ℕ) (slots : List Slot) →
     All (IsFair moved) slots →

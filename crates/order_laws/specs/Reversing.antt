@@ -1,5 +1,5 @@
 -- Which pairs and kept items change their order with what an edit moves.
-use Rattle.std.specs.Prelude.{◌≡◌, ◌⊎◌, ◌↔◌, ℕ, true, List, Some, slice_get}
+use Rattle.std.specs.Prelude.{◌≡◌, ◌⊎◌, ◌↔◌, ℕ, true, false, List, Some, slice_get}
 use Rattle.css_model.specs.declared.sheet.Item.{Item}
 use Rattle.css_model.specs.Order.{Meet, Pair, HasPair, Weigh, WeighsKept, IsBefore, IsBeforeKept, kept_items, Keeps}
 use Rattle.order_laws.specs.Edits.{Moved, is_moved, Edit, edited, IsRearrangement}
@@ -23,6 +23,12 @@ pub record ReversesKept (items items' : List Item) (m : Moved) (p : Pair) (numbe
   pub item_at : slice_get (kept_items items) number ≡ Some item
   pub weighs : WeighsKept p item
   pub order : Differ (IsBeforeKept items p number) (IsBeforeKept items' p number)
+
+-- What a rearrangement does not move keeps its order: two pairs, and a pair and a kept item.
+abbrev pub UnmovedKeepTheirOrder : Type 0
+UnmovedKeepTheirOrder = (items : List Item) (e : Edit) → IsRearrangement items e →
+    ((p q : Pair) → is_moved e.moved p ≡ false → is_moved e.moved q ≡ false → IsBefore items p q ↔ IsBefore (edited e items) p q)
+    × ((p : Pair) (number : ℕ) → is_moved e.moved p ≡ false → IsBeforeKept items p number ↔ IsBeforeKept (edited e items) p number)
 
 -- The law of steps: a rearrangement that reverses no pairs that meet, and no pair and a kept item, keeps
 -- the sheet.

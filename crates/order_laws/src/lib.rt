@@ -2,13 +2,15 @@
 #![tactic(auto)]
 
 mod keeping;
+mod moving;
 mod places;
-mod slots;
-mod steps;
+mod reversed;
+mod reversing;
 
 pub use keeping::{
     each_sheet_keeps_itself, keeping_goes_on, keeping_is_mutual, keeping_keeps_winners,
 };
+pub use moving::moving_rearranges;
 pub use places::listed_stands_last;
-pub use slots::{fair_slots_keep, unmoved_pairs_keep_their_order, unmoved_pairs_pass_no_kept_item};
-pub use steps::{listed_ascends, listed_is_reversed, rearranging_keeps, reversing_apart_keeps};
+pub use reversed::{listed_ascends, listed_is_reversed, reversing_apart_keeps};
+pub use reversing::{rearranging_keeps, unmoved_keep_their_order};

@@ -1,4 +1,4 @@
-use Rattle.order_laws.proofs.steps.reversing_apart_keeps.Goals as goal
+use Rattle.order_laws.proofs.reversed.reversing_apart_keeps.Goals as goal
 use Rattle.order_laws.proofs.ReversedList.{reversing_apart_keeps}
 
 pub returns : goal.returns

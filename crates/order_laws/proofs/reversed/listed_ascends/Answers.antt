@@ -1,6 +1,6 @@
 use Rattle.std.specs.List.{flat_map}
 use Rattle.order_laws.proofs.ReversedOrder.{ascending_ascends}
-use Rattle.order_laws.proofs.steps.listed_ascends.Goals as goal
+use Rattle.order_laws.proofs.reversed.listed_ascends.Goals as goal
 use Rattle.order_laws.specs.Reversed.{reversed_with, moved_pairs}
 
 pub returns : goal.returns

@@ -1,4 +1,4 @@
-use Rattle.order_laws.proofs.steps.listed_is_reversed.Goals as goal
+use Rattle.order_laws.proofs.reversed.listed_is_reversed.Goals as goal
 use Rattle.order_laws.proofs.ReversedList.{listed_is_reversed}
 
 pub returns : goal.returns

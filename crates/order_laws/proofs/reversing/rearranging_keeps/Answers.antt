@@ -1,4 +1,4 @@
-use Rattle.order_laws.proofs.steps.rearranging_keeps.Goals as goal
+use Rattle.order_laws.proofs.reversing.rearranging_keeps.Goals as goal
 use Rattle.order_laws.proofs.Rearranging.{rearranging_keeps}
 
 pub returns : goal.returns

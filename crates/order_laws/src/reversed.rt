@@ -1,0 +1,30 @@
+//! What a step reverses, as a list.
+
+ghost use Rattle.order_laws.specs.Reversed.{
+  ListedAscends,
+  ListedIsReversed,
+  ReversingApartKeeps,
+};
+
+use css_model::relating_is_decided;
+
+/// The list of what is reversed has exactly that: each moved pair with each other pair and each kept
+/// item that weighs with it and has another order with it afterwards, at their last places.
+pub fn listed_is_reversed()
+    ensures { ListedIsReversed }
+{
+    relating_is_decided();
+}
+
+/// The list of what is reversed ascends: by how far the other's item is from the moved pair's, then by
+/// the other's place, then by the moved pair's.
+pub fn listed_ascends()
+    ensures { ListedAscends }
+{}
+
+/// A rearrangement that by its list reverses only pairs that do not meet keeps the sheet.
+pub fn reversing_apart_keeps()
+    ensures { ReversingApartKeeps }
+{
+    relating_is_decided();
+}
