@@ -2,6 +2,7 @@ pub mod Appended
 pub mod LastPlaces
 pub mod Lists
 pub mod EditedItems
+mod ExampleSheets
 pub mod FairSlots
 pub mod KeptNumbers
 pub mod RulePlaces
@@ -11,6 +12,7 @@ pub mod Rearranging
 pub mod ReversedList
 pub mod ReversedOrder
 pub mod ReversedTests
+mod ReversedExamples
 pub mod RulePairs
 pub mod SheetPlaces
 pub mod SlotLemmas
