@@ -4,6 +4,7 @@ pub mod Lists
 pub mod EditedItems
 mod ExampleSheets
 pub mod FairSlots
+mod KeepingExamples
 pub mod KeptNumbers
 pub mod RulePlaces
 pub mod MovingRules

@@ -9,15 +9,18 @@ use Rattle.css_model.specs.declared.sheet.DeclItem.{DeclItem}
 use Rattle.css_model.specs.declared.sheet.Item.{Item}
 use Rattle.css_model.specs.declared.sheet.Item.TheVariants.{Rule}
 use Rattle.css_model.specs.Cascade.{Place}
-use Rattle.css_model.specs.Order.{Pair, IsPairAt, HasPair}
+use Rattle.css_model.specs.Family.{RelatingIsDecided}
+use Rattle.css_model.specs.Order.{Pair, IsPairAt, HasPair, Keeps}
 use Rattle.css_model.specs.RuleParts.{RuleParts}
 use Rattle.order_laws.specs.Edits.{Change, instead, slots_from, slots_of, Edit, edited, whole_rule, is_moved, has_number, StandsIn, IsRearrangement}
 use Rattle.order_laws.specs.Moving.{item_moved, moving}
+use Rattle.order_laws.specs.Reversed.{IsApart, reversed}
 use Rattle.order_laws.specs.Slots.{new_items, IsFair}
 use Rattle.order_laws.proofs.Appended.{has_append}
 use Rattle.order_laws.proofs.EditedItems.{instead_here, instead_there, unchanged, all_fair, has_new}
 use Rattle.order_laws.proofs.FairSlots.{AllMoved, same_fair, none_fair, front_fair, back_fair}
 use Rattle.order_laws.proofs.PlaceOrder.{which_less}
+use Rattle.order_laws.proofs.ReversedList.{reversing_apart_keeps}
 use Rattle.order_laws.proofs.RulePairs.{InRule, in_decl, has_rule, moved_is}
 
 -- ---- One change from a number on
@@ -191,3 +194,11 @@ moving_rearranges items from to r other at at' apart = (record {
     there p h =
         let e : to ≡ 0 + to = omega arith in
         subst (λ (m : ℕ). HasPair (instead (changes_of from to r other) m other) p) e (subst (λ (xs : List Item). HasPair xs p) (sym (comes_at from to r other apart other)) (has_placed from to r other p h))
+
+pub moving_apart_keeps : RelatingIsDecided → (source : List ℕ) (items : List Item) (from to : ℕ) (r : RuleParts) (other : Item) → slice_get items from ≡ Some (Rule r) → slice_get items to ≡ Some other → from ≢ to →
+    All (λ x. IsApart x.moved.pair x.other) (reversed items (item_moved items from to (Rule r)) (whole_rule from r)) → Keeps source items source (item_moved items from to (Rule r))
+moving_apart_keeps relating source items from to r other at at' different apart =
+    let w : IsRearrangement items (moving from to r other) × (edited (moving from to r other) items ≡ item_moved items from to (Rule r)) = moving_rearranges items from to r other at at' different in
+    subst (λ (xs : List Item). Keeps source items source xs) w.1
+    (reversing_apart_keeps relating source items (moving from to r other) w.0
+    (subst (λ (xs : List Item). All (λ x. IsApart x.moved.pair x.other) (reversed items xs (whole_rule from r))) (sym w.1) apart))

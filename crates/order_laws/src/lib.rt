@@ -10,7 +10,7 @@ mod reversing;
 pub use keeping::{
     each_sheet_keeps_itself, keeping_goes_on, keeping_is_mutual, keeping_keeps_winners,
 };
-pub use moving::moving_rearranges;
+pub use moving::{moving_apart_keeps, moving_rearranges};
 pub use places::listed_stands_last;
 pub use reversed::{listed_ascends, listed_is_reversed, reversing_apart_keeps};
 pub use reversing::{rearranging_keeps, unmoved_keep_their_order};
