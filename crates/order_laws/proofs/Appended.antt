@@ -2,9 +2,9 @@
 use Rattle.std.proofs.Common.{◌≡◌, ◌↔◌, ◌⊎◌, ℕ, zero, suc, ◌+◌, ◌<◌, List, [], ◌∷◌, ◌++◌, length, Some, None, refl, sym, ap, ◌∙◌, subst, inl, inr, arith}
 use Rattle.css_model.specs.declared.sheet.Item.{Item}
 use Rattle.css_model.specs.declared.sheet.Item.TheVariants.{Rule, KeptRule, KeptBlock}
-use Rattle.css_model.specs.Cascade.{Place}
-use Rattle.css_model.specs.Laws.{IsLater, kept_before}
-use Rattle.css_model.specs.Order.{Pair, IsPairAt, HasPair, IsLast, IsBefore, kept_items}
+use Rattle.css_model.specs.Cascade.Winner.{Place, IsLater}
+use Rattle.css_model.specs.Sheets.KeptItems.{kept_before, kept_items}
+use Rattle.css_model.specs.Cascade.Order.{Pair, IsPairAt, HasPair, IsLast, IsBefore}
 use Rattle.order_laws.proofs.LastPlaces.{among, behind, last_or_none, last_of}
 use Rattle.order_laws.proofs.PlaceOrder.{which_later}
 

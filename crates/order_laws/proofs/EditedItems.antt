@@ -5,11 +5,11 @@ use Rattle.std.specs.List.{All}
 use Rattle.std.proofs.lemmas.Bool.{cond-true, cond-false, false_from_ne_true}
 use Rattle.std.proofs.lemmas.Bool.Decides.{Decides-eqb}
 use Rattle.std.proofs.lemmas.List.Elements.{All-cons, All-nil}
-use Rattle.css_model.proofs.Applying.{some-same}
+use Rattle.cascade_laws.proofs.ForCallers.{some-same}
 use Rattle.css_model.specs.declared.sheet.Item.{Item}
 use Rattle.css_model.specs.declared.sheet.Item.TheVariants.{Rule}
-use Rattle.css_model.specs.Order.{Pair, HasPair}
-use Rattle.css_model.specs.RuleParts.{RuleParts}
+use Rattle.css_model.specs.Cascade.Order.{Pair, HasPair}
+use Rattle.css_model.specs.Sheets.RuleParts.{RuleParts}
 use Rattle.order_laws.specs.Edits.{Change, instead, slots_from}
 use Rattle.order_laws.specs.Slots.{old_items, new_items, IsFair}
 use Rattle.order_laws.proofs.Appended.{has_append}

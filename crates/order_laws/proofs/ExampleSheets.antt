@@ -15,9 +15,9 @@ use Rattle.css_model.specs.declared.sheet.Decl.{Decl}
 use Rattle.css_model.specs.declared.sheet.Item.{Item}
 use Rattle.css_model.specs.declared.sheet.Item.TheVariants.{Rule, KeptRule, KeptBlock}
 use Rattle.css_model.specs.declared.sheet.Piece.{Piece}
-use Rattle.css_model.specs.Document.{Attribute, Element, none, Document, Target, IsText, IsLegalElement, IsLegal}
-use Rattle.css_model.specs.RuleParts.{RuleParts}
-use Rattle.css_model.specs.SelectorParts.{SelectorParts}
+use Rattle.css_model.specs.Documents.Document.{Attribute, Element, none, Document, Target, IsText, IsLegalElement, IsLegal}
+use Rattle.css_model.specs.Sheets.RuleParts.{RuleParts}
+use Rattle.css_model.specs.Documents.SelectorParts.{SelectorParts}
 
 -- ---- Selectors, declarations and items
 

@@ -3,9 +3,9 @@ use Rattle.std.proofs.Common.{◌≡◌, ◌↔◌, ◌⊎◌, Bool, false, List
 use Rattle.std.proofs.lemmas.List.Elements.{filter-append}
 use Rattle.css_model.specs.declared.sheet.Item.{Item}
 use Rattle.css_model.specs.declared.sheet.Item.TheVariants.{Rule}
-use Rattle.css_model.specs.Laws.{is_kept}
-use Rattle.css_model.specs.Order.{Pair, HasPair, IsBefore, kept_items}
-use Rattle.css_model.specs.RuleParts.{RuleParts}
+use Rattle.css_model.specs.Sheets.KeptItems.{is_kept, kept_items}
+use Rattle.css_model.specs.Cascade.Order.{Pair, HasPair, IsBefore}
+use Rattle.css_model.specs.Sheets.RuleParts.{RuleParts}
 use Rattle.order_laws.specs.Slots.{IsFair}
 use Rattle.order_laws.proofs.Appended.{has_append, BeforeInTwo, before_in_two}
 use Rattle.order_laws.proofs.RulePairs.{InRule, decls, has_rule, DeclBefore, before_rule}

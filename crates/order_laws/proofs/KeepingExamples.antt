@@ -5,16 +5,17 @@ use Rattle.std.specs.Cmp.Lexicographic.{bytes_decides}
 use Rattle.std.specs.List.{All, Contains}
 use Rattle.std.proofs.lemmas.Bool.{false≢true}
 use Rattle.std.proofs.lemmas.List.Elements.{All-cons, All-nil}
-use Rattle.css_model.proofs.Members.{Contains-here, Contains-nil, Contains-cons_cases}
+use Rattle.list_facts.proofs.Members.{Contains-here, Contains-nil, Contains-cons_cases}
 use Rattle.css_model.specs.declared.selector.Specificity.{Specificity}
 use Rattle.css_model.specs.declared.sheet.Decl.{Decl}
 use Rattle.css_model.specs.declared.sheet.Item.{Item}
 use Rattle.css_model.specs.declared.sheet.Item.TheVariants.{Rule}
-use Rattle.css_model.specs.Cascade.{Declared, AreMeanings, Understood, Winner, winner}
-use Rattle.css_model.specs.Document.{same_text}
-use Rattle.css_model.specs.Family.{Related, RelatingIsDecided}
-use Rattle.css_model.specs.Order.{Keeps}
-use Rattle.css_model.specs.RuleParts.{RuleParts}
+use Rattle.css_model.specs.Cascade.Winner.{Declared, AreMeanings, Understood, Winner, winner}
+use Rattle.css_model.specs.Lists.{same_text}
+use Rattle.css_model.specs.Cascade.Family.{Related}
+use Rattle.cascade_laws.specs.Families.{RelatingIsDecided}
+use Rattle.css_model.specs.Cascade.Order.{Keeps}
+use Rattle.css_model.specs.Sheets.RuleParts.{RuleParts}
 use Rattle.order_laws.specs.Edits.{whole_rule}
 use Rattle.order_laws.specs.Keeping.{AreRelated}
 use Rattle.order_laws.specs.Moving.{item_moved}

@@ -4,7 +4,7 @@ use Rattle.std.specs.List.{Contains, flat_map, list_any}
 use Rattle.std.proofs.lemmas.Bool.{false≢true, or_cases, or_left, or_right}
 use Rattle.std.proofs.lemmas.List.Concat.{flat_map-cons}
 use Rattle.std.proofs.lemmas.List.Elements.{Contains-append_left, Contains-append_right, Contains-append_cases}
-use Rattle.css_model.proofs.Members.{Contains-here, Contains-there, Contains-nil, Contains-cons_cases}
+use Rattle.list_facts.proofs.Members.{Contains-here, Contains-there, Contains-nil, Contains-cons_cases}
 
 -- ---- A test that finds one
 

@@ -4,14 +4,14 @@ use Rattle.std.specs.Prelude.{slice_get, nat_lt, take, drop}
 use Rattle.std.specs.List.{All, Contains, insert, remove}
 use Rattle.std.proofs.lemmas.Bool.{cond-true, cond-false, false≢true, both_ways, cond_both, false_from_ne_true, or_left}
 use Rattle.std.proofs.lemmas.Bool.Decides.{Decides-eqb, Decides-ltb}
-use Rattle.css_model.proofs.Applying.{some-same}
+use Rattle.cascade_laws.proofs.ForCallers.{some-same}
 use Rattle.css_model.specs.declared.sheet.DeclItem.{DeclItem}
 use Rattle.css_model.specs.declared.sheet.Item.{Item}
 use Rattle.css_model.specs.declared.sheet.Item.TheVariants.{Rule}
-use Rattle.css_model.specs.Cascade.{Place}
-use Rattle.css_model.specs.Family.{RelatingIsDecided}
-use Rattle.css_model.specs.Order.{Pair, IsPairAt, HasPair, Keeps}
-use Rattle.css_model.specs.RuleParts.{RuleParts}
+use Rattle.css_model.specs.Cascade.Winner.{Place}
+use Rattle.cascade_laws.specs.Families.{RelatingIsDecided}
+use Rattle.css_model.specs.Cascade.Order.{Pair, IsPairAt, HasPair, Keeps}
+use Rattle.css_model.specs.Sheets.RuleParts.{RuleParts}
 use Rattle.order_laws.specs.Edits.{Change, instead, slots_from, slots_of, Edit, edited, whole_rule, is_moved, has_number, StandsIn, IsRearrangement}
 use Rattle.order_laws.specs.Moving.{item_moved, moving}
 use Rattle.order_laws.specs.Reversed.{IsApart, reversed}

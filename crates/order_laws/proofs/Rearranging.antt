@@ -2,9 +2,9 @@
 use Rattle.std.proofs.Common.{◌≡◌, ◌≢◌, ◌↔◌, ◌⊎◌, ℕ, zero, suc, ◌+◌, ◌<◌, ◌≤◌, Bool, true, false, List, [], ◌∷◌, Some, None, refl, sym, ap, subst, inl, inr, arith}
 use Rattle.std.specs.Prelude.{slice_get}
 use Rattle.css_model.specs.declared.sheet.Item.{Item}
-use Rattle.css_model.specs.Cascade.{Place}
-use Rattle.css_model.specs.Laws.{IsLater, kept_before}
-use Rattle.css_model.specs.Order.{Meet, Pair, IsPairAt, HasPair, IsLast, Weigh, WeighsKept, IsBefore, IsBeforeKept, kept_items, Keeps}
+use Rattle.css_model.specs.Cascade.Winner.{Place, IsLater}
+use Rattle.css_model.specs.Sheets.KeptItems.{kept_before, kept_items}
+use Rattle.css_model.specs.Cascade.Order.{Meet, Pair, IsPairAt, HasPair, IsLast, Weigh, WeighsKept, IsBefore, IsBeforeKept, Keeps}
 use Rattle.order_laws.specs.Slots.{old_items, new_items, IsFair}
 use Rattle.order_laws.specs.Edits.{Edit, Change, is_moved, slots_from, slots_of, edited, StandsIn, IsRearrangement}
 use Rattle.order_laws.specs.Reversing.{ReversesPair, ReversesKept}

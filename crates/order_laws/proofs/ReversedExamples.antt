@@ -4,8 +4,8 @@ use Rattle.std.specs.Prelude.{codes}
 use Rattle.css_model.specs.declared.sheet.Decl.{Decl}
 use Rattle.css_model.specs.declared.sheet.Item.{Item}
 use Rattle.css_model.specs.declared.sheet.Item.TheVariants.{Rule}
-use Rattle.css_model.specs.RuleParts.{RuleParts}
-use Rattle.css_model.specs.SelectorParts.{SelectorParts}
+use Rattle.css_model.specs.Sheets.RuleParts.{RuleParts}
+use Rattle.css_model.specs.Documents.SelectorParts.{SelectorParts}
 use Rattle.order_laws.specs.Edits.{Edit, whole_rule, edited}
 use Rattle.order_laws.specs.Moving.{item_moved}
 use Rattle.order_laws.specs.Places.{PlacedPair}

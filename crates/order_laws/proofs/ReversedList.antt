@@ -5,12 +5,12 @@ use Rattle.std.specs.Prelude.{slice_get}
 use Rattle.std.specs.List.{All, Contains, filter, flat_map}
 use Rattle.std.proofs.lemmas.Bool.{false≢true, cond_both, and_parts, and_from, cond-true}
 use Rattle.std.proofs.lemmas.List.Elements.{All-contains, Contains-append_left, Contains-append_right, Contains-append_cases}
-use Rattle.css_model.proofs.Applying.{some-same}
-use Rattle.css_model.proofs.Members.{Contains-here, Contains-there, Contains-nil, Contains-cons_cases, Contains-filter, Contains-filtered}
+use Rattle.cascade_laws.proofs.ForCallers.{some-same}
+use Rattle.list_facts.proofs.Members.{Contains-here, Contains-there, Contains-nil, Contains-cons_cases, Contains-filter, Contains-filtered}
 use Rattle.css_model.specs.declared.sheet.Item.{Item}
-use Rattle.css_model.specs.Family.{RelatingIsDecided}
-use Rattle.css_model.specs.Laws.{is_kept, kept_before}
-use Rattle.css_model.specs.Order.{Meet, Pair, HasPair, Weigh, WeighsKept, IsBefore, IsBeforeKept, kept_items, Keeps}
+use Rattle.cascade_laws.specs.Families.{RelatingIsDecided}
+use Rattle.css_model.specs.Sheets.KeptItems.{is_kept, kept_before, kept_items}
+use Rattle.css_model.specs.Cascade.Order.{Meet, Pair, HasPair, Weigh, WeighsKept, IsBefore, IsBeforeKept, Keeps}
 use Rattle.order_laws.specs.Edits.{Moved, is_moved, has_number, Edit, edited, StandsIn, IsRearrangement}
 use Rattle.order_laws.specs.Places.{PlacedPair, place_of, last_pairs, last_pairs_from, StandsLast}
 use Rattle.order_laws.specs.Reversed.{weigh, weighs_kept, comes_before, comes_before_kept, Other, AnotherPair, KeptAt, Reversal, kept_from, is_reversed, is_reversed_kept, with_pair, with_kept, reversed_with, moved_pairs, ascending, reversed, IsReversedWith, IsApart}

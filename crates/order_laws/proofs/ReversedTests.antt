@@ -6,17 +6,18 @@ use Rattle.std.specs.Prelude.{nat_le, nat_lt}
 use Rattle.std.specs.List.{Contains, list_any}
 use Rattle.std.proofs.lemmas.Bool.{false≢true, and_parts, and_from, or_cases, or_left, or_right, not-true, not_from_false, false_from_ne_true, leb-true, le-leb}
 use Rattle.std.proofs.lemmas.Bool.Decides.{Decides-eqb, Decides-ltb}
-use Rattle.css_model.proofs.Same.{decl_decides}
+use Rattle.css_model.proofs.ForCallers.{decl_decides}
 use Rattle.css_model.specs.contracts.selector.SpecificityPartialEq.TheImpl as specificity
 use Rattle.css_model.specs.declared.selector.Specificity.{Specificity}
 use Rattle.css_model.specs.declared.sheet.Decl.{Decl}
 use Rattle.css_model.specs.declared.sheet.Item.{Item}
 use Rattle.css_model.specs.declared.sheet.Item.TheVariants.{Rule, KeptRule, KeptBlock}
-use Rattle.css_model.specs.Cascade.{Place}
-use Rattle.css_model.specs.Family.{related, RelatingIsDecided}
-use Rattle.css_model.specs.Laws.{IsLater, kept_before}
-use Rattle.css_model.specs.Order.{Pair, IsPairAt, IsLast, Weigh, WeighsOne, WeighsKept, IsBefore, IsBeforeKept}
-use Rattle.css_model.specs.Specificity.{specificity_of}
+use Rattle.css_model.specs.Cascade.Winner.{Place, IsLater}
+use Rattle.css_model.specs.Cascade.Family.{related}
+use Rattle.cascade_laws.specs.Families.{RelatingIsDecided}
+use Rattle.css_model.specs.Sheets.KeptItems.{kept_before}
+use Rattle.css_model.specs.Cascade.Order.{Pair, IsPairAt, IsLast, Weigh, WeighsOne, WeighsKept, IsBefore, IsBeforeKept}
+use Rattle.css_model.specs.Documents.Specificity.{specificity_of}
 use Rattle.order_laws.specs.Places.{PairPlace, PlacedPair, place_of, StandsLast, same_decl, same_pair, last_pairs}
 use Rattle.order_laws.specs.Reversed.{same_rank, weigh, weighs_kept, is_later, comes_before, comes_before_kept}
 use Rattle.order_laws.specs.Reversing.{Differ}

@@ -4,21 +4,20 @@ use Rattle.std.specs.Prelude.{slice_get}
 use Rattle.std.specs.List.{Contains, filter}
 use Rattle.std.proofs.lemmas.Bool.{false≢true, cond_both, or_cases, or_left, or_right, and_parts, and_from}
 use Rattle.std.proofs.lemmas.List.Elements.{Contains-append_left, Contains-append_right, Contains-append_cases}
-use Rattle.css_model.proofs.Applying.{some-same, rule-same}
-use Rattle.css_model.proofs.Members.{Contains-here, Contains-there, Contains-nil, Contains-cons_cases, Contains-filter, Contains-filtered}
-use Rattle.css_model.proofs.Same.{decl_decides, selector_decides}
+use Rattle.cascade_laws.proofs.ForCallers.{some-same, rule-same}
+use Rattle.list_facts.proofs.Members.{Contains-here, Contains-there, Contains-nil, Contains-cons_cases, Contains-filter, Contains-filtered}
+use Rattle.css_model.proofs.ForCallers.{decl_decides, selector_decides}
 use Rattle.css_model.specs.contracts.selector.SelectorPartialEq.TheImpl as selector
 use Rattle.css_model.specs.contracts.sheet.DeclPartialEq.TheImpl as decl
 use Rattle.css_model.specs.declared.sheet.Decl.{Decl}
 use Rattle.css_model.specs.declared.sheet.DeclItem.{DeclItem}
 use Rattle.css_model.specs.declared.sheet.Item.TheVariants.{Rule}
 use Rattle.css_model.specs.declared.sheet.SelItem.{SelItem}
-use Rattle.css_model.specs.Cascade.{Place}
-use Rattle.css_model.specs.Laws.{IsLater}
-use Rattle.css_model.specs.Order.{Pair, IsPairAt, HasPair, IsLast, IsBefore}
-use Rattle.css_model.specs.RuleParts.{RuleParts}
-use Rattle.css_model.specs.SelectorParts.{SelectorParts}
-use Rattle.css_model.specs.StyleRule.{selectors_of}
+use Rattle.css_model.specs.Cascade.Winner.{Place, IsLater}
+use Rattle.css_model.specs.Cascade.Order.{Pair, IsPairAt, HasPair, IsLast, IsBefore}
+use Rattle.css_model.specs.Sheets.RuleParts.{RuleParts}
+use Rattle.css_model.specs.Documents.SelectorParts.{SelectorParts}
+use Rattle.css_model.specs.Sheets.StyleRule.{selectors_of}
 use Rattle.order_laws.specs.Edits.{has_selector, has_decl, Moved, is_moved}
 use Rattle.order_laws.proofs.LastPlaces.{LastIn, NoneIn, last_decl}
 

@@ -4,14 +4,13 @@ use Rattle.std.specs.Prelude.{slice_get}
 use Rattle.std.specs.List.{All}
 use Rattle.std.proofs.lemmas.Bool.{false≢true}
 use Rattle.std.proofs.lemmas.List.Elements.{All-head, All-tail, filter-append}
-use Rattle.css_model.proofs.Applying.{some-same}
+use Rattle.cascade_laws.proofs.ForCallers.{some-same, weigh_back, meet_back}
 use Rattle.css_model.specs.declared.sheet.Item.{Item}
 use Rattle.css_model.specs.declared.sheet.Item.TheVariants.{Rule, KeptRule, KeptBlock}
-use Rattle.css_model.specs.Cascade.{Place}
-use Rattle.css_model.specs.Laws.{is_kept, kept_before}
-use Rattle.css_model.specs.Order.{Meet, Pair, IsPairAt, HasPair, IsLast, Weigh, WeighsKept, IsBefore, IsBeforeKept, kept_items, Keeps}
-use Rattle.css_model.specs.Spelling.{said}
-use Rattle.css_model.proofs.Keeping.{weigh_back, meet_back}
+use Rattle.css_model.specs.Cascade.Winner.{Place}
+use Rattle.css_model.specs.Sheets.KeptItems.{is_kept, kept_before, kept_items}
+use Rattle.css_model.specs.Cascade.Order.{Meet, Pair, IsPairAt, HasPair, IsLast, Weigh, WeighsKept, IsBefore, IsBeforeKept, Keeps}
+use Rattle.css_model.specs.Sheets.Spelling.{content}
 use Rattle.order_laws.specs.Slots.{Slot, old_items, new_items, IsFair}
 use Rattle.order_laws.proofs.LastPlaces.{last_of}
 use Rattle.order_laws.proofs.Appended.{has_append, BeforeInTwo, before_in_two, LastBehind, BehindInTwo, behind_in_two}
@@ -165,7 +164,7 @@ pub fair_slots_keep : (moved : Pair → Bool) (source : List ℕ) (slots : List 
     Keeps source (old_items slots) source (new_items slots)
 fair_slots_keep moved source slots fair pairs order kept_order = record {
   pairs = pairs;
-  kept = ap (map (said source)) (same_kept moved slots fair);
+  kept = ap (map (content source)) (same_kept moved slots fair);
   order = λ p q w m. which p q w m (moved p) refl (moved q) refl;
   kept_order = λ p n x at w. kept p n x at w (moved p) refl;
 }

@@ -5,27 +5,26 @@ use Rattle.std.specs.Option.{IfSome}
 use Rattle.std.specs.List.{All, Contains, list_any}
 use Rattle.std.proofs.lemmas.Bool.{false≢true}
 use Rattle.std.proofs.lemmas.List.Elements.{All-contains, All-weaker, All-contains_itself}
-use Rattle.css_model.proofs.Applying.{some-same, rule-same, applied-words, words-applied}
-use Rattle.css_model.proofs.CascadeWords.{words-outranks, understood-listed}
-use Rattle.css_model.proofs.Greatest.{winner-greatest, winner-none, none-winner}
-use Rattle.css_model.proofs.Keeping.{keeps_back}
-use Rattle.css_model.proofs.Members.{Contains-here, Contains-there, Contains-nil, Contains-cons_cases}
+use Rattle.cascade_laws.proofs.ForCallers.{some-same, rule-same, applied-words, words-applied, words-outranks, understood-listed, winner-greatest, winner-none, none-winner, keeps_back}
+use Rattle.list_facts.proofs.Members.{Contains-here, Contains-there, Contains-nil, Contains-cons_cases}
 use Rattle.css_model.specs.declared.selector.Specificity.{Specificity}
 use Rattle.css_model.specs.declared.sheet.Decl.{Decl}
 use Rattle.css_model.specs.declared.sheet.DeclItem.{DeclItem}
 use Rattle.css_model.specs.declared.sheet.Item.{Item}
 use Rattle.css_model.specs.declared.sheet.Item.TheVariants.{Rule, KeptRule, KeptBlock}
 use Rattle.css_model.specs.declared.sheet.SelItem.{SelItem}
-use Rattle.css_model.specs.Cascade.{Declared, Place, Entry, AreMeanings, applied, Understood, is_understood, outranks, Winner, outcome, winner}
-use Rattle.css_model.specs.Document.{Document, Target, IsLegal, same_text}
-use Rattle.css_model.specs.Family.{Related}
-use Rattle.css_model.specs.Laws.{is_kept, kept_before, AppliesByRule, AppliesByKept, IsMoreSpecific, IsLater, Outranks, IsGreatest}
-use Rattle.css_model.specs.Matching.{Matches}
-use Rattle.css_model.specs.Order.{Meet, Pair, IsPairAt, HasPair, IsLast, Weigh, WeighsKept, IsBefore, IsBeforeKept, kept_items, Keeps}
-use Rattle.css_model.specs.RuleParts.{RuleParts}
-use Rattle.css_model.specs.SelectorParts.{SelectorParts}
-use Rattle.css_model.specs.Specificity.{specificity_of}
-use Rattle.css_model.specs.Spelling.{Kept, said, kept_text}
+use Rattle.css_model.specs.Cascade.Winner.{Declared, Place, AppliedDeclaration, AreMeanings, applied, Understood, is_understood, outranks, Winner, outcome, winner, IsLater}
+use Rattle.css_model.specs.Documents.Document.{Document, Target, IsLegal}
+use Rattle.css_model.specs.Lists.{same_text}
+use Rattle.css_model.specs.Cascade.Family.{Related}
+use Rattle.css_model.specs.Sheets.KeptItems.{is_kept, kept_before, kept_items}
+use Rattle.cascade_laws.specs.Winning.{AppliesByRule, AppliesByKept, IsMoreSpecific, Outranks, IsGreatest}
+use Rattle.css_model.specs.Documents.Matching.{Matches}
+use Rattle.css_model.specs.Cascade.Order.{Meet, Pair, IsPairAt, HasPair, IsLast, Weigh, WeighsKept, IsBefore, IsBeforeKept, Keeps}
+use Rattle.css_model.specs.Sheets.RuleParts.{RuleParts}
+use Rattle.css_model.specs.Documents.SelectorParts.{SelectorParts}
+use Rattle.css_model.specs.Documents.Specificity.{specificity_of}
+use Rattle.css_model.specs.Sheets.Spelling.{Kept, content, kept_text}
 use Rattle.order_laws.specs.Keeping.{AreRelated}
 use Rattle.order_laws.proofs.LastPlaces.{same_decl_or_not, last_of}
 use Rattle.order_laws.proofs.KeptNumbers.{kept_at, KeptPlace, place_of_kept, kept_before-monotone, kept_before-behind, Fits, MeaningsFit, meanings_fit}
@@ -33,7 +32,7 @@ use Rattle.order_laws.proofs.PlaceOrder.{which_less, which_later, later_than_bot
 
 -- ---- An entry that a rule applies, by its pair
 
-pub record ByPair (doc : Document) (target : Target) (items : List Item) (e : Entry) : Type 0 where
+pub record ByPair (doc : Document) (target : Target) (items : List Item) (e : AppliedDeclaration) : Type 0 where
   pub pair : Pair
   pub stands : IsPairAt items pair e.place
   pub matching : Matches doc target pair.selector
@@ -56,7 +55,7 @@ from_selectors (x ∷ ss) s h = cases (Contains-cons_cases x.selector (map (λ y
     cases (inl e) rest = (x, Contains-here x ss, e)
     cases (inr g) rest = let w : (y : SelItem) × Contains ss y × (y.selector ≡ s) = rest g in (w.0, Contains-there x ss w.0 w.1, w.2)
 
-by_pair : (doc : Document) (target : Target) (items : List Item) (e : Entry) → AppliesByRule doc target items e → ByPair doc target items e
+by_pair : (doc : Document) (target : Target) (items : List Item) (e : AppliedDeclaration) → AppliesByRule doc target items e → ByPair doc target items e
 by_pair doc target items e a = record {
   pair = record { selector = a.selector.selector; decl = a.decl.decl };
   stands = record { rule = a.rule; decl = a.decl; rule_at = a.rule_at; selector_in = in_selectors a.rule.selectors a.selector a.selector_in; decl_at = a.decl_at; decl_is = refl };
@@ -66,7 +65,7 @@ by_pair doc target items e a = record {
 }
 
 -- what a pair applies at a place where it stands
-entry_at : Pair → Place → Entry
+entry_at : Pair → Place → AppliedDeclaration
 entry_at p place = record { decl = p.decl; specificity = specificity_of p.selector; place = place }
 
 applies_at : (doc : Document) (target : Target) (items : List Item) (p : Pair) (place : Place) → IsPairAt items p place → Matches doc target p.selector → AppliesByRule doc target items (entry_at p place)
@@ -87,11 +86,11 @@ applies_at doc target items p place h matching =
 
 -- ---- An entry that a kept item applies, by its number
 
-abbrev Applies : Document → Target → List (List Declared) → List Item → Entry → Type 0
+abbrev Applies : Document → Target → List (List Declared) → List Item → AppliedDeclaration → Type 0
 Applies doc target meanings items e = AppliesByRule doc target items e ⊎ AppliesByKept meanings items e
 
 -- the kept item of a number applies its meaning wherever it stands
-kept_applies : (meanings : List (List Declared)) (items : List Item) (e : Entry) (n : ℕ) (x : Item) (m : List Declared) (d : Declared) (position : ℕ) → (k : KeptPlace items n x) →
+kept_applies : (meanings : List (List Declared)) (items : List Item) (e : AppliedDeclaration) (n : ℕ) (x : Item) (m : List Declared) (d : Declared) (position : ℕ) → (k : KeptPlace items n x) →
     slice_get meanings n ≡ Some m → slice_get m position ≡ Some d → e.decl ≡ d.decl → e.specificity ≡ d.specificity → e.place ≡ record { item = k.index; position = position } → AppliesByKept meanings items e
 kept_applies meanings items e n x m d position k meaning_at declared_at decl_is specificity_is place_is = record {
   item = x;
@@ -106,19 +105,19 @@ kept_applies meanings items e n x m d position k meaning_at declared_at decl_is 
 }
 
 -- what stands at a place of one list, where two lists say the same
-there : (source source' : List ℕ) (xs ys : List Item) → map (said source) xs ≡ map (said source') ys → (n : ℕ) (y : Item) → slice_get ys n ≡ Some y → (x : Item) × (slice_get xs n ≡ Some x) × (said source x ≡ said source' y)
+there : (source source' : List ℕ) (xs ys : List Item) → map (content source) xs ≡ map (content source') ys → (n : ℕ) (y : Item) → slice_get ys n ≡ Some y → (x : Item) × (slice_get xs n ≡ Some x) × (content source x ≡ content source' y)
 there source source' xs [] e n y at = absurd cc
 there source source' [] (z ∷ ys) e n y at = absurd cc
-there source source' (x ∷ xs) (z ∷ ys) e zero y at = (x, refl, first_same e ∙ ap (said source') (some-same at))
+there source source' (x ∷ xs) (z ∷ ys) e zero y at = (x, refl, first_same e ∙ ap (content source') (some-same at))
   where
-    first_same : said source x ∷ map (said source) xs ≡ said source' z ∷ map (said source') ys → said source x ≡ said source' z
+    first_same : content source x ∷ map (content source) xs ≡ content source' z ∷ map (content source') ys → content source x ≡ content source' z
     first_same h = cc
 there source source' (x ∷ xs) (z ∷ ys) e (suc n) y at = there source source' xs ys (rest_same e) n y at
   where
-    rest_same : said source x ∷ map (said source) xs ≡ said source' z ∷ map (said source') ys → map (said source) xs ≡ map (said source') ys
+    rest_same : content source x ∷ map (content source) xs ≡ content source' z ∷ map (content source') ys → map (content source) xs ≡ map (content source') ys
     rest_same h = cc
 
-fits_same : (source source' : List ℕ) (x y : Item) (m : List Declared) → said source x ≡ said source' y → Fits x m → Fits y m
+fits_same : (source source' : List ℕ) (x y : Item) (m : List Declared) → content source x ≡ content source' y → Fits x m → Fits y m
 fits_same source source' x (Rule r) m e w = tt
 fits_same source source' (Rule r) (KeptRule b) m e w = absurd cc
 fits_same source source' (KeptRule a) (KeptRule b) m e w = subst (λ (ds : List Decl). All (λ (e : Declared). Contains ds e.decl) m) (decls_same e) w
@@ -128,25 +127,25 @@ fits_same source source' (KeptRule a) (KeptRule b) m e w = subst (λ (ds : List 
 fits_same source source' (KeptBlock a) (KeptRule b) m e w = absurd cc
 fits_same source source' x (KeptBlock piece) m e w = tt
 
-fit_too : (source source' : List ℕ) (items items' : List Item) (meanings : List (List Declared)) → map (said source) (kept_items items) ≡ map (said source') (kept_items items') → MeaningsFit items meanings → MeaningsFit items' meanings
+fit_too : (source source' : List ℕ) (items items' : List Item) (meanings : List (List Declared)) → map (content source) (kept_items items) ≡ map (content source') (kept_items items') → MeaningsFit items meanings → MeaningsFit items' meanings
 fit_too source source' items items' meanings same fit n y m at of =
-    let x : (x : Item) × (slice_get (kept_items items) n ≡ Some x) × (said source x ≡ said source' y) = there source source' (kept_items items) (kept_items items') same n y at in
+    let x : (x : Item) × (slice_get (kept_items items) n ≡ Some x) × (content source x ≡ content source' y) = there source source' (kept_items items) (kept_items items') same n y at in
     fits_same source source' x.0 y m x.2 (fit n x.0 m x.1 of)
 
 -- ---- Entries that are the same but for their places
 
-abbrev AreAlike : Entry → Entry → Type 0
+abbrev AreAlike : AppliedDeclaration → AppliedDeclaration → Type 0
 AreAlike e f = (e.decl ≡ f.decl) × (e.specificity ≡ f.specificity)
 
-understood_alike : (us : List Understood) (e f : Entry) → AreAlike e f → is_understood us e ≡ is_understood us f
+understood_alike : (us : List Understood) (e f : AppliedDeclaration) → AreAlike e f → is_understood us e ≡ is_understood us f
 understood_alike us e f same = ap (λ (d : Decl). list_any (λ u. same_text u.name d.name && same_text u.value d.value) us) same.0
 
-outcome_alike : (e f : Entry) → AreAlike e f → outcome e ≡ outcome f
+outcome_alike : (e f : AppliedDeclaration) → AreAlike e f → outcome e ≡ outcome f
 outcome_alike e f same = ap₂ (λ (d : Decl) (s : Specificity). record { name = d.name; value = d.value; important = d.important; specificity = s }) same.0 same.1
 
 -- what applies in one sheet applies in the other, at some place
 counterpart : (source source' : List ℕ) (items items' : List Item) → Keeps source items source' items' →
-    (doc : Document) (target : Target) (meanings : List (List Declared)) (e : Entry) → Applies doc target meanings items e → (f : Entry) × Applies doc target meanings items' f × AreAlike f e
+    (doc : Document) (target : Target) (meanings : List (List Declared)) (e : AppliedDeclaration) → Applies doc target meanings items e → (f : AppliedDeclaration) × Applies doc target meanings items' f × AreAlike f e
 unfolding entry_at
 counterpart source source' items items' keeps doc target meanings e (inl a) =
     let b : ByPair doc target items e = by_pair doc target items e a in
@@ -154,20 +153,20 @@ counterpart source source' items items' keeps doc target meanings e (inl a) =
     (entry_at b.pair other.0, inl (applies_at doc target items' b.pair other.0 other.1 b.matching), (sym b.decl_is, sym b.specificity_is))
 counterpart source source' items items' keeps doc target meanings e (inr a) =
     let n : ℕ = kept_before e.place.item items in
-    let x : (x : Item) × (slice_get (kept_items items') n ≡ Some x) × (said source' x ≡ said source a.item) =
+    let x : (x : Item) × (slice_get (kept_items items') n ≡ Some x) × (content source' x ≡ content source a.item) =
     there source' source (kept_items items') (kept_items items) (sym keeps.kept) n a.item (kept_at items e.place.item a.item a.item_at a.kept) in
     let k : KeptPlace items' n x.0 = place_of_kept items' n x.0 x.1 in
-    let f : Entry = record { decl = e.decl; specificity = e.specificity; place = record { item = k.index; position = e.place.position } } in
+    let f : AppliedDeclaration = record { decl = e.decl; specificity = e.specificity; place = record { item = k.index; position = e.place.position } } in
     (f, inr (kept_applies meanings items' f n x.0 a.meaning a.declared e.place.position k a.meaning_at a.declared_at a.decl_is a.specificity_is refl), (refl, refl))
 
 -- ---- The best of what applies
 
-record IsBest (doc : Document) (target : Target) (meanings : List (List Declared)) (items : List Item) (us : List Understood) (e : Entry) : Type 0 where
+record IsBest (doc : Document) (target : Target) (meanings : List (List Declared)) (items : List Item) (us : List Understood) (e : AppliedDeclaration) : Type 0 where
   applies : Applies doc target meanings items e
   understood : is_understood us e ≡ true
-  best : (f : Entry) → Applies doc target meanings items f → is_understood us f ≡ true → Outranks f e → ⊥
+  best : (f : AppliedDeclaration) → Applies doc target meanings items f → is_understood us f ≡ true → Outranks f e → ⊥
 
-is_best : (doc : Document) (target : Target) (meanings : List (List Declared)) (items : List Item) (us : List Understood) (e : Entry) → IsGreatest us (applied doc target meanings items) e → IsBest doc target meanings items us e
+is_best : (doc : Document) (target : Target) (meanings : List (List Declared)) (items : List Item) (us : List Understood) (e : AppliedDeclaration) → IsGreatest us (applied doc target meanings items) e → IsBest doc target meanings items us e
 is_best doc target meanings items us e g = record {
   applies = applied-words doc target meanings items e g.applied;
   understood = g.understood;
@@ -175,14 +174,14 @@ is_best doc target meanings items us e g = record {
 }
 
 -- of two entries, of which neither outranks the other's like, all but the places are equal
-record Level (e f e' f' : Entry) : Type 0 where
+record Level (e f e' f' : AppliedDeclaration) : Type 0 where
   importance : e.decl.important ≡ f.decl.important
   specificity : e.specificity ≡ f.specificity
   first : IsLater e'.place f.place → ⊥
   second : IsLater f'.place e.place → ⊥
 
 -- e' is like e and does not outrank f, and f' is like f and does not outrank e
-level : (e f e' f' : Entry) → AreAlike e' e → AreAlike f' f → (Outranks e' f → ⊥) → (Outranks f' e → ⊥) → Level e f e' f'
+level : (e f e' f' : AppliedDeclaration) → AreAlike e' e → AreAlike f' f → (Outranks e' f → ⊥) → (Outranks f' e → ⊥) → Level e f e' f'
 level e f e' f' (ed, es) (fd, fs) no_first no_second = record {
   importance = important;
   specificity = specific;
@@ -229,7 +228,7 @@ level e f e' f' (ed, es) (fd, fs) no_first no_second = record {
 -- ---- The best of both sheets
 
 -- names of understood entries are related
-names_related : (us : List Understood) (e f : Entry) → AreRelated us → is_understood us e ≡ true → is_understood us f ≡ true → Related e.decl.name f.decl.name
+names_related : (us : List Understood) (e f : AppliedDeclaration) → AreRelated us → is_understood us e ≡ true → is_understood us f ≡ true → Related e.decl.name f.decl.name
 names_related us e f related u v =
     related (record { name = e.decl.name; value = e.decl.value }) (record { name = f.decl.name; value = f.decl.value }) (understood-listed us e u) (understood-listed us f v)
 
@@ -246,7 +245,7 @@ other_places items p q at at' same h g = which (subst (λ (x : Place). IsPairAt 
 -- both are of rules
 both_rules : (source source' : List ℕ) (items items' : List Item) → Keeps source items source' items' →
     (doc : Document) (target : Target) (meanings : List (List Declared)) (us : List Understood) → IsLegal doc → AreRelated us →
-    (e f : Entry) → IsBest doc target meanings items us e → IsBest doc target meanings items' us f → ByPair doc target items e → ByPair doc target items' f → outcome e ≡ outcome f
+    (e f : AppliedDeclaration) → IsBest doc target meanings items us e → IsBest doc target meanings items' us f → ByPair doc target items e → ByPair doc target items' f → outcome e ≡ outcome f
 unfolding entry_at
 both_rules source source' items items' keeps doc target meanings us legal related e f best best' b c =
     which (same_decl_or_not b.pair.decl c.pair.decl)
@@ -327,16 +326,16 @@ not_later_item p q h = which (which_less p.item q.item)
 -- the best of one is of a rule, that of the other of a kept item: this cannot be
 rule_and_kept : (source source' : List ℕ) (items items' : List Item) → Keeps source items source' items' →
     (doc : Document) (target : Target) (meanings : List (List Declared)) (us : List Understood) → MeaningsFit items meanings → AreRelated us →
-    (e f : Entry) → IsBest doc target meanings items us e → IsBest doc target meanings items' us f → ByPair doc target items e → AppliesByKept meanings items' f → ⊥
+    (e f : AppliedDeclaration) → IsBest doc target meanings items us e → IsBest doc target meanings items' us f → ByPair doc target items e → AppliesByKept meanings items' f → ⊥
 unfolding entry_at
 rule_and_kept source source' items items' keeps doc target meanings us fit related e f best best' b a =
-    let x : (x : Item) × (slice_get (kept_items items) (kept_before f.place.item items') ≡ Some x) × (said source x ≡ said source' a.item) =
+    let x : (x : Item) × (slice_get (kept_items items) (kept_before f.place.item items') ≡ Some x) × (content source x ≡ content source' a.item) =
     there source source' (kept_items items) (kept_items items') keeps.kept (kept_before f.place.item items') a.item (kept_at items' f.place.item a.item a.item_at a.kept) in
     let k : KeptPlace items (kept_before f.place.item items') x.0 = place_of_kept items (kept_before f.place.item items') x.0 x.1 in
-    let f' : Entry = record { decl = f.decl; specificity = f.specificity; place = record { item = k.index; position = f.place.position } } in
+    let f' : AppliedDeclaration = record { decl = f.decl; specificity = f.specificity; place = record { item = k.index; position = f.place.position } } in
     let by_kept : AppliesByKept meanings items f' = kept_applies meanings items f' (kept_before f.place.item items') x.0 a.meaning a.declared f.place.position k a.meaning_at a.declared_at a.decl_is a.specificity_is refl in
     let p' : (p : Place) × IsLast items' b.pair p = last_of items' b.pair ((keeps.pairs b.pair).0 (e.place, b.stands)) in
-    let e' : Entry = entry_at b.pair p'.0 in
+    let e' : AppliedDeclaration = entry_at b.pair p'.0 in
     let lev : Level e f e' f' = level e f e' f' (sym b.decl_is, sym b.specificity_is) (refl, refl)
     (best'.best e' (inl (applies_at doc target items' b.pair p'.0 p'.1.stands b.matching)) (understood_alike us e' e (sym b.decl_is, sym b.specificity_is) ∙ best.understood))
     (best.best f' (inr by_kept) best'.understood) in
@@ -384,16 +383,16 @@ one_place items i j x y at kept at' kept' same = which (which_less i j)
 
 both_kept : (source source' : List ℕ) (items items' : List Item) → Keeps source items source' items' →
     (doc : Document) (target : Target) (meanings : List (List Declared)) (us : List Understood) →
-    (e f : Entry) → IsBest doc target meanings items us e → IsBest doc target meanings items' us f → AppliesByKept meanings items e → AppliesByKept meanings items' f → outcome e ≡ outcome f
+    (e f : AppliedDeclaration) → IsBest doc target meanings items us e → IsBest doc target meanings items' us f → AppliesByKept meanings items e → AppliesByKept meanings items' f → outcome e ≡ outcome f
 both_kept source source' items items' keeps doc target meanings us e f best best' a b =
-    let x : (x : Item) × (slice_get (kept_items items') (kept_before e.place.item items) ≡ Some x) × (said source' x ≡ said source a.item) =
+    let x : (x : Item) × (slice_get (kept_items items') (kept_before e.place.item items) ≡ Some x) × (content source' x ≡ content source a.item) =
     there source' source (kept_items items') (kept_items items) (sym keeps.kept) (kept_before e.place.item items) a.item (kept_at items e.place.item a.item a.item_at a.kept) in
     let k : KeptPlace items' (kept_before e.place.item items) x.0 = place_of_kept items' (kept_before e.place.item items) x.0 x.1 in
-    let e' : Entry = record { decl = e.decl; specificity = e.specificity; place = record { item = k.index; position = e.place.position } } in
-    let y : (y : Item) × (slice_get (kept_items items) (kept_before f.place.item items') ≡ Some y) × (said source y ≡ said source' b.item) =
+    let e' : AppliedDeclaration = record { decl = e.decl; specificity = e.specificity; place = record { item = k.index; position = e.place.position } } in
+    let y : (y : Item) × (slice_get (kept_items items) (kept_before f.place.item items') ≡ Some y) × (content source y ≡ content source' b.item) =
     there source source' (kept_items items) (kept_items items') keeps.kept (kept_before f.place.item items') b.item (kept_at items' f.place.item b.item b.item_at b.kept) in
     let j : KeptPlace items (kept_before f.place.item items') y.0 = place_of_kept items (kept_before f.place.item items') y.0 y.1 in
-    let f' : Entry = record { decl = f.decl; specificity = f.specificity; place = record { item = j.index; position = f.place.position } } in
+    let f' : AppliedDeclaration = record { decl = f.decl; specificity = f.specificity; place = record { item = j.index; position = f.place.position } } in
     let lev : Level e f e' f' = level e f e' f' (refl, refl) (refl, refl)
     (best'.best e' (inr (kept_applies meanings items' e' (kept_before e.place.item items) x.0 a.meaning a.declared e.place.position k a.meaning_at a.declared_at a.decl_is a.specificity_is refl)) best.understood)
     (best.best f' (inr (kept_applies meanings items f' (kept_before f.place.item items') y.0 b.meaning b.declared f.place.position j b.meaning_at b.declared_at b.decl_is b.specificity_is refl)) best'.understood) in
@@ -416,7 +415,7 @@ both_kept source source' items items' keeps doc target meanings us e f best best
 -- whatever they are of
 bests_are_one : (source source' : List ℕ) (items items' : List Item) → Keeps source items source' items' →
     (doc : Document) (target : Target) (meanings : List (List Declared)) (us : List Understood) → IsLegal doc → MeaningsFit items meanings → AreRelated us →
-    (e f : Entry) → IsBest doc target meanings items us e → IsBest doc target meanings items' us f → outcome e ≡ outcome f
+    (e f : AppliedDeclaration) → IsBest doc target meanings items us e → IsBest doc target meanings items' us f → outcome e ≡ outcome f
 bests_are_one source source' items items' keeps doc target meanings us legal fit related e f best best' = which best.applies best'.applies
   where
     which : Applies doc target meanings items e → Applies doc target meanings items' f → outcome e ≡ outcome f
@@ -428,7 +427,7 @@ bests_are_one source source' items items' keeps doc target meanings us legal fit
 
 -- ---- The law
 
-All-of_members : (P : Entry → Type 0) (es : List Entry) → ((e : Entry) → Contains es e → P e) → All P es
+All-of_members : (P : AppliedDeclaration → Type 0) (es : List AppliedDeclaration) → ((e : AppliedDeclaration) → Contains es e → P e) → All P es
 All-of_members P es f = All-weaker (Contains es) P f es (All-contains_itself es)
 
 -- where nothing understood applies in one sheet, nothing does in the other
@@ -437,7 +436,7 @@ none_there : (source source' : List ℕ) (items items' : List Item) → Keeps so
     All (λ e. is_understood us e ≡ false) (applied doc target meanings items') → All (λ e. is_understood us e ≡ false) (applied doc target meanings items)
 none_there source source' items items' keeps doc target meanings us none =
     All-of_members (λ e. is_understood us e ≡ false) (applied doc target meanings items)
-    (λ e inside. let f : (f : Entry) × Applies doc target meanings items' f × AreAlike f e = counterpart source source' items items' keeps doc target meanings e (applied-words doc target meanings items e inside) in
+    (λ e inside. let f : (f : AppliedDeclaration) × Applies doc target meanings items' f × AreAlike f e = counterpart source source' items items' keeps doc target meanings e (applied-words doc target meanings items e inside) in
     sym (understood_alike us f.0 e f.2) ∙ All-contains (λ e. is_understood us e ≡ false) (applied doc target meanings items') f.0 none (words-applied doc target meanings items' f.0 f.1))
 
 pub keeping_keeps : (source source' : List ℕ) (items items' : List Item) → Keeps source items source' items' →
@@ -449,8 +448,8 @@ keeping_keeps source source' items items' keeps doc target meanings us legal are
     (winner-greatest us (applied doc target meanings items)) (winner-greatest us (applied doc target meanings items'))
   where
     which : (o : Option Winner) → winner doc target meanings items us ≡ o → (o' : Option Winner) → winner doc target meanings items' us ≡ o' →
-        IfSome (winner doc target meanings items us) (λ w. (e : Entry) × IsGreatest us (applied doc target meanings items) e × (w ≡ outcome e)) →
-        IfSome (winner doc target meanings items' us) (λ w. (e : Entry) × IsGreatest us (applied doc target meanings items') e × (w ≡ outcome e)) →
+        IfSome (winner doc target meanings items us) (λ w. (e : AppliedDeclaration) × IsGreatest us (applied doc target meanings items) e × (w ≡ outcome e)) →
+        IfSome (winner doc target meanings items' us) (λ w. (e : AppliedDeclaration) × IsGreatest us (applied doc target meanings items') e × (w ≡ outcome e)) →
         winner doc target meanings items us ≡ winner doc target meanings items' us
     which None none o' other h g =
         none ∙ sym (none-winner us (applied doc target meanings items')
@@ -458,7 +457,7 @@ keeping_keeps source source' items items' keeps doc target meanings us legal are
     which (Some w) some None none h g =
         none-winner us (applied doc target meanings items) (none_there source source' items items' keeps doc target meanings us (winner-none us (applied doc target meanings items') none)) ∙ sym none
     which (Some w) some (Some w') some' h g =
-        let e : (e : Entry) × IsGreatest us (applied doc target meanings items) e × (w ≡ outcome e) = subst (λ (o : Option Winner). IfSome o (λ w. (e : Entry) × IsGreatest us (applied doc target meanings items) e × (w ≡ outcome e))) some h in
-        let f : (e : Entry) × IsGreatest us (applied doc target meanings items') e × (w' ≡ outcome e) = subst (λ (o : Option Winner). IfSome o (λ w. (e : Entry) × IsGreatest us (applied doc target meanings items') e × (w ≡ outcome e))) some' g in
+        let e : (e : AppliedDeclaration) × IsGreatest us (applied doc target meanings items) e × (w ≡ outcome e) = subst (λ (o : Option Winner). IfSome o (λ w. (e : AppliedDeclaration) × IsGreatest us (applied doc target meanings items) e × (w ≡ outcome e))) some h in
+        let f : (e : AppliedDeclaration) × IsGreatest us (applied doc target meanings items') e × (w' ≡ outcome e) = subst (λ (o : Option Winner). IfSome o (λ w. (e : AppliedDeclaration) × IsGreatest us (applied doc target meanings items') e × (w ≡ outcome e))) some' g in
         some ∙ ap Some (e.2 ∙ bests_are_one source source' items items' keeps doc target meanings us legal (meanings_fit items meanings are) related e.0 f.0
         (is_best doc target meanings items us e.0 e.1) (is_best doc target meanings items' us f.0 f.1) ∙ sym f.2) ∙ sym some'

@@ -7,10 +7,10 @@ use Rattle.css_model.specs.declared.sheet.Decl.{Decl}
 use Rattle.css_model.specs.declared.sheet.DeclItem.{DeclItem}
 use Rattle.css_model.specs.declared.sheet.Item.{Item}
 use Rattle.css_model.specs.declared.sheet.SelItem.{SelItem}
-use Rattle.css_model.specs.Cascade.{Place}
-use Rattle.css_model.specs.Order.{Pair, IsPairAt, HasPair}
-use Rattle.css_model.specs.RuleParts.{RuleParts}
-use Rattle.css_model.specs.SelectorParts.{SelectorParts}
+use Rattle.css_model.specs.Cascade.Winner.{Place}
+use Rattle.css_model.specs.Cascade.Order.{Pair, IsPairAt, HasPair}
+use Rattle.css_model.specs.Sheets.RuleParts.{RuleParts}
+use Rattle.css_model.specs.Documents.SelectorParts.{SelectorParts}
 use Rattle.order_laws.specs.Slots.{Slot, new_items, IsFair}
 
 -- whether a selector is among these

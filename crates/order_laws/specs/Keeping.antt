@@ -2,10 +2,10 @@
 use Rattle.std.specs.Prelude.{◌≡◌, ℕ, List}
 use Rattle.std.specs.List.{Contains}
 use Rattle.css_model.specs.declared.sheet.Item.{Item}
-use Rattle.css_model.specs.Cascade.{Declared, AreMeanings, Understood, winner}
-use Rattle.css_model.specs.Document.{Document, Target, IsLegal}
-use Rattle.css_model.specs.Family.{Related}
-use Rattle.css_model.specs.Order.{Keeps}
+use Rattle.css_model.specs.Cascade.Winner.{Declared, AreMeanings, Understood, winner}
+use Rattle.css_model.specs.Documents.Document.{Document, Target, IsLegal}
+use Rattle.css_model.specs.Cascade.Family.{Related}
+use Rattle.css_model.specs.Cascade.Order.{Keeps}
 
 -- Each two names of the understood declarations are related: they may compete for one longhand
 -- (CSS Cascading 3, section 3; which names are related is own).

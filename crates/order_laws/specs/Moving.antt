@@ -3,8 +3,8 @@ use Rattle.std.specs.Prelude.{◌≡◌, ◌≢◌, ℕ, nat_lt, if◌then◌els
 use Rattle.std.specs.List.{All, insert, remove}
 use Rattle.css_model.specs.declared.sheet.Item.{Item}
 use Rattle.css_model.specs.declared.sheet.Item.TheVariants.{Rule}
-use Rattle.css_model.specs.Order.{Keeps}
-use Rattle.css_model.specs.RuleParts.{RuleParts}
+use Rattle.css_model.specs.Cascade.Order.{Keeps}
+use Rattle.css_model.specs.Sheets.RuleParts.{RuleParts}
 use Rattle.order_laws.specs.Edits.{whole_rule, Edit, edited, IsRearrangement}
 use Rattle.order_laws.specs.Reversed.{IsApart, reversed}
 

@@ -8,12 +8,11 @@ use Rattle.css_model.specs.declared.sheet.DeclItem.{DeclItem}
 use Rattle.css_model.specs.declared.sheet.Item.{Item}
 use Rattle.css_model.specs.declared.sheet.Item.TheVariants.{Rule, KeptRule, KeptBlock}
 use Rattle.css_model.specs.declared.sheet.SelItem.{SelItem}
-use Rattle.css_model.specs.Cascade.{Place}
-use Rattle.css_model.specs.Laws.{IsLater}
-use Rattle.css_model.specs.Order.{Pair, IsPairAt}
-use Rattle.css_model.specs.RuleParts.{RuleParts}
-use Rattle.css_model.specs.SelectorParts.{SelectorParts}
-use Rattle.css_model.specs.StyleRule.{selectors_of}
+use Rattle.css_model.specs.Cascade.Winner.{Place, IsLater}
+use Rattle.css_model.specs.Cascade.Order.{Pair, IsPairAt}
+use Rattle.css_model.specs.Sheets.RuleParts.{RuleParts}
+use Rattle.css_model.specs.Documents.SelectorParts.{SelectorParts}
+use Rattle.css_model.specs.Sheets.StyleRule.{selectors_of}
 use Rattle.order_laws.specs.Edits.{has_decl}
 
 -- The place of a pair: its item, and in the item its selector and its declaration, each counted from 0.

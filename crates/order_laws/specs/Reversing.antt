@@ -1,7 +1,8 @@
 -- Which pairs and kept items change their order with what an edit moves.
 use Rattle.std.specs.Prelude.{◌≡◌, ◌⊎◌, ◌↔◌, ℕ, true, false, List, Some, slice_get}
 use Rattle.css_model.specs.declared.sheet.Item.{Item}
-use Rattle.css_model.specs.Order.{Meet, Pair, HasPair, Weigh, WeighsKept, IsBefore, IsBeforeKept, kept_items, Keeps}
+use Rattle.css_model.specs.Cascade.Order.{Meet, Pair, HasPair, Weigh, WeighsKept, IsBefore, IsBeforeKept, Keeps}
+use Rattle.css_model.specs.Sheets.KeptItems.{kept_items}
 use Rattle.order_laws.specs.Edits.{Moved, is_moved, Edit, edited, IsRearrangement}
 
 -- one of two facts holds and the other does not

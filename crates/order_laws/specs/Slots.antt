@@ -1,7 +1,8 @@
 -- How one sheet becomes another: what stands in the place of each item.
 use Rattle.std.specs.Prelude.{◌≡◌, ◌↔◌, Bool, false, List, [], ◌∷◌, ◌++◌}
 use Rattle.css_model.specs.declared.sheet.Item.{Item}
-use Rattle.css_model.specs.Order.{Pair, HasPair, IsBefore, kept_items}
+use Rattle.css_model.specs.Cascade.Order.{Pair, HasPair, IsBefore}
+use Rattle.css_model.specs.Sheets.KeptItems.{kept_items}
 
 -- an item of the old sheet, and what stands in its place in the new one
 pub record Slot : Type 0 where

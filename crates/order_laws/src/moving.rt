@@ -2,7 +2,7 @@
 
 ghost use Rattle.order_laws.specs.Moving.{MovingApartKeeps, MovingRearranges};
 
-use css_model::relating_is_decided;
+use cascade_laws::relating_is_decided;
 
 /// To move a rule to another place is a rearrangement, and its items are those with the rule moved.
 pub fn moving_rearranges()

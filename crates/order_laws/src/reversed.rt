@@ -6,7 +6,7 @@ ghost use Rattle.order_laws.specs.Reversed.{
   ReversingApartKeeps,
 };
 
-use css_model::relating_is_decided;
+use cascade_laws::relating_is_decided;
 
 /// The list of what is reversed has exactly that: each moved pair with each other pair and each kept
 /// item that weighs with it and has another order with it afterwards, at their last places.
