@@ -2,7 +2,7 @@
 use lib.Utf8.{scalar}
 use Rattle.std.proofs.Common.{◌≡◌, ◌≢◌, ℕ, Bool, true, false, List, [], ◌∷◌, map, None, refl, arith}
 use Rattle.std.specs.Char.{IsScalar}
-use Rattle.std.specs.List.{All, AllPairs, list_all}
+use Rattle.std.specs.List.{AllPairs, list_all}
 use Rattle.std.specs.Prelude.{codes}
 use Rattle.std.proofs.lemmas.Bool.{false≢true}
 use Rattle.std.proofs.lemmas.Bool.Decides.{Decides-by_and}
@@ -15,7 +15,7 @@ use Rattle.css_model.specs.declared.sheet.Decl.{Decl}
 use Rattle.css_model.specs.declared.sheet.Item.{Item}
 use Rattle.css_model.specs.declared.sheet.Item.TheVariants.{Rule, KeptRule, KeptBlock}
 use Rattle.css_model.specs.declared.sheet.Piece.{Piece}
-use Rattle.css_model.specs.Documents.Document.{Attribute, Element, none, Document, Target, IsText, IsLegalElement, IsLegal}
+use Rattle.css_model.specs.Documents.Document.{Attribute, none, Document, Target, IsText, IsLegalElement, IsLegal}
 use Rattle.css_model.specs.Sheets.RuleParts.{RuleParts}
 use Rattle.css_model.specs.Documents.SelectorParts.{SelectorParts}
 

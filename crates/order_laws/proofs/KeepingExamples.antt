@@ -1,5 +1,5 @@
 -- Sheets that do not keep each other, since something wins in one of them alone; and some that do.
-use Rattle.std.proofs.Common.{◌≡◌, ◌≢◌, ◌⊎◌, ℕ, true, false, List, [], ◌∷◌, length, Option, Some, None, refl, sym, ap, ◌∙◌, subst, inl, inr, arith}
+use Rattle.std.proofs.Common.{◌≡◌, ◌⊎◌, ℕ, false, List, [], ◌∷◌, length, Option, Some, None, refl, sym, ap, ◌∙◌, subst, inl, inr, arith}
 use Rattle.std.specs.Prelude.{codes}
 use Rattle.std.specs.Cmp.Lexicographic.{bytes_decides}
 use Rattle.std.specs.List.{All, Contains}
@@ -16,10 +16,8 @@ use Rattle.css_model.specs.Cascade.Family.{Related}
 use Rattle.cascade_laws.specs.Families.{RelatingIsDecided}
 use Rattle.css_model.specs.Cascade.Order.{Keeps}
 use Rattle.css_model.specs.Sheets.RuleParts.{RuleParts}
-use Rattle.order_laws.specs.Edits.{whole_rule}
 use Rattle.order_laws.specs.Keeping.{AreRelated}
-use Rattle.order_laws.specs.Moving.{item_moved}
-use Rattle.order_laws.specs.Reversed.{IsApart, Reversal, reversed}
+use Rattle.order_laws.specs.Reversed.{IsApart, Reversal}
 use Rattle.order_laws.proofs.ExampleSheets.{a, b, decl, important, red, blue, top, rule_of, rule, kept_rule, kept_block, page, root, page_is_legal}
 use Rattle.order_laws.proofs.MovingRules.{moving_apart_keeps}
 use Rattle.order_laws.proofs.Winners.{keeping_keeps}

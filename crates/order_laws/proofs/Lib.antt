@@ -1,3 +1,5 @@
+pub mod AppliedPairs
+pub mod BestApplied
 pub mod Appended
 pub mod LastPlaces
 pub mod Lists

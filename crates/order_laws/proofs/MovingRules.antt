@@ -1,7 +1,7 @@
 -- A rule that is moved: the edit's items are the items with the rule moved, and it is a rearrangement.
 use Rattle.std.proofs.Common.{◌≡◌, ◌≢◌, ◌⊎◌, ℕ, zero, suc, ◌+◌, ◌<◌, ◌≤◌, ◌==◌, Bool, true, false, if◌then◌else◌, List, [], ◌∷◌, ◌++◌, Some, None, refl, sym, ap, ap₂, ◌∙◌, subst, inl, inr, arith}
-use Rattle.std.specs.Prelude.{slice_get, nat_lt, take, drop}
-use Rattle.std.specs.List.{All, Contains, insert, remove}
+use Rattle.std.specs.Prelude.{slice_get, nat_lt}
+use Rattle.std.specs.List.{All, insert, remove}
 use Rattle.std.proofs.lemmas.Bool.{cond-true, cond-false, false≢true, both_ways, cond_both, false_from_ne_true, or_left}
 use Rattle.std.proofs.lemmas.Bool.Decides.{Decides-eqb, Decides-ltb}
 use Rattle.cascade_laws.proofs.ForCallers.{some-same}
@@ -10,9 +10,9 @@ use Rattle.css_model.specs.declared.sheet.Item.{Item}
 use Rattle.css_model.specs.declared.sheet.Item.TheVariants.{Rule}
 use Rattle.css_model.specs.Cascade.Winner.{Place}
 use Rattle.cascade_laws.specs.Families.{RelatingIsDecided}
-use Rattle.css_model.specs.Cascade.Order.{Pair, IsPairAt, HasPair, Keeps}
+use Rattle.css_model.specs.Cascade.Order.{Pair, HasPair, Keeps}
 use Rattle.css_model.specs.Sheets.RuleParts.{RuleParts}
-use Rattle.order_laws.specs.Edits.{Change, instead, slots_from, slots_of, Edit, edited, whole_rule, is_moved, has_number, StandsIn, IsRearrangement}
+use Rattle.order_laws.specs.Edits.{Change, instead, slots_from, edited, whole_rule, is_moved, StandsIn, IsRearrangement}
 use Rattle.order_laws.specs.Moving.{item_moved, moving}
 use Rattle.order_laws.specs.Reversed.{IsApart, reversed}
 use Rattle.order_laws.specs.Slots.{new_items, IsFair}
@@ -184,11 +184,14 @@ has_placed from to r other p h =
 
 pub moving_rearranges : (items : List Item) (from to : ℕ) (r : RuleParts) (other : Item) → slice_get items from ≡ Some (Rule r) → slice_get items to ≡ Some other → from ≢ to →
     IsRearrangement items (moving from to r other) × (edited (moving from to r other) items ≡ item_moved items from to (Rule r))
-moving_rearranges items from to r other at at' apart = (record {
-  fair = all_fair (is_moved (whole_rule from r)) (changes_of from to r other) 0 items (each_fair items from to r other at at' apart);
-  from = λ p moved. stands_from items from r p at moved;
-  to = λ p moved. has_new (changes_of from to r other) 0 items to other p at' (there p ((moved_is (whole_rule from r) p).0 moved));
-}, moves items from to r other at at' apart)
+moving_rearranges items from to r other at at' apart = (
+  record {
+    fair = all_fair (is_moved (whole_rule from r)) (changes_of from to r other) 0 items (each_fair items from to r other at at' apart);
+    from = λ p moved. stands_from items from r p at moved;
+    to = λ p moved. has_new (changes_of from to r other) 0 items to other p at' (there p ((moved_is (whole_rule from r) p).0 moved));
+  },
+  moves items from to r other at at' apart,
+)
   where
     there : (p : Pair) → InRule r p → HasPair (instead (changes_of from to r other) (0 + to) other) p
     there p h =

@@ -1,12 +1,12 @@
 -- A rearrangement that reverses nothing that counts keeps the sheet.
-use Rattle.std.proofs.Common.{◌≡◌, ◌≢◌, ◌↔◌, ◌⊎◌, ℕ, zero, suc, ◌+◌, ◌<◌, ◌≤◌, Bool, true, false, List, [], ◌∷◌, Some, None, refl, sym, ap, subst, inl, inr, arith}
+use Rattle.std.proofs.Common.{◌≡◌, ◌≢◌, ◌↔◌, ◌⊎◌, ℕ, ◌<◌, ◌≤◌, Bool, true, false, List, Some, refl, sym, ap, subst, inl, inr, arith}
 use Rattle.std.specs.Prelude.{slice_get}
 use Rattle.css_model.specs.declared.sheet.Item.{Item}
 use Rattle.css_model.specs.Cascade.Winner.{Place, IsLater}
 use Rattle.css_model.specs.Sheets.KeptItems.{kept_before, kept_items}
 use Rattle.css_model.specs.Cascade.Order.{Meet, Pair, IsPairAt, HasPair, IsLast, Weigh, WeighsKept, IsBefore, IsBeforeKept, Keeps}
-use Rattle.order_laws.specs.Slots.{old_items, new_items, IsFair}
-use Rattle.order_laws.specs.Edits.{Edit, Change, is_moved, slots_from, slots_of, edited, StandsIn, IsRearrangement}
+use Rattle.order_laws.specs.Slots.{old_items}
+use Rattle.order_laws.specs.Edits.{Edit, is_moved, slots_of, edited, StandsIn, IsRearrangement}
 use Rattle.order_laws.specs.Reversing.{ReversesPair, ReversesKept}
 use Rattle.order_laws.proofs.Appended.{last_same}
 use Rattle.order_laws.proofs.EditedItems.{old_same}

@@ -1,19 +1,19 @@
 -- The list of what is reversed has exactly that, and where all of it is apart the sheet is kept.
-use Rattle.std.proofs.Common.{◌≡◌, ◌↔◌, ◌⊎◌, ℕ, suc, zero, ◌+◌, Bool, true, false, not, List, [], ◌∷◌, ◌++◌, map, Some, None, refl, sym, ap, ◌∙◌, subst, inl, inr, arith}
+use Rattle.std.proofs.Common.{◌≡◌, ◌↔◌, ◌⊎◌, ℕ, suc, zero, ◌+◌, Bool, true, not, List, [], ◌∷◌, map, Some, None, refl, sym, ap, ◌∙◌, subst, inl, inr, arith}
 use Rattle.std.specs.Bool.{beq}
 use Rattle.std.specs.Prelude.{slice_get}
 use Rattle.std.specs.List.{All, Contains, filter, flat_map}
-use Rattle.std.proofs.lemmas.Bool.{false≢true, cond_both, and_parts, and_from, cond-true}
+use Rattle.std.proofs.lemmas.Bool.{cond_both, and_parts, and_from, cond-true}
 use Rattle.std.proofs.lemmas.List.Elements.{All-contains, Contains-append_left, Contains-append_right, Contains-append_cases}
 use Rattle.cascade_laws.proofs.ForCallers.{some-same}
 use Rattle.list_facts.proofs.Members.{Contains-here, Contains-there, Contains-nil, Contains-cons_cases, Contains-filter, Contains-filtered}
 use Rattle.css_model.specs.declared.sheet.Item.{Item}
 use Rattle.cascade_laws.specs.Families.{RelatingIsDecided}
-use Rattle.css_model.specs.Sheets.KeptItems.{is_kept, kept_before, kept_items}
-use Rattle.css_model.specs.Cascade.Order.{Meet, Pair, HasPair, Weigh, WeighsKept, IsBefore, IsBeforeKept, Keeps}
+use Rattle.css_model.specs.Sheets.KeptItems.{is_kept, kept_before}
+use Rattle.css_model.specs.Cascade.Order.{Meet, Pair, WeighsKept, IsBefore, IsBeforeKept, Keeps}
 use Rattle.order_laws.specs.Edits.{Moved, is_moved, has_number, Edit, edited, StandsIn, IsRearrangement}
 use Rattle.order_laws.specs.Places.{PlacedPair, place_of, last_pairs, last_pairs_from, StandsLast}
-use Rattle.order_laws.specs.Reversed.{weigh, weighs_kept, comes_before, comes_before_kept, Other, AnotherPair, KeptAt, Reversal, kept_from, is_reversed, is_reversed_kept, with_pair, with_kept, reversed_with, moved_pairs, ascending, reversed, IsReversedWith, IsApart}
+use Rattle.order_laws.specs.Reversed.{weigh, weighs_kept, comes_before, comes_before_kept, Other, AnotherPair, KeptAt, Reversal, kept_from, is_reversed, is_reversed_kept, with_pair, with_kept, reversed_with, moved_pairs, reversed, IsReversedWith, IsApart}
 use Rattle.order_laws.specs.Reversing.{Differ, ReversesPair, ReversesKept}
 use Rattle.order_laws.proofs.Lists.{map_has, map_from, flat_map_has, flat_map_from}
 use Rattle.order_laws.proofs.KeptNumbers.{kept_at, KeptPlace, place_of_kept}
@@ -76,13 +76,15 @@ pair_from relating items items' m p q moved h =
     let w : Contains (last_pairs items) q × (is_reversed items items' p.pair q.pair ≡ true) = Contains-filter (by_pair items items' p.pair) (last_pairs items) q h in
     let stands : StandsLast (λ n. true) items q = (listed_stands_last (λ n. true) items q).0 w.0 in
     let b : (weigh p.pair q.pair ≡ true) × (not (beq (comes_before items p.pair q.pair) (comes_before items' p.pair q.pair)) ≡ true) =
-    and_parts (weigh p.pair q.pair) (not (beq (comes_before items p.pair q.pair) (comes_before items' p.pair q.pair))) w.1 in
-    (stands, record {
-      moved = moved;
-      there = (place_of q.place, last_stands (λ n. true) items q stands);
-      weigh = (weigh_is relating p.pair q.pair).0 b.0;
-      order = (pairs_differ items items' p.pair q.pair).0 b.1;
-    })
+    and_parts (weigh p.pair q.pair) (not (beq (comes_before items p.pair q.pair) (comes_before items' p.pair q.pair))) w.1 in (
+      stands,
+      record {
+        moved = moved;
+        there = (place_of q.place, last_stands (λ n. true) items q stands);
+        weigh = (weigh_is relating p.pair q.pair).0 b.0;
+        order = (pairs_differ items items' p.pair q.pair).0 b.1;
+      },
+    )
 
 pair_has : RelatingIsDecided → (items items' : List Item) (m : Moved) (p q : PlacedPair) → IsReversedWith items items' m p.pair (AnotherPair q) → Contains (filter (by_pair items items' p.pair) (last_pairs items)) q
 pair_has relating items items' m p q (stands, is) =
@@ -98,14 +100,18 @@ kept_sound relating items items' m p k moved h =
     let at : slice_get items k.0 ≡ Some k.1 = ap (slice_get items) (sym e) ∙ l.2 in
     let number : ℕ = kept_before k.0 items in
     let b : (weighs_kept p.pair k.1 ≡ true) × (not (beq (comes_before_kept items p.pair number) (comes_before_kept items' p.pair number)) ≡ true) =
-    and_parts (weighs_kept p.pair k.1) (not (beq (comes_before_kept items p.pair number) (comes_before_kept items' p.pair number))) w.1 in
-    (k.1, at, l.3, record {
-      item = k.1;
-      moved = moved;
-      item_at = kept_at items k.0 k.1 at l.3;
-      weighs = (weighs_kept_is relating p.pair k.1).0 b.0;
-      order = (kepts_differ items items' p.pair number).0 b.1;
-    })
+    and_parts (weighs_kept p.pair k.1) (not (beq (comes_before_kept items p.pair number) (comes_before_kept items' p.pair number))) w.1 in (
+      k.1,
+      at,
+      l.3,
+      record {
+        item = k.1;
+        moved = moved;
+        item_at = kept_at items k.0 k.1 at l.3;
+        weighs = (weighs_kept_is relating p.pair k.1).0 b.0;
+        order = (kepts_differ items items' p.pair number).0 b.1;
+      },
+    )
 
 kept_has : RelatingIsDecided → (items items' : List Item) (m : Moved) (p : PlacedPair) (n : ℕ) → (is : IsReversedWith items items' m p.pair (KeptAt n)) → Contains (filter (is_reversed_kept items items' p.pair) (kept_from 0 items)) (numbered n is.0)
 kept_has relating items items' m p n (item, at, kept, is) =

@@ -1,14 +1,12 @@
 -- A list that is put in order has the same entries, and ascends.
-use Rattle.std.proofs.Common.{◌≡◌, ◌⊎◌, Bool, true, false, List, [], ◌∷◌, refl, sym, ◌∙◌, subst, inl, inr}
+use Rattle.std.proofs.Common.{◌≡◌, ◌⊎◌, true, false, List, [], ◌∷◌, refl, sym, ◌∙◌, subst, inl, inr}
 use Rattle.std.specs.List.{All, Contains}
 use Rattle.std.proofs.lemmas.Bool.{false≢true, cond_both, false_from_ne_true}
-use Rattle.std.proofs.lemmas.List.Elements.{All-cons, All-nil, All-contains, All-weaker, All-contains_itself}
+use Rattle.std.proofs.lemmas.List.Elements.{All-nil, All-contains, All-weaker, All-contains_itself}
 use Rattle.list_facts.proofs.Members.{Contains-here, Contains-there, Contains-nil, Contains-cons_cases}
 use Rattle.cascade_laws.proofs.ForCallers.{exceeds-irreflexive, exceeds-transitive, exceeds-not_transitive}
 use Rattle.css_model.specs.Cascade.Winner.{exceeds}
-use Rattle.css_model.specs.declared.sheet.Item.{Item}
-use Rattle.order_laws.specs.Edits.{Moved}
-use Rattle.order_laws.specs.Reversed.{Reversal, sort_key, put_in, ascending, reversed, reversed_with, moved_pairs, Ascends}
+use Rattle.order_laws.specs.Reversed.{Reversal, sort_key, put_in, ascending, Ascends}
 
 -- ---- The same entries
 

@@ -1,5 +1,5 @@
 -- The tests of order and of weight are what is said in words.
-use Rattle.std.proofs.Common.{◌≡◌, ◌≢◌, ◌↔◌, ◌⊎◌, ℕ, ◌<◌, ◌≤◌, ◌==◌, Bool, true, false, not, ◌&&◌, ◌||◌, List, Decides, refl, sym, ap, ◌∙◌, subst, inl, inr, rules, arith}
+use Rattle.std.proofs.Common.{◌≡◌, ◌↔◌, ◌⊎◌, ℕ, ◌≤◌, ◌==◌, Bool, true, false, not, ◌&&◌, List, Decides, refl, sym, ◌∙◌, subst, inl, inr, rules}
 use Rattle.std.specs.Bool.{beq}
 use Rattle.std.specs.Cmp.{booleans_Decides}
 use Rattle.std.specs.Prelude.{nat_le, nat_lt}
@@ -16,7 +16,7 @@ use Rattle.css_model.specs.Cascade.Winner.{Place, IsLater}
 use Rattle.css_model.specs.Cascade.Family.{related}
 use Rattle.cascade_laws.specs.Families.{RelatingIsDecided}
 use Rattle.css_model.specs.Sheets.KeptItems.{kept_before}
-use Rattle.css_model.specs.Cascade.Order.{Pair, IsPairAt, IsLast, Weigh, WeighsOne, WeighsKept, IsBefore, IsBeforeKept}
+use Rattle.css_model.specs.Cascade.Order.{Pair, IsLast, Weigh, WeighsKept, IsBefore, IsBeforeKept}
 use Rattle.css_model.specs.Documents.Specificity.{specificity_of}
 use Rattle.order_laws.specs.Places.{PairPlace, PlacedPair, place_of, StandsLast, same_decl, same_pair, last_pairs}
 use Rattle.order_laws.specs.Reversed.{same_rank, weigh, weighs_kept, is_later, comes_before, comes_before_kept}

@@ -1,27 +1,20 @@
 -- The lists of places: what stands in them, and that each pair does.
-use Rattle.std.proofs.Common.{◌≡◌, ◌≢◌, ◌↔◌, ◌⊎◌, ℕ, zero, suc, ◌+◌, ◌<◌, ◌≤◌, Bool, true, false, not, List, [], ◌∷◌, ◌++◌, map, Some, None, if◌then◌else◌, refl, sym, ap, ap₂, ◌∙◌, subst, inl, inr, arith}
+use Rattle.std.proofs.Common.{◌≡◌, ◌≢◌, ◌⊎◌, ℕ, zero, suc, ◌+◌, ◌≤◌, Bool, true, false, not, List, [], ◌∷◌, Some, refl, sym, ap, ap₂, ◌∙◌, subst, inl, inr, arith}
 use Rattle.std.specs.Prelude.{slice_get}
 use Rattle.std.specs.List.{Contains, filter}
-use Rattle.std.proofs.lemmas.Bool.{false≢true, cond_both, cond-true, cond-false, and_parts, and_from, not-true, not_from_false, false_from_ne_true}
-use Rattle.std.proofs.lemmas.List.Elements.{Contains-append_left, Contains-append_right, Contains-append_cases}
-use Rattle.cascade_laws.proofs.ForCallers.{some-same, rule-same}
+use Rattle.std.proofs.lemmas.Bool.{false≢true, cond_both, cond-false, and_parts, and_from, not-true, not_from_false}
+use Rattle.cascade_laws.proofs.ForCallers.{some-same}
 use Rattle.list_facts.proofs.Members.{Contains-here, Contains-there, Contains-nil, Contains-cons_cases, Contains-filter, Contains-filtered}
 use Rattle.css_model.proofs.ForCallers.{decl_decides, selector_decides}
 use Rattle.css_model.specs.declared.sheet.Decl.{Decl}
 use Rattle.css_model.specs.declared.sheet.DeclItem.{DeclItem}
-use Rattle.css_model.specs.declared.sheet.Item.{Item}
-use Rattle.css_model.specs.declared.sheet.Item.TheVariants.{Rule, KeptRule, KeptBlock}
 use Rattle.css_model.specs.declared.sheet.SelItem.{SelItem}
-use Rattle.css_model.specs.Cascade.Winner.{Place, IsLater}
-use Rattle.css_model.specs.Cascade.Order.{Pair, IsPairAt}
-use Rattle.css_model.specs.Sheets.RuleParts.{RuleParts}
+use Rattle.css_model.specs.Cascade.Order.{Pair}
 use Rattle.css_model.specs.Documents.SelectorParts.{SelectorParts}
-use Rattle.css_model.specs.Sheets.StyleRule.{selectors_of}
 use Rattle.order_laws.specs.Edits.{has_decl}
-use Rattle.order_laws.specs.Places.{PairPlace, PlacedPair, place_of, StandsLast, same_selector, same_decl, same_pair, first_selectors, last_decls, placed, pairs_of, has_pair, last_pairs_from}
-use Rattle.order_laws.proofs.LastPlaces.{LastIn, among, behind}
-use Rattle.order_laws.proofs.Lists.{any_from, any_of, map_has, map_from, flat_map_has, flat_map_from}
-use Rattle.order_laws.proofs.RulePairs.{decls, sels, decl_in, in_decl, behind_last, has_decl_is}
+use Rattle.order_laws.specs.Places.{same_selector, same_decl, same_pair, first_selectors, last_decls}
+use Rattle.order_laws.proofs.LastPlaces.{LastIn}
+use Rattle.order_laws.proofs.RulePairs.{decls, sels, decl_in, behind_last, has_decl_is}
 
 -- ---- Equal pairs
 
@@ -73,9 +66,11 @@ last_decls_complete n (x ∷ ds) d h = which (last_decls_complete (suc n) ds d) 
 
     here : (Contains (decls ds) d → (k : ℕ) × Contains (last_decls (suc n) ds) (k, d)) → x.decl ≡ d → (b : Bool) → has_decl ds x.decl ≡ b → (k : ℕ) × Contains (last_decls n (x ∷ ds)) (k, d)
     here ih e true again = rest (ih (subst (λ (z : Decl). Contains (decls ds) z) e ((has_decl_is ds x.decl).0 again)))
-    here ih e false once =
-        (n, subst (λ (ys : List (ℕ × Decl)). Contains ys (n, d)) (sym (cond-false (has_decl ds x.decl) (last_decls (suc n) ds) (numbered n x.decl ∷ last_decls (suc n) ds) once))
-        (subst (λ (z : Decl). Contains (numbered n x.decl ∷ last_decls (suc n) ds) (n, z)) e (Contains-here (numbered n x.decl) (last_decls (suc n) ds))))
+    here ih e false once = (
+      n,
+      subst (λ (ys : List (ℕ × Decl)). Contains ys (n, d)) (sym (cond-false (has_decl ds x.decl) (last_decls (suc n) ds) (numbered n x.decl ∷ last_decls (suc n) ds) once))
+          (subst (λ (z : Decl). Contains (numbered n x.decl ∷ last_decls (suc n) ds) (n, z)) e (Contains-here (numbered n x.decl) (last_decls (suc n) ds))),
+    )
 
     which : (Contains (decls ds) d → (k : ℕ) × Contains (last_decls (suc n) ds) (k, d)) → (x.decl ≡ d) ⊎ Contains (decls ds) d → (k : ℕ) × Contains (last_decls n (x ∷ ds)) (k, d)
     which ih (inl e) = here ih e (has_decl ds x.decl) refl
@@ -116,9 +111,11 @@ first_selectors_complete n (x ∷ ss) s h = which (first_selectors_complete (suc
 
     there : (w : (k : ℕ) × Contains (first_selectors (suc n) ss) (k, s)) → (b : Bool) → same_selector s x.selector ≡ b → (k : ℕ) × Contains (first_selectors n (x ∷ ss)) (k, s)
     there w true same = here (sym ((selector_decides s x.selector).0 same))
-    there w false other =
-        (w.0, Contains-there (numbered n x.selector) (filter (λ t. not (same_selector t.1 x.selector)) (first_selectors (suc n) ss)) (numbered w.0 s)
-        (Contains-filtered (λ t. not (same_selector t.1 x.selector)) (first_selectors (suc n) ss) (numbered w.0 s) w.1 (not_from_false (same_selector s x.selector) other)))
+    there w false other = (
+      w.0,
+      Contains-there (numbered n x.selector) (filter (λ t. not (same_selector t.1 x.selector)) (first_selectors (suc n) ss)) (numbered w.0 s)
+          (Contains-filtered (λ t. not (same_selector t.1 x.selector)) (first_selectors (suc n) ss) (numbered w.0 s) w.1 (not_from_false (same_selector s x.selector) other)),
+    )
 
     which : (Contains (sels ss) s → (k : ℕ) × Contains (first_selectors (suc n) ss) (k, s)) → (x.selector ≡ s) ⊎ Contains (sels ss) s → (k : ℕ) × Contains (first_selectors n (x ∷ ss)) (k, s)
     which ih (inl e) = here e

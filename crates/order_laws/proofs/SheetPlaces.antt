@@ -8,7 +8,6 @@ use Rattle.std.proofs.lemmas.List.Elements.{Contains-append_left, Contains-appen
 use Rattle.cascade_laws.proofs.ForCallers.{some-same, rule-same}
 use Rattle.list_facts.proofs.Members.{Contains-nil, Contains-filter, Contains-filtered}
 use Rattle.css_model.specs.declared.sheet.Decl.{Decl}
-use Rattle.css_model.specs.declared.sheet.DeclItem.{DeclItem}
 use Rattle.css_model.specs.declared.sheet.Item.{Item}
 use Rattle.css_model.specs.declared.sheet.Item.TheVariants.{Rule, KeptRule, KeptBlock}
 use Rattle.css_model.specs.Cascade.Winner.{Place, IsLater}
@@ -48,11 +47,12 @@ pairs_of_sound n r x h =
 pairs_of_complete : (n : ℕ) (r : RuleParts) (p : Pair) → Contains (sels r.selectors) p.selector → Contains (decls r.decls) p.decl → (x : PlacedPair) × Contains (pairs_of n (Rule r)) x × (x.pair ≡ p)
 pairs_of_complete n r p hs hd =
     let k : (k : ℕ) × Contains (first_selectors 0 r.selectors) (k, p.selector) = first_selectors_complete 0 r.selectors p.selector hs in
-    let l : (k : ℕ) × Contains (last_decls 0 r.decls) (k, p.decl) = last_decls_complete 0 r.decls p.decl hd in
-    (placed n (k.0, p.selector) (l.0, p.decl),
-    flat_map_has (λ s. map (placed n s) (last_decls 0 r.decls)) (first_selectors 0 r.selectors) (k.0, p.selector) (placed n (k.0, p.selector) (l.0, p.decl)) k.1
-    (map_has (placed n (k.0, p.selector)) (last_decls 0 r.decls) (l.0, p.decl) l.1),
-    refl)
+    let l : (k : ℕ) × Contains (last_decls 0 r.decls) (k, p.decl) = last_decls_complete 0 r.decls p.decl hd in (
+      placed n (k.0, p.selector) (l.0, p.decl),
+      flat_map_has (λ s. map (placed n s) (last_decls 0 r.decls)) (first_selectors 0 r.selectors) (k.0, p.selector) (placed n (k.0, p.selector) (l.0, p.decl)) k.1
+          (map_has (placed n (k.0, p.selector)) (last_decls 0 r.decls) (l.0, p.decl) l.1),
+      refl,
+    )
 
 -- ---- Each pair of an item that counts is in the list
 

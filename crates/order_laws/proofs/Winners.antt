@@ -1,229 +1,30 @@
 -- A sheet that keeps another one has its winners.
-use Rattle.std.proofs.Common.{◌≡◌, ◌≢◌, ◌⊎◌, ℕ, zero, suc, ◌<◌, ◌≤◌, Bool, true, false, List, [], ◌∷◌, map, Option, Some, None, ◌&&◌, refl, sym, ap, ap₂, ◌∙◌, subst, inl, inr, arith}
+use Rattle.std.proofs.Common.{◌≡◌, ◌≢◌, ◌⊎◌, ℕ, zero, suc, ◌<◌, ◌≤◌, true, false, List, [], ◌∷◌, Option, Some, None, refl, sym, ap, ap₂, ◌∙◌, subst, inl, inr, arith}
 use Rattle.std.specs.Prelude.{slice_get}
 use Rattle.std.specs.Option.{IfSome}
-use Rattle.std.specs.List.{All, Contains, list_any}
+use Rattle.std.specs.List.{All, Contains}
 use Rattle.std.proofs.lemmas.Bool.{false≢true}
 use Rattle.std.proofs.lemmas.List.Elements.{All-contains, All-weaker, All-contains_itself}
-use Rattle.cascade_laws.proofs.ForCallers.{some-same, rule-same, applied-words, words-applied, words-outranks, understood-listed, winner-greatest, winner-none, none-winner, keeps_back}
-use Rattle.list_facts.proofs.Members.{Contains-here, Contains-there, Contains-nil, Contains-cons_cases}
-use Rattle.css_model.specs.declared.selector.Specificity.{Specificity}
+use Rattle.cascade_laws.proofs.ForCallers.{some-same, rule-same, applied-words, words-applied, understood-listed, winner-greatest, winner-none, none-winner, keeps_back, there}
+use Rattle.list_facts.proofs.Members.{Contains-here, Contains-there}
 use Rattle.css_model.specs.declared.sheet.Decl.{Decl}
 use Rattle.css_model.specs.declared.sheet.DeclItem.{DeclItem}
 use Rattle.css_model.specs.declared.sheet.Item.{Item}
 use Rattle.css_model.specs.declared.sheet.Item.TheVariants.{Rule, KeptRule, KeptBlock}
-use Rattle.css_model.specs.declared.sheet.SelItem.{SelItem}
-use Rattle.css_model.specs.Cascade.Winner.{Declared, Place, AppliedDeclaration, AreMeanings, applied, Understood, is_understood, outranks, Winner, outcome, winner, IsLater}
+use Rattle.css_model.specs.Cascade.Winner.{Declared, Place, AppliedDeclaration, AreMeanings, applied, Understood, is_understood, Winner, outcome, winner, IsLater}
 use Rattle.css_model.specs.Documents.Document.{Document, Target, IsLegal}
-use Rattle.css_model.specs.Lists.{same_text}
 use Rattle.css_model.specs.Cascade.Family.{Related}
 use Rattle.css_model.specs.Sheets.KeptItems.{is_kept, kept_before, kept_items}
-use Rattle.cascade_laws.specs.Winning.{AppliesByRule, AppliesByKept, IsMoreSpecific, Outranks, IsGreatest}
-use Rattle.css_model.specs.Documents.Matching.{Matches}
-use Rattle.css_model.specs.Cascade.Order.{Meet, Pair, IsPairAt, HasPair, IsLast, Weigh, WeighsKept, IsBefore, IsBeforeKept, Keeps}
+use Rattle.cascade_laws.specs.Winning.{AppliesByKept, IsGreatest}
+use Rattle.css_model.specs.Cascade.Order.{Meet, Pair, IsPairAt, IsLast, Weigh, WeighsKept, IsBefore, IsBeforeKept, Keeps}
 use Rattle.css_model.specs.Sheets.RuleParts.{RuleParts}
-use Rattle.css_model.specs.Documents.SelectorParts.{SelectorParts}
-use Rattle.css_model.specs.Documents.Specificity.{specificity_of}
-use Rattle.css_model.specs.Sheets.Spelling.{Kept, content, kept_text}
+use Rattle.css_model.specs.Sheets.Spelling.{content}
 use Rattle.order_laws.specs.Keeping.{AreRelated}
 use Rattle.order_laws.proofs.LastPlaces.{same_decl_or_not, last_of}
 use Rattle.order_laws.proofs.KeptNumbers.{kept_at, KeptPlace, place_of_kept, kept_before-monotone, kept_before-behind, Fits, MeaningsFit, meanings_fit}
 use Rattle.order_laws.proofs.PlaceOrder.{which_less, which_later, later_than_both}
-
--- ---- An entry that a rule applies, by its pair
-
-pub record ByPair (doc : Document) (target : Target) (items : List Item) (e : AppliedDeclaration) : Type 0 where
-  pub pair : Pair
-  pub stands : IsPairAt items pair e.place
-  pub matching : Matches doc target pair.selector
-  pub decl_is : e.decl ≡ pair.decl
-  pub specificity_is : e.specificity ≡ specificity_of pair.selector
-
-in_selectors : (ss : List SelItem) (x : SelItem) → Contains ss x → Contains (map (λ y. y.selector) ss) x.selector
-in_selectors [] x h = absurd (Contains-nil x h)
-in_selectors (y ∷ ss) x h = cases (Contains-cons_cases y ss x h) (in_selectors ss x)
-  where
-    cases : (y ≡ x) ⊎ Contains ss x → (Contains ss x → Contains (map (λ z. z.selector) ss) x.selector) → Contains (map (λ z. z.selector) (y ∷ ss)) x.selector
-    cases (inl e) rest = subst (λ (z : SelItem). Contains (map (λ w. w.selector) (y ∷ ss)) z.selector) e (Contains-here y.selector (map (λ z. z.selector) ss))
-    cases (inr g) rest = Contains-there y.selector (map (λ z. z.selector) ss) x.selector (rest g)
-
-from_selectors : (ss : List SelItem) (s : SelectorParts) → Contains (map (λ x. x.selector) ss) s → (x : SelItem) × Contains ss x × (x.selector ≡ s)
-from_selectors [] s h = absurd (Contains-nil s h)
-from_selectors (x ∷ ss) s h = cases (Contains-cons_cases x.selector (map (λ y. y.selector) ss) s h) (from_selectors ss s)
-  where
-    cases : (x.selector ≡ s) ⊎ Contains (map (λ y. y.selector) ss) s → (Contains (map (λ y. y.selector) ss) s → (y : SelItem) × Contains ss y × (y.selector ≡ s)) → (y : SelItem) × Contains (x ∷ ss) y × (y.selector ≡ s)
-    cases (inl e) rest = (x, Contains-here x ss, e)
-    cases (inr g) rest = let w : (y : SelItem) × Contains ss y × (y.selector ≡ s) = rest g in (w.0, Contains-there x ss w.0 w.1, w.2)
-
-by_pair : (doc : Document) (target : Target) (items : List Item) (e : AppliedDeclaration) → AppliesByRule doc target items e → ByPair doc target items e
-by_pair doc target items e a = record {
-  pair = record { selector = a.selector.selector; decl = a.decl.decl };
-  stands = record { rule = a.rule; decl = a.decl; rule_at = a.rule_at; selector_in = in_selectors a.rule.selectors a.selector a.selector_in; decl_at = a.decl_at; decl_is = refl };
-  matching = a.matching;
-  decl_is = a.decl_is;
-  specificity_is = a.specificity_is;
-}
-
--- what a pair applies at a place where it stands
-entry_at : Pair → Place → AppliedDeclaration
-entry_at p place = record { decl = p.decl; specificity = specificity_of p.selector; place = place }
-
-applies_at : (doc : Document) (target : Target) (items : List Item) (p : Pair) (place : Place) → IsPairAt items p place → Matches doc target p.selector → AppliesByRule doc target items (entry_at p place)
-unfolding entry_at
-applies_at doc target items p place h matching =
-    let from : (x : SelItem) × Contains h.rule.selectors x × (x.selector ≡ p.selector) = from_selectors h.rule.selectors p.selector h.selector_in in
-    record {
-      rule = h.rule;
-      decl = h.decl;
-      selector = from.0;
-      rule_at = h.rule_at;
-      decl_at = h.decl_at;
-      selector_in = from.1;
-      matching = subst (λ (s : SelectorParts). Matches doc target s) (sym from.2) matching;
-      decl_is = sym h.decl_is;
-      specificity_is = ap specificity_of (sym from.2);
-    }
-
--- ---- An entry that a kept item applies, by its number
-
-abbrev Applies : Document → Target → List (List Declared) → List Item → AppliedDeclaration → Type 0
-Applies doc target meanings items e = AppliesByRule doc target items e ⊎ AppliesByKept meanings items e
-
--- the kept item of a number applies its meaning wherever it stands
-kept_applies : (meanings : List (List Declared)) (items : List Item) (e : AppliedDeclaration) (n : ℕ) (x : Item) (m : List Declared) (d : Declared) (position : ℕ) → (k : KeptPlace items n x) →
-    slice_get meanings n ≡ Some m → slice_get m position ≡ Some d → e.decl ≡ d.decl → e.specificity ≡ d.specificity → e.place ≡ record { item = k.index; position = position } → AppliesByKept meanings items e
-kept_applies meanings items e n x m d position k meaning_at declared_at decl_is specificity_is place_is = record {
-  item = x;
-  meaning = m;
-  declared = d;
-  item_at = ap (λ (p : Place). slice_get items p.item) place_is ∙ k.at;
-  kept = k.kept;
-  meaning_at = ap (λ (p : Place). slice_get meanings (kept_before p.item items)) place_is ∙ ap (slice_get meanings) k.number ∙ meaning_at;
-  declared_at = ap (λ (p : Place). slice_get m p.position) place_is ∙ declared_at;
-  decl_is = decl_is;
-  specificity_is = specificity_is;
-}
-
--- what stands at a place of one list, where two lists say the same
-there : (source source' : List ℕ) (xs ys : List Item) → map (content source) xs ≡ map (content source') ys → (n : ℕ) (y : Item) → slice_get ys n ≡ Some y → (x : Item) × (slice_get xs n ≡ Some x) × (content source x ≡ content source' y)
-there source source' xs [] e n y at = absurd cc
-there source source' [] (z ∷ ys) e n y at = absurd cc
-there source source' (x ∷ xs) (z ∷ ys) e zero y at = (x, refl, first_same e ∙ ap (content source') (some-same at))
-  where
-    first_same : content source x ∷ map (content source) xs ≡ content source' z ∷ map (content source') ys → content source x ≡ content source' z
-    first_same h = cc
-there source source' (x ∷ xs) (z ∷ ys) e (suc n) y at = there source source' xs ys (rest_same e) n y at
-  where
-    rest_same : content source x ∷ map (content source) xs ≡ content source' z ∷ map (content source') ys → map (content source) xs ≡ map (content source') ys
-    rest_same h = cc
-
-fits_same : (source source' : List ℕ) (x y : Item) (m : List Declared) → content source x ≡ content source' y → Fits x m → Fits y m
-fits_same source source' x (Rule r) m e w = tt
-fits_same source source' (Rule r) (KeptRule b) m e w = absurd cc
-fits_same source source' (KeptRule a) (KeptRule b) m e w = subst (λ (ds : List Decl). All (λ (e : Declared). Contains ds e.decl) m) (decls_same e) w
-  where
-    decls_same : Kept (kept_text source a.piece) a.decls a.reason ≡ Kept (kept_text source' b.piece) b.decls b.reason → a.decls ≡ b.decls
-    decls_same h = cc
-fits_same source source' (KeptBlock a) (KeptRule b) m e w = absurd cc
-fits_same source source' x (KeptBlock piece) m e w = tt
-
-fit_too : (source source' : List ℕ) (items items' : List Item) (meanings : List (List Declared)) → map (content source) (kept_items items) ≡ map (content source') (kept_items items') → MeaningsFit items meanings → MeaningsFit items' meanings
-fit_too source source' items items' meanings same fit n y m at of =
-    let x : (x : Item) × (slice_get (kept_items items) n ≡ Some x) × (content source x ≡ content source' y) = there source source' (kept_items items) (kept_items items') same n y at in
-    fits_same source source' x.0 y m x.2 (fit n x.0 m x.1 of)
-
--- ---- Entries that are the same but for their places
-
-abbrev AreAlike : AppliedDeclaration → AppliedDeclaration → Type 0
-AreAlike e f = (e.decl ≡ f.decl) × (e.specificity ≡ f.specificity)
-
-understood_alike : (us : List Understood) (e f : AppliedDeclaration) → AreAlike e f → is_understood us e ≡ is_understood us f
-understood_alike us e f same = ap (λ (d : Decl). list_any (λ u. same_text u.name d.name && same_text u.value d.value) us) same.0
-
-outcome_alike : (e f : AppliedDeclaration) → AreAlike e f → outcome e ≡ outcome f
-outcome_alike e f same = ap₂ (λ (d : Decl) (s : Specificity). record { name = d.name; value = d.value; important = d.important; specificity = s }) same.0 same.1
-
--- what applies in one sheet applies in the other, at some place
-counterpart : (source source' : List ℕ) (items items' : List Item) → Keeps source items source' items' →
-    (doc : Document) (target : Target) (meanings : List (List Declared)) (e : AppliedDeclaration) → Applies doc target meanings items e → (f : AppliedDeclaration) × Applies doc target meanings items' f × AreAlike f e
-unfolding entry_at
-counterpart source source' items items' keeps doc target meanings e (inl a) =
-    let b : ByPair doc target items e = by_pair doc target items e a in
-    let other : HasPair items' b.pair = (keeps.pairs b.pair).0 (e.place, b.stands) in
-    (entry_at b.pair other.0, inl (applies_at doc target items' b.pair other.0 other.1 b.matching), (sym b.decl_is, sym b.specificity_is))
-counterpart source source' items items' keeps doc target meanings e (inr a) =
-    let n : ℕ = kept_before e.place.item items in
-    let x : (x : Item) × (slice_get (kept_items items') n ≡ Some x) × (content source' x ≡ content source a.item) =
-    there source' source (kept_items items') (kept_items items) (sym keeps.kept) n a.item (kept_at items e.place.item a.item a.item_at a.kept) in
-    let k : KeptPlace items' n x.0 = place_of_kept items' n x.0 x.1 in
-    let f : AppliedDeclaration = record { decl = e.decl; specificity = e.specificity; place = record { item = k.index; position = e.place.position } } in
-    (f, inr (kept_applies meanings items' f n x.0 a.meaning a.declared e.place.position k a.meaning_at a.declared_at a.decl_is a.specificity_is refl), (refl, refl))
-
--- ---- The best of what applies
-
-record IsBest (doc : Document) (target : Target) (meanings : List (List Declared)) (items : List Item) (us : List Understood) (e : AppliedDeclaration) : Type 0 where
-  applies : Applies doc target meanings items e
-  understood : is_understood us e ≡ true
-  best : (f : AppliedDeclaration) → Applies doc target meanings items f → is_understood us f ≡ true → Outranks f e → ⊥
-
-is_best : (doc : Document) (target : Target) (meanings : List (List Declared)) (items : List Item) (us : List Understood) (e : AppliedDeclaration) → IsGreatest us (applied doc target meanings items) e → IsBest doc target meanings items us e
-is_best doc target meanings items us e g = record {
-  applies = applied-words doc target meanings items e g.applied;
-  understood = g.understood;
-  best = λ f a u over. false≢true (sym (All-contains (λ x. is_understood us x ≡ true → outranks x e ≡ false) (applied doc target meanings items) f g.greatest (words-applied doc target meanings items f a) u) ∙ words-outranks f e over);
-}
-
--- of two entries, of which neither outranks the other's like, all but the places are equal
-record Level (e f e' f' : AppliedDeclaration) : Type 0 where
-  importance : e.decl.important ≡ f.decl.important
-  specificity : e.specificity ≡ f.specificity
-  first : IsLater e'.place f.place → ⊥
-  second : IsLater f'.place e.place → ⊥
-
--- e' is like e and does not outrank f, and f' is like f and does not outrank e
-level : (e f e' f' : AppliedDeclaration) → AreAlike e' e → AreAlike f' f → (Outranks e' f → ⊥) → (Outranks f' e → ⊥) → Level e f e' f'
-level e f e' f' (ed, es) (fd, fs) no_first no_second = record {
-  importance = important;
-  specificity = specific;
-  first = λ h. no_first (inr (inr (important', es ∙ specific, h)));
-  second = λ h. no_second (inr (inr (ap (λ (d : Decl). d.important) fd ∙ sym important, fs ∙ sym specific, h)));
-}
-  where
-    same_importance : (a b : Bool) → e.decl.important ≡ a → f.decl.important ≡ b → e.decl.important ≡ f.decl.important
-    same_importance true true h g = h ∙ sym g
-    same_importance false false h g = h ∙ sym g
-    same_importance true false h g = absurd (no_first (inl (ap (λ (d : Decl). d.important) ed ∙ h, g)))
-    same_importance false true h g = absurd (no_second (inl (ap (λ (d : Decl). d.important) fd ∙ g, h)))
-
-    important : e.decl.important ≡ f.decl.important
-    important = same_importance e.decl.important f.decl.important refl refl
-
-    important' : e'.decl.important ≡ f.decl.important
-    important' = ap (λ (d : Decl). d.important) ed ∙ important
-
-    not_more : IsMoreSpecific e f → ⊥
-    not_more more = no_first (inr (inl (important', subst (λ (s : Specificity). (f.specificity.a < s.a) ⊎ ((s.a ≡ f.specificity.a) × (f.specificity.b < s.b)) ⊎ ((s.a ≡ f.specificity.a) × (s.b ≡ f.specificity.b) × (f.specificity.c < s.c))) (sym es) more)))
-
-    not_less : IsMoreSpecific f e → ⊥
-    not_less more = no_second (inr (inl (ap (λ (d : Decl). d.important) fd ∙ sym important, subst (λ (s : Specificity). (e.specificity.a < s.a) ⊎ ((s.a ≡ e.specificity.a) × (e.specificity.b < s.b)) ⊎ ((s.a ≡ e.specificity.a) × (s.b ≡ e.specificity.b) × (e.specificity.c < s.c))) (sym fs) more)))
-
-    last_count : e.specificity.a ≡ f.specificity.a → e.specificity.b ≡ f.specificity.b → (e.specificity.c < f.specificity.c) ⊎ (e.specificity.c ≡ f.specificity.c) ⊎ (f.specificity.c < e.specificity.c) → e.specificity ≡ f.specificity
-    last_count a b (inl h) = absurd (not_less (inr (inr (sym a, sym b, h))))
-    last_count a b (inr (inl c)) = ap₂ (λ (n : ℕ) (t : Specificity). record { a = n; b = t.b; c = t.c }) a (ap₂ (λ (m k : ℕ). record { a = f.specificity.a; b = m; c = k }) b c)
-    last_count a b (inr (inr h)) = absurd (not_more (inr (inr (a, b, h))))
-
-    middle_count : e.specificity.a ≡ f.specificity.a → (e.specificity.b < f.specificity.b) ⊎ (e.specificity.b ≡ f.specificity.b) ⊎ (f.specificity.b < e.specificity.b) → e.specificity ≡ f.specificity
-    middle_count a (inl h) = absurd (not_less (inr (inl (sym a, h))))
-    middle_count a (inr (inl b)) = last_count a b (which_less e.specificity.c f.specificity.c)
-    middle_count a (inr (inr h)) = absurd (not_more (inr (inl (a, h))))
-
-    first_count : (e.specificity.a < f.specificity.a) ⊎ (e.specificity.a ≡ f.specificity.a) ⊎ (f.specificity.a < e.specificity.a) → e.specificity ≡ f.specificity
-    first_count (inl h) = absurd (not_less (inl h))
-    first_count (inr (inl a)) = middle_count a (which_less e.specificity.b f.specificity.b)
-    first_count (inr (inr h)) = absurd (not_more (inl h))
-
-    specific : e.specificity ≡ f.specificity
-    specific = first_count (which_less e.specificity.a f.specificity.a)
+use Rattle.order_laws.proofs.AppliedPairs.{ByPair, by_pair, applied_at, applies_at, Applies, kept_applies, fit_too, AreAlike, understood_alike, outcome_alike, counterpart}
+use Rattle.order_laws.proofs.BestApplied.{IsBest, is_best, Level, level}
 
 -- ---- The best of both sheets
 
@@ -246,7 +47,6 @@ other_places items p q at at' same h g = which (subst (λ (x : Place). IsPairAt 
 both_rules : (source source' : List ℕ) (items items' : List Item) → Keeps source items source' items' →
     (doc : Document) (target : Target) (meanings : List (List Declared)) (us : List Understood) → IsLegal doc → AreRelated us →
     (e f : AppliedDeclaration) → IsBest doc target meanings items us e → IsBest doc target meanings items' us f → ByPair doc target items e → ByPair doc target items' f → outcome e ≡ outcome f
-unfolding entry_at
 both_rules source source' items items' keeps doc target meanings us legal related e f best best' b c =
     which (same_decl_or_not b.pair.decl c.pair.decl)
   where
@@ -260,12 +60,12 @@ both_rules source source' items items' keeps doc target meanings us legal relate
     p_last' : (p : Place) × IsLast items' b.pair p
     p_last' = last_of items' b.pair ((keeps.pairs b.pair).0 (e.place, b.stands))
 
-    levels : (at : Place) → IsPairAt items' b.pair at → Level e f (entry_at b.pair at) (entry_at c.pair q_last.0)
-    levels at h = level e f (entry_at b.pair at) (entry_at c.pair q_last.0) (sym b.decl_is, sym b.specificity_is) (sym c.decl_is, sym c.specificity_is)
-        (best'.best (entry_at b.pair at) (inl (applies_at doc target items' b.pair at h b.matching)) (understood_alike us (entry_at b.pair at) e (sym b.decl_is, sym b.specificity_is) ∙ best.understood))
-        (best.best (entry_at c.pair q_last.0) (inl (applies_at doc target items c.pair q_last.0 q_last.1.stands c.matching)) (understood_alike us (entry_at c.pair q_last.0) f (sym c.decl_is, sym c.specificity_is) ∙ best'.understood))
+    levels : (at : Place) → IsPairAt items' b.pair at → Level e f (applied_at b.pair at) (applied_at c.pair q_last.0)
+    levels at h = level e f (applied_at b.pair at) (applied_at c.pair q_last.0) (sym b.decl_is, sym b.specificity_is) (sym c.decl_is, sym c.specificity_is)
+        (best'.best (applied_at b.pair at) (inl (applies_at doc target items' b.pair at h b.matching)) (understood_alike us (applied_at b.pair at) e (sym b.decl_is, sym b.specificity_is) ∙ best.understood))
+        (best.best (applied_at c.pair q_last.0) (inl (applies_at doc target items c.pair q_last.0 q_last.1.stands c.matching)) (understood_alike us (applied_at c.pair q_last.0) f (sym c.decl_is, sym c.specificity_is) ∙ best'.understood))
 
-    lev : Level e f (entry_at b.pair p_last'.0) (entry_at c.pair q_last.0)
+    lev : Level e f (applied_at b.pair p_last'.0) (applied_at c.pair q_last.0)
     lev = levels p_last'.0 p_last'.1.stands
 
     -- in the first sheet the pair of f comes before that of e
@@ -327,7 +127,6 @@ not_later_item p q h = which (which_less p.item q.item)
 rule_and_kept : (source source' : List ℕ) (items items' : List Item) → Keeps source items source' items' →
     (doc : Document) (target : Target) (meanings : List (List Declared)) (us : List Understood) → MeaningsFit items meanings → AreRelated us →
     (e f : AppliedDeclaration) → IsBest doc target meanings items us e → IsBest doc target meanings items' us f → ByPair doc target items e → AppliesByKept meanings items' f → ⊥
-unfolding entry_at
 rule_and_kept source source' items items' keeps doc target meanings us fit related e f best best' b a =
     let x : (x : Item) × (slice_get (kept_items items) (kept_before f.place.item items') ≡ Some x) × (content source x ≡ content source' a.item) =
     there source source' (kept_items items) (kept_items items') keeps.kept (kept_before f.place.item items') a.item (kept_at items' f.place.item a.item a.item_at a.kept) in
@@ -335,7 +134,7 @@ rule_and_kept source source' items items' keeps doc target meanings us fit relat
     let f' : AppliedDeclaration = record { decl = f.decl; specificity = f.specificity; place = record { item = k.index; position = f.place.position } } in
     let by_kept : AppliesByKept meanings items f' = kept_applies meanings items f' (kept_before f.place.item items') x.0 a.meaning a.declared f.place.position k a.meaning_at a.declared_at a.decl_is a.specificity_is refl in
     let p' : (p : Place) × IsLast items' b.pair p = last_of items' b.pair ((keeps.pairs b.pair).0 (e.place, b.stands)) in
-    let e' : AppliedDeclaration = entry_at b.pair p'.0 in
+    let e' : AppliedDeclaration = applied_at b.pair p'.0 in
     let lev : Level e f e' f' = level e f e' f' (sym b.decl_is, sym b.specificity_is) (refl, refl)
     (best'.best e' (inl (applies_at doc target items' b.pair p'.0 p'.1.stands b.matching)) (understood_alike us e' e (sym b.decl_is, sym b.specificity_is) ∙ best.understood))
     (best.best f' (inr by_kept) best'.understood) in

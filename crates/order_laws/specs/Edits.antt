@@ -1,5 +1,5 @@
 -- A change of a sheet in general: what becomes of its items, and which pairs it moves.
-use Rattle.std.specs.Prelude.{◌≡◌, ℕ, ◌+◌, ◌==◌, Bool, true, ◌&&◌, if◌then◌else◌, IsTrue, List, [], ◌∷◌, map}
+use Rattle.std.specs.Prelude.{◌≡◌, ℕ, ◌+◌, ◌==◌, Bool, true, ◌&&◌, if◌then◌else◌, IsTrue, List, [], ◌∷◌}
 use Rattle.std.specs.List.{All, list_any}
 use Rattle.css_model.specs.contracts.selector.SelectorPartialEq.TheImpl as selector
 use Rattle.css_model.specs.contracts.sheet.DeclPartialEq.TheImpl as decl
