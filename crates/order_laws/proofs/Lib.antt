@@ -14,7 +14,7 @@ pub mod PlaceOrder
 pub mod Rearranging
 pub mod ReversedList
 pub mod ReversedOrder
-pub mod ReversedTests
+pub mod ComparingTests
 mod ReversedExamples
 pub mod RulePairs
 pub mod SheetPlaces

@@ -11,15 +11,17 @@ use Rattle.css_model.specs.declared.sheet.Item.{Item}
 use Rattle.cascade_laws.specs.Families.{RelatingIsDecided}
 use Rattle.css_model.specs.Sheets.KeptItems.{is_kept, kept_before}
 use Rattle.css_model.specs.Cascade.Order.{Meet, Pair, WeighsKept, IsBefore, IsBeforeKept, Keeps}
-use Rattle.order_laws.specs.Edits.{Moved, is_moved, has_number, Edit, edited, StandsIn, IsRearrangement}
+use Rattle.order_laws.specs.Comparing.{comes_before, comes_before_kept, weigh, weighs_kept}
+use Rattle.order_laws.specs.Members.{has_number}
+use Rattle.order_laws.specs.Edits.{Moved, is_moved, Edit, edited, StandsIn, IsRearrangement}
 use Rattle.order_laws.specs.Places.{PlacedPair, place_of, last_pairs, last_pairs_from, StandsLast}
-use Rattle.order_laws.specs.Reversed.{weigh, weighs_kept, comes_before, comes_before_kept, Other, AnotherPair, KeptAt, Reversal, kept_from, is_reversed, is_reversed_kept, with_pair, with_kept, reversed_with, moved_pairs, reversed, IsReversedWith, IsApart}
+use Rattle.order_laws.specs.Reversed.{Other, AnotherPair, KeptAt, Reversal, kept_from, is_reversed, is_reversed_kept, with_pair, with_kept, reversed_with, moved_pairs, reversed, IsReversedWith, IsApart}
 use Rattle.order_laws.specs.Reversing.{Differ, ReversesPair, ReversesKept}
 use Rattle.order_laws.proofs.Lists.{map_has, map_from, flat_map_has, flat_map_from}
 use Rattle.order_laws.proofs.KeptNumbers.{kept_at, KeptPlace, place_of_kept}
 use Rattle.order_laws.proofs.Rearranging.{rearranging_keeps}
 use Rattle.order_laws.proofs.ReversedOrder.{ascending_from, ascending_has}
-use Rattle.order_laws.proofs.ReversedTests.{weigh_is, weighs_kept_is, comes_before_is, comes_before_kept_is, differ_is}
+use Rattle.order_laws.proofs.ComparingTests.{weigh_is, weighs_kept_is, comes_before_is, comes_before_kept_is, differ_is}
 use Rattle.order_laws.proofs.SheetPlaces.{last_stands, listed_stands_last, stands_last_somewhere}
 
 -- ---- The kept items

@@ -18,7 +18,8 @@ use Rattle.css_model.specs.Cascade.Order.{Pair, IsPairAt, HasPair, IsLast, IsBef
 use Rattle.css_model.specs.Sheets.RuleParts.{RuleParts}
 use Rattle.css_model.specs.Documents.SelectorParts.{SelectorParts}
 use Rattle.css_model.specs.Sheets.StyleRule.{selectors_of}
-use Rattle.order_laws.specs.Edits.{has_selector, has_decl, Moved, is_moved}
+use Rattle.order_laws.specs.Members.{has_decl, has_selector}
+use Rattle.order_laws.specs.Edits.{Moved, is_moved}
 use Rattle.order_laws.proofs.LastPlaces.{LastIn, NoneIn, last_decl}
 
 abbrev place : ℕ → ℕ → Place

@@ -11,8 +11,8 @@ use Rattle.css_model.specs.declared.sheet.DeclItem.{DeclItem}
 use Rattle.css_model.specs.declared.sheet.SelItem.{SelItem}
 use Rattle.css_model.specs.Cascade.Order.{Pair}
 use Rattle.css_model.specs.Documents.SelectorParts.{SelectorParts}
-use Rattle.order_laws.specs.Edits.{has_decl}
-use Rattle.order_laws.specs.Places.{same_selector, same_decl, same_pair, first_selectors, last_decls}
+use Rattle.order_laws.specs.Members.{has_decl, same_decl, same_pair, same_selector}
+use Rattle.order_laws.specs.Places.{first_selectors, last_decls}
 use Rattle.order_laws.proofs.LastPlaces.{LastIn}
 use Rattle.order_laws.proofs.RulePairs.{decls, sels, decl_in, behind_last, has_decl_is}
 

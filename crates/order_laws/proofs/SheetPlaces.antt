@@ -15,7 +15,8 @@ use Rattle.css_model.specs.Cascade.Order.{Pair, IsPairAt}
 use Rattle.css_model.specs.Sheets.RuleParts.{RuleParts}
 use Rattle.css_model.specs.Documents.SelectorParts.{SelectorParts}
 use Rattle.css_model.specs.Sheets.StyleRule.{selectors_of}
-use Rattle.order_laws.specs.Places.{PairPlace, PlacedPair, place_of, StandsLast, same_pair, first_selectors, last_decls, placed, pairs_of, has_pair, last_pairs_from}
+use Rattle.order_laws.specs.Members.{same_pair}
+use Rattle.order_laws.specs.Places.{PairPlace, PlacedPair, place_of, StandsLast, first_selectors, last_decls, placed, pairs_of, has_pair, last_pairs_from}
 use Rattle.order_laws.proofs.LastPlaces.{LastIn, among}
 use Rattle.order_laws.proofs.Lists.{any_from, any_of, map_has, map_from, flat_map_has, flat_map_from}
 use Rattle.order_laws.proofs.PlaceOrder.{which_later}

@@ -1,29 +1,14 @@
 -- A change of a sheet in general: what becomes of its items, and which pairs it moves.
 use Rattle.std.specs.Prelude.{◌≡◌, ℕ, ◌+◌, ◌==◌, Bool, true, ◌&&◌, if◌then◌else◌, IsTrue, List, [], ◌∷◌}
-use Rattle.std.specs.List.{All, list_any}
-use Rattle.css_model.specs.contracts.selector.SelectorPartialEq.TheImpl as selector
-use Rattle.css_model.specs.contracts.sheet.DeclPartialEq.TheImpl as decl
-use Rattle.css_model.specs.declared.sheet.Decl.{Decl}
+use Rattle.std.specs.List.{All}
 use Rattle.css_model.specs.declared.sheet.DeclItem.{DeclItem}
 use Rattle.css_model.specs.declared.sheet.Item.{Item}
 use Rattle.css_model.specs.declared.sheet.SelItem.{SelItem}
 use Rattle.css_model.specs.Cascade.Winner.{Place}
 use Rattle.css_model.specs.Cascade.Order.{Pair, IsPairAt, HasPair}
 use Rattle.css_model.specs.Sheets.RuleParts.{RuleParts}
-use Rattle.css_model.specs.Documents.SelectorParts.{SelectorParts}
+use Rattle.order_laws.specs.Members.{has_selector, has_decl, has_number}
 use Rattle.order_laws.specs.Slots.{Slot, new_items, IsFair}
-
--- whether a selector is among these
-abbrev pub has_selector : List SelItem → SelectorParts → Bool
-has_selector items s = list_any (λ x. (selector.ghosts).eq x.selector s) items
-
--- whether a declaration is among these
-abbrev pub has_decl : List DeclItem → Decl → Bool
-has_decl items d = list_any (λ x. (decl.ghosts).eq x.decl d) items
-
--- whether a number is among these
-abbrev pub has_number : List ℕ → ℕ → Bool
-has_number numbers n = list_any (λ m. m == n) numbers
 
 -- The pairs that an edit moves: each of these selectors with each of these declarations. They are moved
 -- out of the items of these numbers, counted from 0.

@@ -1,5 +1,7 @@
+pub mod Comparing
 pub mod Edits
 pub mod Keeping
+pub mod Members
 pub mod Moving
 pub mod Places
 pub mod Reversed

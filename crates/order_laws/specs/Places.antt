@@ -1,8 +1,6 @@
 -- Where the pairs of a sheet stand, as lists.
-use Rattle.std.specs.Prelude.{◌≡◌, ◌≤◌, ◌↔◌, ℕ, suc, Bool, true, not, ◌&&◌, if◌then◌else◌, IsTrue, List, [], ◌∷◌, ◌++◌, map, Some, slice_get}
+use Rattle.std.specs.Prelude.{◌≡◌, ◌≤◌, ◌↔◌, ℕ, suc, Bool, true, not, if◌then◌else◌, IsTrue, List, [], ◌∷◌, ◌++◌, map, Some, slice_get}
 use Rattle.std.specs.List.{Contains, filter, flat_map, list_any}
-use Rattle.css_model.specs.contracts.selector.SelectorPartialEq.TheImpl as selector
-use Rattle.css_model.specs.contracts.sheet.DeclPartialEq.TheImpl as decl
 use Rattle.css_model.specs.declared.sheet.Decl.{Decl}
 use Rattle.css_model.specs.declared.sheet.DeclItem.{DeclItem}
 use Rattle.css_model.specs.declared.sheet.Item.{Item}
@@ -13,7 +11,7 @@ use Rattle.css_model.specs.Cascade.Order.{Pair, IsPairAt}
 use Rattle.css_model.specs.Sheets.RuleParts.{RuleParts}
 use Rattle.css_model.specs.Documents.SelectorParts.{SelectorParts}
 use Rattle.css_model.specs.Sheets.StyleRule.{selectors_of}
-use Rattle.order_laws.specs.Edits.{has_decl}
+use Rattle.order_laws.specs.Members.{same_selector, same_pair, has_decl}
 
 -- The place of a pair: its item, and in the item its selector and its declaration, each counted from 0.
 pub record PairPlace : Type 0 where
@@ -46,15 +44,6 @@ pub record StandsLast (counts : ℕ → Bool) (items : List Item) (x : PlacedPai
   pub last : (other : Place) → IsPairAt items x.pair other → IsTrue (counts other.item) → IsLater other (place_of x.place) → ⊥
 
 -- ---- As a list
-
-abbrev pub same_selector : SelectorParts → SelectorParts → Bool
-same_selector = (selector.ghosts).eq
-
-abbrev pub same_decl : Decl → Decl → Bool
-same_decl = (decl.ghosts).eq
-
-abbrev pub same_pair : Pair → Pair → Bool
-same_pair p q = same_selector p.selector q.selector && same_decl p.decl q.decl
 
 -- the selectors of a rule with their numbers, the first of which is given: of equal ones the first
 abbrev pub first_selectors : ℕ → List SelItem → List (ℕ × SelectorParts)

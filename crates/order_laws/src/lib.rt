@@ -1,12 +1,14 @@
 //! When a sheet keeps the winners of another one, and when a change of a sheet keeps the sheet.
 #![tactic(auto)]
 
+mod comparing;
 mod keeping;
 mod moving;
 mod places;
 mod reversed;
 mod reversing;
 
+pub use comparing::{order_is_decided, weighing_is_decided};
 pub use keeping::{
     each_sheet_keeps_itself, keeping_goes_on, keeping_is_mutual, keeping_keeps_winners,
 };

@@ -18,8 +18,9 @@ use Rattle.cascade_laws.specs.Families.{RelatingIsDecided}
 use Rattle.css_model.specs.Sheets.KeptItems.{kept_before}
 use Rattle.css_model.specs.Cascade.Order.{Pair, IsLast, Weigh, WeighsKept, IsBefore, IsBeforeKept}
 use Rattle.css_model.specs.Documents.Specificity.{specificity_of}
-use Rattle.order_laws.specs.Places.{PairPlace, PlacedPair, place_of, StandsLast, same_decl, same_pair, last_pairs}
-use Rattle.order_laws.specs.Reversed.{same_rank, weigh, weighs_kept, is_later, comes_before, comes_before_kept}
+use Rattle.order_laws.specs.Comparing.{comes_before, comes_before_kept, is_later, same_rank, weigh, weighs_kept}
+use Rattle.order_laws.specs.Members.{same_decl, same_pair}
+use Rattle.order_laws.specs.Places.{PairPlace, PlacedPair, place_of, StandsLast, last_pairs}
 use Rattle.order_laws.specs.Reversing.{Differ}
 use Rattle.order_laws.proofs.Appended.{last_same}
 use Rattle.order_laws.proofs.Lists.{any_from, any_of}
