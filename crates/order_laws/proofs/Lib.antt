@@ -1,22 +1,23 @@
-pub mod AppliedPairs
-pub mod BestApplied
-pub mod Appended
-pub mod LastPlaces
-pub mod Lists
-pub mod EditedItems
+mod Appended
+mod AppliedPairs
+mod BestApplied
+mod ComparingTests
+mod EditedItems
 mod ExampleSheets
-pub mod FairSlots
+mod FairSlots
+pub mod ForCallers
 mod KeepingExamples
-pub mod KeptNumbers
-pub mod RulePlaces
-pub mod MovingRules
-pub mod PlaceOrder
-pub mod Rearranging
-pub mod ReversedList
-pub mod ReversedOrder
-pub mod ComparingTests
+mod KeptNumbers
+mod LastPlaces
+mod Lists
+mod MovingRules
+mod PlaceOrder
+mod Rearranging
 mod ReversedExamples
-pub mod RulePairs
-pub mod SheetPlaces
-pub mod SlotLemmas
-pub mod Winners
+mod ReversedList
+mod ReversedOrder
+mod RulePairs
+mod RulePlaces
+mod SheetPlaces
+mod SlotLemmas
+mod Winners
