@@ -26,7 +26,7 @@ is_best doc target meanings items us e g = record {
   best = λ f a u over. false≢true (sym (All-contains (λ x. is_understood us x ≡ true → outranks x e ≡ false) (applied doc target meanings items) f g.greatest (words-applied doc target meanings items f a) u) ∙ words-outranks f e over);
 }
 
--- of two entries, of which neither outranks the other's like, all but the places are equal
+-- of two applied declarations, of which neither outranks the other's like, all but the places are equal
 pub record Level (e f e' f' : AppliedDeclaration) : Type 0 where
   pub importance : e.decl.important ≡ f.decl.important
   pub specificity : e.specificity ≡ f.specificity

@@ -91,24 +91,24 @@ moved_up changes n (suc i) (suc j) (x ∷ items) y z new less at at' gone comes 
 
 -- ---- The edit that moves a rule
 
-abbrev placed : ℕ → ℕ → RuleParts → Item → List Item
-placed from to r other = if nat_lt from to then other ∷ Rule r ∷ [] else Rule r ∷ other ∷ []
+abbrev beside : ℕ → ℕ → RuleParts → Item → List Item
+beside from to r other = if nat_lt from to then other ∷ Rule r ∷ [] else Rule r ∷ other ∷ []
 
 abbrev changes_of : ℕ → ℕ → RuleParts → Item → List Change
-changes_of from to r other = record { at = from; by = [] } ∷ record { at = to; by = placed from to r other } ∷ []
+changes_of from to r other = record { at = from; by = [] } ∷ record { at = to; by = beside from to r other } ∷ []
 
 gone_at : (from to : ℕ) (r : RuleParts) (other : Item) → SameAt (changes_of from to r other) from []
-gone_at from to r other x = instead_here (record { at = from; by = [] }) (record { at = to; by = placed from to r other } ∷ []) from x refl
+gone_at from to r other x = instead_here (record { at = from; by = [] }) (record { at = to; by = beside from to r other } ∷ []) from x refl
 
-comes_at : (from to : ℕ) (r : RuleParts) (other : Item) → from ≢ to → SameAt (changes_of from to r other) to (placed from to r other)
+comes_at : (from to : ℕ) (r : RuleParts) (other : Item) → from ≢ to → SameAt (changes_of from to r other) to (beside from to r other)
 comes_at from to r other apart x =
-    instead_there (record { at = from; by = [] }) (record { at = to; by = placed from to r other } ∷ []) to x apart
-    ∙ instead_here (record { at = to; by = placed from to r other }) [] to x refl
+    instead_there (record { at = from; by = [] }) (record { at = to; by = beside from to r other } ∷ []) to x apart
+    ∙ instead_here (record { at = to; by = beside from to r other }) [] to x refl
 
 stays_at : (from to : ℕ) (r : RuleParts) (other : Item) (k : ℕ) (x : Item) → k ≢ from → k ≢ to → instead (changes_of from to r other) k x ≡ x ∷ []
 stays_at from to r other k x apart apart' =
-    instead_there (record { at = from; by = [] }) (record { at = to; by = placed from to r other } ∷ []) k x (λ e. apart (sym e))
-    ∙ instead_there (record { at = to; by = placed from to r other }) [] k x (λ e. apart' (sym e))
+    instead_there (record { at = from; by = [] }) (record { at = to; by = beside from to r other } ∷ []) k x (λ e. apart (sym e))
+    ∙ instead_there (record { at = to; by = beside from to r other }) [] k x (λ e. apart' (sym e))
 
 moves : (items : List Item) (from to : ℕ) (r : RuleParts) (other : Item) → slice_get items from ≡ Some (Rule r) → slice_get items to ≡ Some other → from ≢ to →
     edited (moving from to r other) items ≡ item_moved items from to (Rule r)
@@ -120,7 +120,7 @@ moves items from to r other at at' apart = which (which_less from to)
     gone : SameAt (changes_of from to r other) (0 + from) []
     gone = subst (λ (m : ℕ). SameAt (changes_of from to r other) m []) (shift from) (gone_at from to r other)
 
-    comes : (by : List Item) → placed from to r other ≡ by → SameAt (changes_of from to r other) (0 + to) by
+    comes : (by : List Item) → beside from to r other ≡ by → SameAt (changes_of from to r other) (0 + to) by
     comes by e = subst (λ (m : ℕ). SameAt (changes_of from to r other) m by) (shift to) (λ x. comes_at from to r other apart x ∙ e)
 
     only : OnlyAtBoth (changes_of from to r other) 0 from to
@@ -139,7 +139,7 @@ moves items from to r other at at' apart = which (which_less from to)
 all_moved : (n : ℕ) (r : RuleParts) → AllMoved (is_moved (whole_rule n r)) r
 all_moved n r p still h = both_ways (is_moved (whole_rule n r) p) still ((moved_is (whole_rule n r) p).1 h)
 
-fair_at : (from to : ℕ) (r : RuleParts) (other : Item) → IsFair (is_moved (whole_rule from r)) (record { old = other; new = placed from to r other })
+fair_at : (from to : ℕ) (r : RuleParts) (other : Item) → IsFair (is_moved (whole_rule from r)) (record { old = other; new = beside from to r other })
 fair_at from to r other =
     cond_both (nat_lt from to) (other ∷ Rule r ∷ []) (Rule r ∷ other ∷ []) (λ xs. IsFair (is_moved (whole_rule from r)) (record { old = other; new = xs }))
     (λ before. back_fair (is_moved (whole_rule from r)) other r (other ∷ []) (all_moved from r) (same_fair (is_moved (whole_rule from r)) other))
@@ -163,8 +163,8 @@ each_fair items from to r other at at' apart i x here =
     which false f true g =
         let same : i ≡ to = (Decides-eqb i to).0 g in
         let item : other ≡ x = some-same (sym at' ∙ ap (slice_get items) (sym same) ∙ here) in
-        fair_by (placed from to r other) (subst (λ (m : ℕ). instead (changes_of from to r other) m x ≡ placed from to r other) (sym same) (comes_at from to r other apart x))
-        (subst (λ (y : Item). IsFair (is_moved (whole_rule from r)) (record { old = y; new = placed from to r other })) item (fair_at from to r other))
+        fair_by (beside from to r other) (subst (λ (m : ℕ). instead (changes_of from to r other) m x ≡ beside from to r other) (sym same) (comes_at from to r other apart x))
+        (subst (λ (y : Item). IsFair (is_moved (whole_rule from r)) (record { old = y; new = beside from to r other })) item (fair_at from to r other))
     which false f false g =
         fair_by (x ∷ []) (stays_at from to r other i x (λ e. false≢true (sym f ∙ (Decides-eqb i from).1 e)) (λ e. false≢true (sym g ∙ (Decides-eqb i to).1 e))) (same_fair (is_moved (whole_rule from r)) x)
 
@@ -176,8 +176,8 @@ stands_from items n r p at moved =
     (place, record { rule = r; decl = d.1; rule_at = at; selector_in = w.0; decl_at = d.2; decl_is = d.3 }, or_left (n == n) false ((Decides-eqb n n).1 refl))
 
 -- the rule stands in its new place
-has_placed : (from to : ℕ) (r : RuleParts) (other : Item) (p : Pair) → InRule r p → HasPair (placed from to r other) p
-has_placed from to r other p h =
+has_beside : (from to : ℕ) (r : RuleParts) (other : Item) (p : Pair) → InRule r p → HasPair (beside from to r other) p
+has_beside from to r other p h =
     cond_both (nat_lt from to) (other ∷ Rule r ∷ []) (Rule r ∷ other ∷ []) (λ xs. HasPair xs p)
     (λ before. (has_append (other ∷ []) (Rule r ∷ []) p).1 (inr ((has_rule r p).1 h)))
     (λ behind. (has_append (Rule r ∷ []) (other ∷ []) p).1 (inl ((has_rule r p).1 h)))
@@ -196,7 +196,7 @@ moving_rearranges items from to r other at at' apart = (
     there : (p : Pair) → InRule r p → HasPair (instead (changes_of from to r other) (0 + to) other) p
     there p h =
         let e : to ≡ 0 + to = omega arith in
-        subst (λ (m : ℕ). HasPair (instead (changes_of from to r other) m other) p) e (subst (λ (xs : List Item). HasPair xs p) (sym (comes_at from to r other apart other)) (has_placed from to r other p h))
+        subst (λ (m : ℕ). HasPair (instead (changes_of from to r other) m other) p) e (subst (λ (xs : List Item). HasPair xs p) (sym (comes_at from to r other apart other)) (has_beside from to r other p h))
 
 pub moving_apart_keeps : RelatingIsDecided → (source : List ℕ) (items : List Item) (from to : ℕ) (r : RuleParts) (other : Item) → slice_get items from ≡ Some (Rule r) → slice_get items to ≡ Some other → from ≢ to →
     All (λ x. IsApart x.moved.pair x.other) (reversed items (item_moved items from to (Rule r)) (whole_rule from r)) → Keeps source items source (item_moved items from to (Rule r))

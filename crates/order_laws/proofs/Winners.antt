@@ -28,7 +28,7 @@ use Rattle.order_laws.proofs.BestApplied.{IsBest, is_best, Level, level}
 
 -- ---- The best of both sheets
 
--- names of understood entries are related
+-- names of understood declarations are related
 names_related : (us : List Understood) (e f : AppliedDeclaration) → AreRelated us → is_understood us e ≡ true → is_understood us f ≡ true → Related e.decl.name f.decl.name
 names_related us e f related u v =
     related (record { name = e.decl.name; value = e.decl.value }) (record { name = f.decl.name; value = f.decl.value }) (understood-listed us e u) (understood-listed us f v)
