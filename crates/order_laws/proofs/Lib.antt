@@ -5,7 +5,6 @@ mod ComparingTests
 mod EditedItems
 mod ExampleSheets
 mod FairSlots
-pub mod ForCallers
 mod KeepingExamples
 mod KeptNumbers
 mod LastPlaces
@@ -14,6 +13,7 @@ mod MovingRules
 mod PlaceOrder
 mod Rearranging
 mod ReversedExamples
+mod ReversedKeys
 mod ReversedList
 mod ReversedOrder
 mod RulePairs
@@ -21,3 +21,4 @@ mod RulePlaces
 mod SheetPlaces
 mod SlotLemmas
 mod Winners
+pub mod ForCallers

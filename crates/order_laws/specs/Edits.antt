@@ -43,7 +43,8 @@ instead (c ∷ changes) n item = if c.at == n then c.by else instead changes n i
 -- the slots of the items, the first of which has this number
 abbrev pub slots_from : ℕ → List Change → List Item → List Slot
 slots_from n changes [] = []
-slots_from n changes (item ∷ items) = record { old = item; new = instead changes n item } ∷ slots_from (n + 1) changes items
+slots_from n changes (item ∷ items) =
+    record { old = item; new = instead changes n item } ∷ slots_from (n + 1) changes items
 
 abbrev pub slots_of : Edit → List Item → List Slot
 slots_of e items = slots_from 0 e.changes items

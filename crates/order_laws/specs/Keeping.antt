@@ -26,7 +26,8 @@ EachSheetKeepsItself = (source : List ℕ) (items : List Item) → Keeps source 
 
 -- a sheet is kept by each one that it keeps
 abbrev pub KeepingIsMutual : Type 0
-KeepingIsMutual = (source source' : List ℕ) (items items' : List Item) → Keeps source items source' items' → Keeps source' items' source items
+KeepingIsMutual = (source source' : List ℕ) (items items' : List Item) →
+    Keeps source items source' items' → Keeps source' items' source items
 
 -- what keeps a sheet that keeps another one keeps this one too
 abbrev pub KeepingGoesOn : Type 0

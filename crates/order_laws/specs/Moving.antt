@@ -16,7 +16,10 @@ item_moved items from to item = insert (remove items from) to item
 -- a rule of number `from` that is moved to `other`, the item of number `to`, as an edit
 abbrev pub moving : ℕ → ℕ → RuleParts → Item → Edit
 moving from to r other = record {
-  changes = record { at = from; by = [] } ∷ record { at = to; by = if nat_lt from to then other ∷ Rule r ∷ [] else Rule r ∷ other ∷ [] } ∷ [];
+  changes =
+      record { at = from; by = [] }
+      ∷ record { at = to; by = if nat_lt from to then other ∷ Rule r ∷ [] else Rule r ∷ other ∷ [] }
+      ∷ [];
   moved = whole_rule from r;
 }
 
@@ -24,7 +27,8 @@ moving from to r other = record {
 abbrev pub MovingRearranges : Type 0
 MovingRearranges = (items : List Item) (from to : ℕ) (r : RuleParts) (other : Item) →
     slice_get items from ≡ Some (Rule r) → slice_get items to ≡ Some other → from ≢ to →
-    IsRearrangement items (moving from to r other) × (edited (moving from to r other) items ≡ item_moved items from to (Rule r))
+    IsRearrangement items (moving from to r other)
+    × (edited (moving from to r other) items ≡ item_moved items from to (Rule r))
 
 -- A rule may be moved, and the sheet is kept, where all that it reverses is pairs that do not meet.
 abbrev pub MovingApartKeeps : Type 0

@@ -41,23 +41,29 @@ pub record StandsLast (counts : ℕ → Bool) (items : List Item) (x : PlacedPai
   pub selector_first : (i : ℕ) → slice_get (selectors_of rule) i ≡ Some x.pair.selector → x.place.selector ≤ i
   pub decl_at : slice_get rule.decls x.place.decl ≡ Some item
   pub decl_is : item.decl ≡ x.pair.decl
-  pub last : (other : Place) → IsPairAt items x.pair other → IsTrue (counts other.item) → IsLater other (place_of x.place) → ⊥
+  pub last : (other : Place) → IsPairAt items x.pair other → IsTrue (counts other.item) →
+      IsLater other (place_of x.place) → ⊥
 
 -- ---- As a list
 
 -- the selectors of a rule with their numbers, the first of which is given: of equal ones the first
 abbrev pub first_selectors : ℕ → List SelItem → List (ℕ × SelectorParts)
 first_selectors n [] = []
-first_selectors n (s ∷ selectors) = (n, s.selector) ∷ filter (λ t. not (same_selector t.1 s.selector)) (first_selectors (suc n) selectors)
+first_selectors n (s ∷ selectors) =
+    (n, s.selector) ∷ filter (λ t. not (same_selector t.1 s.selector)) (first_selectors (suc n) selectors)
 
 -- the declarations of a rule with their numbers, the first of which is given: of equal ones the last
 abbrev pub last_decls : ℕ → List DeclItem → List (ℕ × Decl)
 last_decls n [] = []
-last_decls n (d ∷ decls) = if has_decl decls d.decl then last_decls (suc n) decls else (n, d.decl) ∷ last_decls (suc n) decls
+last_decls n (d ∷ decls) =
+    if has_decl decls d.decl then last_decls (suc n) decls else (n, d.decl) ∷ last_decls (suc n) decls
 
 -- a selector and a declaration of the item of this number
 abbrev pub placed : ℕ → ℕ × SelectorParts → ℕ × Decl → PlacedPair
-placed n s d = record { pair = record { selector = s.1; decl = d.1 }; place = record { item = n; selector = s.0; decl = d.0 } }
+placed n s d = record {
+  pair = record { selector = s.1; decl = d.1 };
+  place = record { item = n; selector = s.0; decl = d.0 };
+}
 
 -- the pairs of the item of this number, each once
 abbrev pub pairs_of : ℕ → Item → List PlacedPair
@@ -83,4 +89,5 @@ last_pairs items = last_pairs_from (λ n. true) 0 items
 
 -- the list has exactly the pairs that stand last
 abbrev pub ListedStandsLast : Type 0
-ListedStandsLast = (counts : ℕ → Bool) (items : List Item) (x : PlacedPair) → Contains (last_pairs_from counts 0 items) x ↔ StandsLast counts items x
+ListedStandsLast = (counts : ℕ → Bool) (items : List Item) (x : PlacedPair) →
+    Contains (last_pairs_from counts 0 items) x ↔ StandsLast counts items x

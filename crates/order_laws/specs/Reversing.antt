@@ -28,8 +28,10 @@ pub record ReversesKept (items items' : List Item) (m : Moved) (p : Pair) (numbe
 -- What a rearrangement does not move keeps its order: two pairs, and a pair and a kept item.
 abbrev pub UnmovedKeepTheirOrder : Type 0
 UnmovedKeepTheirOrder = (items : List Item) (e : Edit) → IsRearrangement items e →
-    ((p q : Pair) → is_moved e.moved p ≡ false → is_moved e.moved q ≡ false → IsBefore items p q ↔ IsBefore (edited e items) p q)
-    × ((p : Pair) (number : ℕ) → is_moved e.moved p ≡ false → IsBeforeKept items p number ↔ IsBeforeKept (edited e items) p number)
+    ((p q : Pair) → is_moved e.moved p ≡ false → is_moved e.moved q ≡ false →
+    IsBefore items p q ↔ IsBefore (edited e items) p q)
+    × ((p : Pair) (number : ℕ) → is_moved e.moved p ≡ false →
+    IsBeforeKept items p number ↔ IsBeforeKept (edited e items) p number)
 
 -- The law of steps: a rearrangement that reverses no pairs that meet, and no pair and a kept item, keeps
 -- the sheet.

@@ -14,5 +14,5 @@ pub use keeping::{
 };
 pub use moving::{moving_apart_keeps, moving_rearranges};
 pub use places::listed_stands_last;
-pub use reversed::{listed_ascends, listed_is_reversed, reversing_apart_keeps};
+pub use reversed::{keys_tell_apart, listed_ascends, listed_is_reversed, reversing_apart_keeps};
 pub use reversing::{rearranging_keeps, unmoved_keep_their_order};

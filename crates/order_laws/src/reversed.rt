@@ -1,6 +1,7 @@
 //! What a step reverses, as a list.
 
 ghost use Rattle.order_laws.specs.Reversed.{
+  KeysTellApart,
   ListedAscends,
   ListedIsReversed,
   ReversingApartKeeps,
@@ -21,6 +22,13 @@ pub fn listed_is_reversed()
 pub fn listed_ascends()
     ensures { ListedAscends }
 {}
+
+/// Entries of the list of what is reversed that have one key are one: the keys alone order it.
+pub fn keys_tell_apart()
+    ensures { KeysTellApart }
+{
+    relating_is_decided();
+}
 
 /// A rearrangement that by its list reverses only pairs that do not meet keeps the sheet.
 pub fn reversing_apart_keeps()
