@@ -1,5 +1,5 @@
 -- A rearrangement that reverses nothing that counts keeps the sheet.
-use Rattle.std.proofs.Common.{◌≡◌, ◌≢◌, ◌↔◌, ◌⊎◌, ℕ, ◌<◌, ◌≤◌, Bool, true, false, List, Some, refl, sym, ap, subst, inl, inr, arith}
+use Rattle.std.proofs.Common.{◌≡◌, ◌≢◌, ◌↔◌, ◌⊎◌, ℕ, ◌<◌, ◌≤◌, Bool, true, false, List, Some, refl, sym, ap, ◌∙◌, subst, inl, inr, arith}
 use Rattle.std.specs.Prelude.{slice_get}
 use Rattle.css_model.specs.declared.sheet.Item.{Item}
 use Rattle.css_model.specs.Cascade.Winner.{Place, IsLater}
@@ -12,7 +12,7 @@ use Rattle.order_laws.proofs.Appended.{last_same}
 use Rattle.order_laws.proofs.EditedItems.{old_same}
 use Rattle.order_laws.proofs.LastPlaces.{last_or_none, last_of}
 use Rattle.order_laws.proofs.PlaceOrder.{which_less, which_later, later_one_way}
-use Rattle.order_laws.proofs.SlotLemmas.{pairs_still, order_still, kept_order_still, fair_slots_keep}
+use Rattle.order_laws.proofs.SlotLemmas.{pairs_still, order_still, kept_order_still, same_kept, fair_slots_keep}
 use Rattle.order_laws.proofs.Winners.{other_places}
 
 -- ---- What can be decided
@@ -55,9 +55,11 @@ kept_or_not items p n = which (last_or_none items p)
 pub unmoved_keep_their_order : (items : List Item) (e : Edit) → IsRearrangement items e →
     ((p q : Pair) → is_moved e.moved p ≡ false → is_moved e.moved q ≡ false → IsBefore items p q ↔ IsBefore (edited e items) p q)
     × ((p : Pair) (number : ℕ) → is_moved e.moved p ≡ false → IsBeforeKept items p number ↔ IsBeforeKept (edited e items) p number)
+    × (kept_items items ≡ kept_items (edited e items))
 unmoved_keep_their_order items e is = (
   λ p q still still'. subst (λ (xs : List Item). IsBefore xs p q ↔ IsBefore (edited e items) p q) (old_same 0 e.changes items) (order_still (is_moved e.moved) (slots_of e items) is.fair p q still still'),
   λ p number still. subst (λ (xs : List Item). IsBeforeKept xs p number ↔ IsBeforeKept (edited e items) p number) (old_same 0 e.changes items) (kept_order_still (is_moved e.moved) (slots_of e items) is.fair p number still),
+  ap kept_items (sym (old_same 0 e.changes items)) ∙ same_kept (is_moved e.moved) (slots_of e items) is.fair,
 )
 
 pub rearranging_keeps : (source : List ℕ) (items : List Item) (e : Edit) → IsRearrangement items e →

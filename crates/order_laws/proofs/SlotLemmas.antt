@@ -137,7 +137,7 @@ kept_order_still moved slots fair p n still = (
     again' : {k : ℕ} → LastBehind (old_items slots) p k → k ≤ n → IsBeforeKept (old_items slots) p n
     again' l h = let e : kept_before l.place.item (old_items slots) ≤ n = omega (arith, l.number, h) in record { place = l.place; stands = l.stands; before = e }
 
-same_kept : (moved : Pair → Bool) (slots : List Slot) → All (IsFair moved) slots → kept_items (old_items slots) ≡ kept_items (new_items slots)
+pub same_kept : (moved : Pair → Bool) (slots : List Slot) → All (IsFair moved) slots → kept_items (old_items slots) ≡ kept_items (new_items slots)
 same_kept moved [] fair = refl
 same_kept moved (s ∷ slots) fair =
     filter-append is_kept (s.old ∷ []) (old_items slots)

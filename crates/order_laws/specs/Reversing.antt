@@ -25,13 +25,14 @@ pub record ReversesKept (items items' : List Item) (m : Moved) (p : Pair) (numbe
   pub weighs : WeighsKept p item
   pub order : Differ (IsBeforeKept items p number) (IsBeforeKept items' p number)
 
--- What a rearrangement does not move keeps its order: two pairs, and a pair and a kept item.
+-- What a rearrangement does not move keeps its order: two pairs, a pair and a kept item, and the kept items.
 abbrev pub UnmovedKeepTheirOrder : Type 0
 UnmovedKeepTheirOrder = (items : List Item) (e : Edit) → IsRearrangement items e →
     ((p q : Pair) → is_moved e.moved p ≡ false → is_moved e.moved q ≡ false →
     IsBefore items p q ↔ IsBefore (edited e items) p q)
     × ((p : Pair) (number : ℕ) → is_moved e.moved p ≡ false →
     IsBeforeKept items p number ↔ IsBeforeKept (edited e items) p number)
+    × (kept_items items ≡ kept_items (edited e items))
 
 -- The law of steps: a rearrangement that reverses no pairs that meet, and no pair and a kept item, keeps
 -- the sheet.

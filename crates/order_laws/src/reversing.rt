@@ -2,7 +2,8 @@
 
 ghost use Rattle.order_laws.specs.Reversing.{RearrangingKeeps, UnmovedKeepTheirOrder};
 
-/// What a rearrangement does not move keeps its order: two pairs, and a pair and a kept item.
+/// What a rearrangement does not move keeps its order: two pairs, a pair and a kept item, and the kept
+/// items among themselves.
 pub fn unmoved_keep_their_order()
     ensures { UnmovedKeepTheirOrder }
 {}
