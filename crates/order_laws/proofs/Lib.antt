@@ -1,0 +1,24 @@
+mod Appended
+mod AppliedPairs
+mod BestApplied
+mod ComparingTests
+mod EditedItems
+mod ExampleSheets
+mod FairSlots
+mod KeepingExamples
+mod KeptNumbers
+mod LastPlaces
+mod Lists
+mod MovingRules
+mod PlaceOrder
+mod Rearranging
+mod ReversedExamples
+mod ReversedKeys
+mod ReversedList
+mod ReversedOrder
+mod RulePairs
+mod RulePlaces
+mod SheetPlaces
+mod SlotLemmas
+mod Winners
+pub mod ForCallers

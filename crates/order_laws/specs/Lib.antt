@@ -1,0 +1,9 @@
+pub mod Comparing
+pub mod Edits
+pub mod Keeping
+pub mod Members
+pub mod Moving
+pub mod Places
+pub mod Reversed
+pub mod Reversing
+pub mod Slots

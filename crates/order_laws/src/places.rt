@@ -1,0 +1,8 @@
+//! Where the pairs of a sheet stand.
+
+ghost use Rattle.order_laws.specs.Places.{ListedStandsLast};
+
+/// The list of last places has exactly the pairs that stand last in the items that count.
+pub fn listed_stands_last()
+    ensures { ListedStandsLast }
+{}
