@@ -1,0 +1,13 @@
+mod Built
+mod Candidates
+mod Decisions
+mod Ends
+mod Inside
+mod LongestDash
+mod Marks
+mod Pieces
+mod Separated
+mod Steps
+mod Tests
+mod Unused
+mod WordPieces

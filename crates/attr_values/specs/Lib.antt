@@ -1,0 +1,4 @@
+pub mod Asked
+pub mod Separators
+pub mod Solved
+pub mod Value
