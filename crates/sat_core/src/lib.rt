@@ -13,3 +13,6 @@ mod verdict;
 pub use laws::ledger_is_short;
 pub use solver::solve;
 pub use verdict::Verdict;
+
+#[cfg(test)]
+mod tests;

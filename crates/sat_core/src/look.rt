@@ -1,3 +1,4 @@
+//! What a clause is under a trail.
 ghost use Rattle.std.specs.Prelude.{◌≡◌, Contains, IsTrue};
 ghost use Rattle.cnf.specs.Lits.{is_below};
 ghost use Rattle.sat_arena.specs.Arena.{indexes, clause_at};

@@ -1,3 +1,4 @@
+//! Unit propagation.
 ghost use Rattle.std.specs.Prelude.{◌≡◌, ◌≤◌, length};
 ghost use Rattle.sat_trail.specs.Trail.{lits};
 ghost use Rattle.sat_core.specs.Numbered.{numbered};

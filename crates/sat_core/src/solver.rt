@@ -1,3 +1,4 @@
+//! The search for a model.
 ghost use Rattle.std.specs.Prelude.{◌≡◌, ◌≢◌, ◌≤◌, ◌<◌, ◌*◌, ◌+◌, ◌^◌, ◌↔◌, ℕ, Some, None, true, false, slice_index_or, length, IsTrue, IfOk, MatchOption};
 ghost use Rattle.cnf.specs.Budgets.{no_limit};
 ghost use Rattle.cnf.specs.Lits.{negation, positive};

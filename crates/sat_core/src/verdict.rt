@@ -1,3 +1,4 @@
+//! What the solver answers.
 use cnf::Ledger;
 
 /// What the solver says of a formula.
