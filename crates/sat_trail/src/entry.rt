@@ -1,3 +1,4 @@
+//! One entry of a trail.
 use cnf::Lit;
 
 /// A literal that is true.

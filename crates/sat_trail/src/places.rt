@@ -1,3 +1,4 @@
+//! The table of the places of entries, and how it grows and shrinks with them.
 ghost use Rattle.std.specs.Prelude.{◌≡◌, ◌+◌, ◌<◌, ◌≤◌, ◌^◌, ℕ, ◌∷◌, [], ◌++◌, length, take, nat_eq, slice_get, slice_set, vec_capacity, IfSome, Some};
 ghost use Rattle.std.specs.List.{IsDistinct};
 ghost use Rattle.sat_trail.specs.Places.{IsPlaced};

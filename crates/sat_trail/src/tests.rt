@@ -1,3 +1,4 @@
+//! What a trail reads back.
 use super::*;
 use cnf::Lit;
 use std::test::Fail;

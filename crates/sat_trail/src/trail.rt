@@ -1,3 +1,4 @@
+//! The trail itself.
 ghost use Rattle.std.specs.Prelude.{◌≡◌, ◌+◌, ◌<◌, ◌≤◌, ◌^◌, ◌↔◌, [], length, slice_get, IsTrue, IfOk, Some, None};
 ghost use Rattle.cnf.specs.Lits.{is_below};
 ghost use Rattle.sat_trail.specs.Places.{place};

@@ -1,0 +1,11 @@
+pub mod ConflictLemmas
+pub mod CountLemmas
+pub mod ForcingLemmas
+pub mod LearnLemmas
+pub mod LedgerLemmas
+pub mod LookLemmas
+pub mod MarkLemmas
+pub mod NumberLemmas
+pub mod ResolveLemmas
+pub mod SolveLemmas
+pub mod StepLemmas

@@ -1,0 +1,6 @@
+use Rattle.std.proofs.Common.{take, IsTrue}
+use Rattle.sat_core.specs.Ledgers.{are_nonempty}
+use Rattle.sat_core.proofs.solver.has_empty.Given as goal
+
+abbrev pub invariant-loop-k : goal.invariant-loop-k
+invariant-loop-k l = IsTrue (are_nonempty (take l.k l.f.clauses))

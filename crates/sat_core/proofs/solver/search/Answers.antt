@@ -1,0 +1,182 @@
+use Rattle.std.proofs.Common.{◌≡◌, ◌≢◌, ℕ, ◌+◌, ◌-◌, ◌*◌, ◌^◌, ◌<◌, ◌≤◌, ◌↔◌, true, false, IsTrue, List, [], ◌∷◌, ◌++◌, length, get_or, None, Some, refl, sym, ap, subst, ◌∙◌, inl, inr, arith, rules}
+use Rattle.std.specs.List.{list_all}
+use Rattle.std.proofs.lemmas.List.{length_push, append-nil}
+use Rattle.std.proofs.lemmas.Bool.{cases_eq, cases_lt, lt-ltb, false≢true}
+use Rattle.cnf.specs.declared.lit.Lit.{Lit}
+use Rattle.cnf.specs.Budgets.{no_limit, IsWithin}
+use Rattle.cnf.specs.Cnf.{Cnf}
+use Rattle.cnf.specs.Lits.{is_below, are_below, positive, negation, variable}
+use Rattle.cnf.specs.Propagation.{IsLedger}
+use Rattle.cnf.proofs.ForCallers.{list_all-append-from}
+use Rattle.sat_arena.specs.Arena.{WatchedClauses}
+use Rattle.sat_trail.specs.declared.entry.Entry.{Entry}
+use Rattle.sat_trail.specs.Trail.{Assignment, lits, value_in}
+use Rattle.sat_trail.proofs.ForCallers.{room-from_open}
+use Rattle.sat_core.specs.Ledgers.{are_nonempty}
+use Rattle.sat_core.specs.Numbered.{numbered, clauses_of}
+use Rattle.sat_core.specs.Search.{IsSearch, IsSound}
+use Rattle.sat_core.specs.Verdict.{Refutes, UsesUp}
+use Rattle.sat_core.proofs.CountLemmas.{short}
+use Rattle.sat_core.proofs.LedgerLemmas.{no_values-from_empty, logged-in_range}
+use Rattle.sat_core.proofs.NumberLemmas.{clauses_of-numbered}
+use Rattle.sat_core.proofs.SolveLemmas.{model, positive-number, open-negation, sound-decide, refutes, kept, shorter}
+use Rattle.sat_core.proofs.solver.search.Goals as goal
+
+-- before anything is known
+started : (f : Cnf) (a : WatchedClauses) (t : Assignment) → clauses_of (numbered a) ≡ f.clauses → a.vars ≡ f.vars → t ≡ record { vars = f.vars; level = 0; entries = [] } → IsTrue (are_nonempty f.clauses) → IsSearch f [] a t
+started f a t cs v e full =
+    rw e (record {
+      same_clauses = cs ∙ sym (append-nil f.clauses);
+      same_vars = v;
+      trail_vars = refl;
+      logged = tt;
+      nonempty_formula = full;
+      nonempty_ledger = refl;
+      sound = record { reasons = tt; rests = λ n b. absurd (omega arith) };
+    })
+
+-- a propagation keeps the state
+propagated : (f : Cnf) (ledger : List (List Lit)) (a : WatchedClauses) (t u : Assignment) → IsSearch f ledger a t → u.vars ≡ t.vars → IsSound (numbered a) u → IsSearch f ledger a u
+propagated f ledger a t u s v sound = record {
+  same_clauses = s.same_clauses;
+  same_vars = s.same_vars;
+  trail_vars = v ∙ s.trail_vars;
+  logged = s.logged;
+  nonempty_formula = s.nonempty_formula;
+  nonempty_ledger = s.nonempty_ledger;
+  sound = sound;
+}
+
+-- the literal that is decided is open
+open_decision : (trail : List Lit) (v : ℕ) (l : Lit) → value_in trail (positive v) ≡ None → l ≡ negation (record { 0 = 2 * v }) → value_in trail l ≡ None
+open_decision trail v l e n =
+    let P : Lit → Type 0 = λ x. value_in trail x ≡ None in subst P (ap negation (positive-number v) ∙ sym n) (open-negation trail (positive v) e)
+
+pub decide-requires-clause-open : goal.decide-requires-clause-open
+decide-requires-clause-open c =
+    open_decision (lits c.propagate-found.new.trail.entries) c.in-Some-next_open.var c.negation.result c.in-Some-next_open.ensures.1 c.negation.ensures.value
+
+-- one more clause within the budget
+one_more : (budget n m : ℕ) → m ≡ n + 1 → ((budget ≢ no_limit) × (budget ≤ n) → ⊥) → IsWithin budget m
+one_more budget n m e h =
+    elim (cases_eq budget no_limit) [
+      | inl q ↦ inl q
+      | inr q ↦ elim (cases_lt n budget) [ inl l ↦ inr (omega arith) | inr l ↦ absurd (h (q, l)) ]
+    ]
+
+pub search-init : goal.search-init
+search-init c =
+    let t = c.in_ok-trail.ensures ∙ ap (λ n. let t : Assignment = record { vars = n; level = 0; entries = [] } in t) c.vars.ensures.value in
+    rw c.new-ledger.ensures.items (record {
+      state = started c.args.f.now c.in_ok-arena.arena c.in_ok-trail.trail (clauses_of-numbered c.in_ok-arena.arena ∙ c.in_ok-arena.ensures.clauses) c.in_ok-arena.ensures.vars t c.requires;
+      seen = search rules;
+      within = inr (omega arith);
+    })
+
+pub returns-in-None-next_open : goal.returns-in-None-next_open
+returns-in-None-next_open c =
+    let s = c.search.invariant.state in
+    let f = c.args.f.now in
+    let t = c.propagate-found.new.trail in
+    let ledger = c.search.ledger.items in
+    let n = c.vars-in-None.ensures.value in
+    let p = c.in-None.ensures in
+    let same_vars : t.vars ≡ c.vars-in-None.result = p.vars ∙ (s.trail_vars ∙ sym n) in
+    let full : (v : ℕ) → v < t.vars → value_in (lits t.entries) (positive v) ≢ None = λ v b. c.in-None-next_open.ensures v (omega arith) in
+    let found = c.in_ok-values-in-None-next_open.ensures in
+    let vals : (v : ℕ) → v < t.vars → (IsTrue (get_or c.in_ok-values-in-None-next_open.field-0.items v false) ↔ (value_in (lits t.entries) (positive v) ≡ Some true)) = λ v b. found.values v (let m = c.vars-in-None-next_open.ensures.value in omega arith) in
+    let P : List (List Lit) → Type 0 = λ cs. IsTrue (list_all (are_below f.vars) cs) in
+    let range = subst P (sym s.same_clauses) (list_all-append-from (are_below f.vars) f.clauses ledger c.vars-in-None.ensures.in_range (logged-in_range f.vars f.clauses ledger s.logged)) in
+    model f ledger (clauses_of (numbered c.search.arena)) t c.in_ok-values-in-None-next_open.field-0.items s.same_clauses (p.vars ∙ s.trail_vars) range c.level-level.ensures.trail p.found full (found.size ∙ c.vars-in-None-next_open.ensures.value) vals
+
+pub search-smaller-in-Some-next_open : goal.search-smaller-in-Some-next_open
+search-smaller-in-Some-next_open c =
+    let s = c.search.invariant.state in
+    let t = c.propagate-found.new.trail in
+    let p = c.in-None.ensures in
+    let n = c.vars-in-None.ensures.value in
+    let x = c.negation.result in
+    let e : Entry = record { lit = x; level = t.level + 1; reason = None } in
+    let below : IsTrue (is_below t.vars x) = lt-ltb (variable x) t.vars (let b = c.in-Some-next_open.ensures.0 in omega (arith, s.trail_vars, p.vars, c.negation.ensures.same_variable)) in
+    let room = room-from_open t.vars t.entries e c.level-level.ensures.trail.in_range c.level-level.ensures.trail.distinct below (open_decision (lits t.entries) c.in-Some-next_open.var x c.in-Some-next_open.ensures.1 c.negation.ensures.value) in
+    let longer = length_push t.entries e in
+    let entries : length c.decide.new.self.entries ≡ length t.entries + 1 = ap (λ (t : Assignment). length t.entries) c.decide.ensures ∙ longer in
+    let fewer : c.args.f.now.vars - length c.decide.new.self.entries < c.args.f.now.vars - length c.search.trail.entries = omega (arith, s.trail_vars, p.vars, p.grows) in
+    let all : (3 ^ c.args.f.now.vars - length c.search.ledger.items) * (c.args.f.now.vars + 1) + (c.args.f.now.vars - length c.decide.new.self.entries) < (3 ^ c.args.f.now.vars - length c.search.ledger.items) * (c.args.f.now.vars + 1) + (c.args.f.now.vars - length c.search.trail.entries) = omega arith in
+    all
+
+pub search-preserved-in-Some-next_open : goal.search-preserved-in-Some-next_open
+search-preserved-in-Some-next_open c =
+    let s = c.search.invariant.state in
+    let t = c.propagate-found.new.trail in
+    let p = c.in-None.ensures in
+    let x = c.negation.result in
+    let sound = sound-decide (numbered c.search.arena) t x c.level-level.ensures.trail p.sound p.found in
+    rw c.decide.ensures (record {
+      state = propagated c.args.f.now c.search.ledger.items c.search.arena c.search.trail (record t { level = t.level + 1; entries = t.entries ++ record { lit = x; level = t.level + 1; reason = None } ∷ [] }) s p.vars sound;
+      seen = c.search.invariant.seen;
+      within = c.search.invariant.within;
+    })
+
+pub returns-then-level-eq0 : goal.returns-then-level-eq0
+returns-then-level-eq0 c =
+    let s = c.search.invariant.state in
+    let t = c.propagate-found.new.trail in
+    let p = c.in-Some.ensures in
+    let all = refutes c.args.f.now c.search.ledger.items c.search.arena t c.args.budget c.in-Some.conflict (propagated c.args.f.now c.search.ledger.items c.search.arena c.search.trail t s p.vars p.sound) c.level-level.ensures.trail (sym c.level-level.ensures.value ∙ c.if-level-eq0.true) p.found c.search.invariant.within in
+    let ledger : c.push.new.self.items ≡ c.search.ledger.items ++ [] ∷ [] = c.in_ok-push-in-Some.ensures.items ∙ ap (λ (l : List Lit). c.search.ledger.items ++ l ∷ []) c.new-then-level-eq0.ensures.items in
+    let P : List (List Lit) → Type 0 = λ l. Refutes c.args.f.now c.args.budget l in
+    record {
+      none = λ vs v. no_values-from_empty c.args.f.now c.search.ledger.items all.logged vs v;
+      by_empty = λ h. absurd (false≢true (sym h ∙ c.requires));
+      by_ledger = λ _. subst P (sym ledger) all;
+    }
+
+pub search-smaller : goal.search-smaller
+search-smaller c =
+    let s = c.search.invariant.state in
+    let v = c.args.f.now.vars in
+    let few = short c.args.f.now c.search.ledger.items s.logged s.nonempty_ledger in
+    let longer : length c.push-in-Some.new.self.items ≡ length c.search.ledger.items + 1 = ap length c.in_ok-push-in-Some-2.ensures.items ∙ length_push c.search.ledger.items c.in_ok-learned-in-Some.learned in
+    let rest : 3 ^ v - length c.push-in-Some.new.self.items ≡ 3 ^ v - length c.search.ledger.items - 1 = omega arith in
+    let less = shorter (3 ^ v - length c.search.ledger.items) v (v - length c.learn.new.trail.entries) (v - length c.search.trail.entries) (omega arith) (omega arith) in
+    let P : ℕ → Type 0 = λ a. a * (v + 1) + (v - length c.learn.new.trail.entries) < (3 ^ v - length c.search.ledger.items) * (v + 1) + (v - length c.search.trail.entries) in
+    subst P (sym rest) less
+
+pub search-preserved : goal.search-preserved
+search-preserved c =
+    let s = c.search.invariant.state in
+    let t = c.propagate-found.new.trail in
+    let p = c.in-Some.ensures in
+    let l = c.in_ok-learned-in-Some.ensures in
+    let learned = c.in_ok-learned-in-Some.learned in
+    let before = propagated c.args.f.now c.search.ledger.items c.search.arena c.search.trail t s p.vars p.sound in
+    let after = kept c.args.f.now c.search.ledger.items c.search.arena c.learn.new.arena t c.learn.new.trail learned before l.logged l.nonempty l.clauses l.arena_vars l.vars l.sound in
+    let pushed : c.push-in-Some.new.self.items ≡ c.search.ledger.items ++ learned ∷ [] = c.in_ok-push-in-Some-2.ensures.items in
+    let longer : length c.push-in-Some.new.self.items ≡ length c.search.ledger.items + 1 = ap length pushed ∙ length_push c.search.ledger.items learned in
+    let P : List (List Lit) → Type 0 = λ l. IsSearch c.args.f.now l c.learn.new.arena c.learn.new.trail in
+    let used : (c.args.budget ≢ no_limit) × (c.args.budget ≤ length c.search.ledger.items) → ⊥ = λ h. false≢true (sym c.if-is_used_up.false ∙ c.is_used_up.ensures.1 (h.0, omega (arith, h.1, c.len.ensures, c.search.ledger.ok))) in
+    record {
+      state = subst P (sym pushed) after;
+      seen = l.seen ∙ (p.vars ∙ s.trail_vars);
+      within = one_more c.args.budget (length c.search.ledger.items) (length c.push-in-Some.new.self.items) longer used;
+    }
+
+spent : (f : Cnf) (ledger : List (List Lit)) (budget : ℕ) → IsTrue (are_nonempty f.clauses) → IsLedger f ledger → IsTrue (are_nonempty ledger) → IsWithin budget (length ledger) → budget ≢ no_limit → budget ≤ length ledger → UsesUp f budget ledger
+spent f ledger budget full_formula logged nonempty (inl q) limited full = absurd (limited q)
+spent f ledger budget full_formula logged nonempty (inr q) limited full =
+    let few = short f ledger logged nonempty in
+    record {
+      limited = limited;
+      nonempty_formula = full_formula;
+      logged = logged;
+      nonempty = nonempty;
+      used_up = omega arith;
+      below = omega arith;
+    }
+
+pub returns-then-is_used_up : goal.returns-then-is_used_up
+returns-then-is_used_up c =
+    let s = c.search.invariant.state in
+    let used = c.is_used_up.ensures.0 c.if-is_used_up.true in
+    spent c.args.f.now c.search.ledger.items c.args.budget c.requires s.logged s.nonempty_ledger c.search.invariant.within used.0 (omega (arith, used.1, c.len.ensures, c.search.ledger.ok))

@@ -1,0 +1,18 @@
+//! A solver of formulas in conjunctive normal form that always decides. It learns a clause from each
+//! conflict, and keeps a ledger of what it learned.
+#![tactic(auto)]
+
+mod analysis;
+mod laws;
+mod learning;
+mod look;
+mod propagation;
+mod solver;
+mod verdict;
+
+pub use laws::ledger_is_short;
+pub use solver::solve;
+pub use verdict::Verdict;
+
+#[cfg(test)]
+mod tests;
