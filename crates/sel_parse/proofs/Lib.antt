@@ -1,0 +1,4 @@
+pub mod ParseLemmas
+pub mod ReadingLemmas
+pub mod TermLemmas
+pub mod TokenLemmas

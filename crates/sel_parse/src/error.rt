@@ -1,0 +1,47 @@
+//! Why a text is no selector of the profile.
+
+ghost use Rattle.std.specs.Prelude.{◌≡◌};
+
+use css_model::Reason;
+use std::alloc::{AllocError, AllocFailed};
+use thiserror::Error;
+
+/// Why a text is no selector of the profile.
+#[derive(Clone, Copy, Debug, PartialEq, Eq, Error)]
+pub enum SelError {
+    /// The text is outside the profile, for the reason of this number.
+    #[error("outside the profile for reason {0}")]
+    Outside(u32),
+    /// There is not enough memory.
+    #[error("out of memory")]
+    NoMemory,
+}
+
+/// The same, by the reason itself.
+#[derive(Clone, Copy, Debug)]
+pub(crate) enum Refusal {
+    /// The text is outside the profile.
+    Outside(Reason),
+    /// There is not enough memory.
+    NoMemory,
+}
+
+impl From<AllocError> for Refusal {
+    ghost use Rattle.sel_parse.specs.declared.error.Refusal.TheVariants.{NoMemory};
+
+    ghost from_gives = { λ _ e. e ≡ NoMemory };
+
+    fn from(_: AllocError) -> Refusal {
+        Refusal::NoMemory
+    }
+}
+
+impl<T: Drop> From<AllocFailed<T>> for Refusal {
+    ghost use Rattle.sel_parse.specs.declared.error.Refusal.TheVariants.{NoMemory};
+
+    ghost from_gives = { λ _ e. e ≡ NoMemory };
+
+    fn from(_: AllocFailed<T>) -> Refusal {
+        Refusal::NoMemory
+    }
+}
