@@ -22,7 +22,9 @@ use Rattle.css_model.specs.Text.Source.{IsWithin}
 use Rattle.css_model.specs.Sheets.Spelling.{lexemes_of}
 use Rattle.css_tokens.specs.Laws.{TokensRestart}
 use Rattle.css_print.specs.Places.{BeginsAt}
-use Rattle.css_print.proofs.Members.{member, all_in, all_take, all_drop, all_filter, all_split, all_items}
+use Rattle.css_print.proofs.Members.{all_items}
+use Rattle.list_facts.proofs.Options.{mapped}
+use Rattle.list_facts.proofs.Elements.{member, all_in, all_take, all_drop, all_filter, all_split}
 use Rattle.css_print.proofs.PieceWords.{lexeme_within}
 
 abbrev Among : List ℕ → Lexeme → Type 0
@@ -53,16 +55,13 @@ entry_among source item entry item_in entry_in =
 begins : (source : List ℕ) (x : Lexeme) (xs : List Lexeme) (at : ℕ) → AllByRecursion (Among source) (x ∷ xs) → (piece_of (x ∷ xs)).start ≡ at → BeginsAt source at
 begins source x xs at all is = record { token = x; among = all.0; begins = is }
 
-pub selector_piece : (o : Option Test) (piece : Piece) (s : SelItem) → option_map (λ test. record { selector = of_one_test test; piece = piece }) o ≡ Some s → piece ≡ s.piece
-selector_piece None piece s is = absurd (cc)
-selector_piece (Some test) piece s is = cc
-
 pub selector_begins : (source : List ℕ) (s : SelItem) → IsSoundSelector source s → BeginsAt source s.piece.start
 selector_begins source s h = which h.part (part_among source h.item h.part h.item_in h.part_in) h.reads
   where
     which : (part : List Lexeme) → AllByRecursion (Among source) part → selector_item source part ≡ Some s → BeginsAt source s.piece.start
     which [] all is = absurd (cc)
-    which (x ∷ xs) all is = begins source x xs s.piece.start all (ap (λ (piece : Piece). piece.start) (selector_piece (simple_of source (x ∷ xs)) (piece_of (x ∷ xs)) s is))
+    which (x ∷ xs) all is = begins source x xs s.piece.start all (ap (λ (s : SelItem). s.piece.start)
+        (mapped (λ (test : Test). record { selector = of_one_test test; piece = piece_of (x ∷ xs) }) (simple_of source (x ∷ xs)) s is).2)
 
 declared_name : (b : Bool) (d e : DeclItem) → cond b (Some d) None ≡ Some e → d.name ≡ e.name
 declared_name true d e is = cc

@@ -14,9 +14,10 @@ use Rattle.css_model.specs.Text.Source.{IsWithin, text_at}
 use Rattle.css_model.specs.Sheets.Spelling.{stands_in, tokens_in, lexemes_of}
 use Rattle.css_model.specs.Text.Tokens.{Stream, stream, tokens, byte_order_mark}
 use Rattle.css_tokens.specs.Laws.{StandsIn, Restarts, TokensRestart}
+use Rattle.css_tokens.proofs.ForCallers.{mark_len}
 use Rattle.css_print.specs.Places.{BeginsAt, words_in}
 use Rattle.css_print.specs.Words.{WordTexts, up_to, solids, words}
-use Rattle.css_print.proofs.Members.{member, all_with}
+use Rattle.list_facts.proofs.Elements.{member, all_with}
 
 le_true : (a b : ℕ) → a ≤ b → nat_le a b ≡ true
 le_true a b h = grind (arith, h)
@@ -159,22 +160,6 @@ found_all source from brackets (t ∷ ts) (low, stands, again, all) = which (is_
           same = first_words source brackets t ts stands again all;
         } in
         rw other (here, all_with (Found source t.span.«end» (after t brackets) ts) (Found source from brackets (t ∷ ts)) (solid_more other) (lexemes_in (after t brackets) ts) (later (after t brackets)))
-
--- a byte order mark has three bytes
-pub mark_len : (source : List ℕ) → starts_with nat_eq source byte_order_mark ≡ true → 3 ≤ length source
-mark_len [] is = absurd (cc)
-mark_len (a ∷ []) is = absurd (two (nat_eq 0xEF a) is)
-  where
-    two : (b : Bool) → (b && false) ≡ true → ⊥
-    two true is = absurd (cc)
-    two false is = absurd (cc)
-mark_len (a ∷ b ∷ []) is = absurd (three (nat_eq 0xEF a) (nat_eq 0xBB b) is)
-  where
-    three : (p q : Bool) → (p && (q && false)) ≡ true → ⊥
-    three true true is = absurd (cc)
-    three true false is = absurd (cc)
-    three false q is = absurd (cc)
-mark_len (a ∷ b ∷ c ∷ cs) is = omega arith
 
 -- the tokens of a sheet
 record SheetTokens (source : List ℕ) (s : Stream) : Type 0 where

@@ -1,15 +1,15 @@
 -- The words of tokens, and what they spell.
 use Rattle.std.proofs.Common.{ℕ, ◌-◌, ◌≤◌, ◌≡◌, Ok, length, drop, arith, Bool, true, false, not, cond, List, [], ◌∷◌, ◌++◌, Option, Some, None, map, refl, sym, ap, ◌∙◌, append_assoc}
-use Rattle.std.specs.Prelude.{nat_le}
+use Rattle.std.specs.Prelude.{nat_le, MatchOption}
 use Rattle.std.specs.List.{AllByRecursion, flat_map}
 use Rattle.std.specs.Option.{is_some}
 use Rattle.std.proofs.lemmas.List.{append-nil, length-drop, length-take-le, take-append-drop}
+use Rattle.css_model.specs.declared.token.Gap.{Gap}
 use Rattle.css_model.specs.declared.token.Lexeme.{Lexeme}
 use Rattle.css_model.specs.declared.token.Token.{Token}
 use Rattle.css_model.specs.Text.Kept.{Solid, solid, between, behind_last, kept}
 use Rattle.css_model.specs.Text.Lexemes.{is_white_kind, gap_of}
 use Rattle.css_model.specs.Text.Source.{text_at}
-use Rattle.css_model.specs.Text.TokenAt.{part_at}
 use Rattle.css_tokens.specs.Laws.{StandsIn, Restarts}
 use Rattle.css_print.specs.Words.{WordTexts, up_to, seen, is_solid, after_white, solids, behind_before, words}
 
@@ -91,13 +91,8 @@ stand_after_white source (t ∷ ts) (first, all) = which (is_white_kind t.kind) 
     which true later = later
     which false later = (first, all)
 
--- the bytes of a token are read as it
-pub token_read : (source : List ℕ) (t : Token) (text : List ℕ) → StandsIn source t → text ≡ text_at source t.span
-    → (old : List ℕ) × (part_at (text ++ old) ≡ Ok (Some t.kind, length text))
-token_read source t text stands is =
-    let n = t.span.«end» - t.span.start in
-    let rest = drop t.span.start source in
-    let fits : n ≤ length rest = omega (arith, stands.inside, length-drop t.span.start source) in
-    let size : length text ≡ n = ap length is ∙ length-take-le n rest fits in
-    let whole : text ++ drop n rest ≡ rest = ap (λ (front : List ℕ). front ++ drop n rest) is ∙ take-append-drop n rest in
-    (drop n rest, ap part_at whole ∙ stands.reads ∙ ap (λ (m : ℕ). Ok (Some t.kind, m)) (sym size))
+-- what stands before a token that was read ahead, or before the end
+pub gap_seen : (ahead : Option Token) (gap : Gap) → MatchOption ahead (gap ≡ gap_of []) (λ (t : Token). (others : List Token) → gap ≡ gap_of (t ∷ others))
+    → (place : ℕ) (others : List Token) → gap ≡ gap_of (seen ahead place others)
+gap_seen None gap is place others = is
+gap_seen (Some t) gap is place others = is (up_to place others)

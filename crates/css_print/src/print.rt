@@ -2,6 +2,7 @@
 
 ghost use Rattle.std.specs.Prelude.{◌≡◌, ◌≤◌, ◌==◌, ◌^◌, ◌-◌, [], if◌then◌else◌, length, map, min, IfOk, OnOk};
 ghost use Rattle.std.specs.List.{AllByRecursion, flat_map, join_with_byte};
+ghost use Rattle.css_model.specs.Sheets.Limits.{max_bytes};
 ghost use Rattle.css_model.specs.Sheets.Printed.{printed_selector, printed_declaration, printed_rule, printed_item, printed};
 ghost use Rattle.css_model.specs.Sheets.Printed as spec;
 ghost use Rattle.css_model.specs.Sheets.Sound.{IsSoundSelector, IsSoundDeclaration, IsSoundRule, IsSoundItem, IsSound};
@@ -18,7 +19,7 @@ use std::alloc::{AllocError, Global};
 
 /// Writes the kept text of a piece.
 fn put_kept<O: Output>(out: &mut O, piece: Piece, source: &[u8]) -> Result<(), O::Error>
-    requires length { length source.now ≤ 1048576 }
+    requires length { length source.now ≤ max_bytes }
     requires begins { BeginsAt source.now piece.start }
     ensures { OnOk result (O.more out.old (kept_text source.now piece) out.new) }
 {
@@ -33,7 +34,7 @@ fn put_kept<O: Output>(out: &mut O, piece: Piece, source: &[u8]) -> Result<(), O
 
 /// Writes the tokens of a selector, with nothing between them.
 fn put_selector<O: Output>(out: &mut O, item: &SelItem, source: &[u8]) -> Result<(), O::Error>
-    requires length { length source.now ≤ 1048576 }
+    requires length { length source.now ≤ max_bytes }
     requires sound { IsSoundSelector source.now item.now }
     ensures { OnOk result (O.more out.old (printed_selector source.now item.now) out.new) }
 {
@@ -71,7 +72,7 @@ fn put_separator<O: Output>(out: &mut O, part: usize, sign: &[u8]) -> Result<(),
 }
 
 fn put_selectors<O: Output>(out: &mut O, items: &[SelItem], source: &[u8]) -> Result<(), O::Error>
-    requires length { length source.now ≤ 1048576 }
+    requires length { length source.now ≤ max_bytes }
     requires sound { AllByRecursion (IsSoundSelector source.now) items.now }
     ensures { OnOk result (O.more out.old (join_with_byte 44 (map (printed_selector source.now) items.now)) out.new) }
 {
@@ -98,7 +99,7 @@ fn put_declarations<O: Output>(
 }
 
 fn put_rule<O: Output>(out: &mut O, rule: &Rule, source: &[u8]) -> Result<(), O::Error>
-    requires length { length source.now ≤ 1048576 }
+    requires length { length source.now ≤ max_bytes }
     requires sound { IsSoundRule source.now rule.now }
     ensures { OnOk result (O.more out.old (printed_rule source.now rule.now) out.new) }
 {
@@ -110,7 +111,7 @@ fn put_rule<O: Output>(out: &mut O, rule: &Rule, source: &[u8]) -> Result<(), O:
 }
 
 fn put_item<O: Output>(out: &mut O, item: &Item, source: &[u8]) -> Result<(), O::Error>
-    requires length { length source.now ≤ 1048576 }
+    requires length { length source.now ≤ max_bytes }
     requires sound { IsSoundItem source.now item.now }
     ensures { OnOk result (O.more out.old (printed_item source.now item.now) out.new) }
 {
@@ -122,7 +123,7 @@ fn put_item<O: Output>(out: &mut O, item: &Item, source: &[u8]) -> Result<(), O:
 }
 
 fn put_items<O: Output>(out: &mut O, items: &[Item], source: &[u8]) -> Result<(), O::Error>
-    requires length { length source.now ≤ 1048576 }
+    requires length { length source.now ≤ max_bytes }
     requires sound { IsSound source.now items.now }
     ensures { OnOk result (O.more out.old (flat_map (printed_item source.now) items.now) out.new) }
 {
@@ -134,7 +135,7 @@ fn put_items<O: Output>(out: &mut O, items: &[Item], source: &[u8]) -> Result<()
 
 /// The tally of the items' texts, with nothing between them.
 fn tally(items: &[Item], source: &[u8]) -> Tally
-    requires length { length source.now ≤ 1048576 }
+    requires length { length source.now ≤ max_bytes }
     requires sound { IsSound source.now items.now }
     ensures { result ≡ tally_of (flat_map (printed_item source.now) items.now) }
 {
@@ -148,7 +149,7 @@ fn tally(items: &[Item], source: &[u8]) -> Tally
 /// The length of the printed text of a sheet that is sound for `source`; of a text that is longer than
 /// `u64::MAX`, that number. Takes no memory.
 pub fn print_len(sheet: &Sheet, source: &[u8]) -> u64
-    requires length { length source.now ≤ 1048576 }
+    requires length { length source.now ≤ max_bytes }
     requires sound { IsSound source.now sheet.now.items }
     ensures { result ≡ min (length (printed source.now sheet.now.items)) (2 ^ 64 - 1) }
 {
@@ -157,7 +158,7 @@ pub fn print_len(sheet: &Sheet, source: &[u8]) -> u64
 
 /// The printed text of a selector: its tokens in `source`, which the item is sound for.
 pub fn print_selector(alloc: Global, item: &SelItem, source: &[u8]) -> Result<Vec<u8>, AllocError>
-    requires length { length source.now ≤ 1048576 }
+    requires length { length source.now ≤ max_bytes }
     requires sound { IsSoundSelector source.now item.now }
     ensures { IfOk result (λ text. text.items ≡ printed_selector source.now item.now) }
 {
@@ -178,7 +179,7 @@ pub fn print_decl(alloc: Global, item: &DeclItem, source: &[u8]) -> Result<Vec<u
 
 /// The printed text of a sheet that is sound for `source`, in a buffer that is made at its length.
 pub fn print_sheet(alloc: Global, sheet: &Sheet, source: &[u8]) -> Result<Vec<u8>, AllocError>
-    requires length { length source.now ≤ 1048576 }
+    requires length { length source.now ≤ max_bytes }
     requires sound { IsSound source.now sheet.now.items }
     ensures { IfOk result (λ text. text.items ≡ printed source.now sheet.now.items) }
 {

@@ -1,16 +1,14 @@
 //! The tokens of a piece of a source, each with what is printed behind it.
 
-ghost use Rattle.std.specs.Prelude.{ℕ, ◌≡◌, ◌≤◌, ◌++◌, if◌then◌else◌, List, length, true, false, Some, Ok};
-ghost use Rattle.css_model.specs.Text.Kept.{gap_text, behind_last, between};
-ghost use Rattle.css_model.specs.Text.Kept as kept;
-ghost use Rattle.css_model.specs.Text.Lexemes.{is_white_kind, gap_of};
-ghost use Rattle.css_model.specs.Text.TokenAt.{part_at};
+ghost use Rattle.std.specs.Prelude.{◌≡◌, ◌≤◌, if◌then◌else◌, length, true};
+ghost use Rattle.css_model.specs.Sheets.Limits.{max_bytes};
+ghost use Rattle.css_model.specs.Text.Kept.{behind_last, between};
 ghost use Rattle.css_tokens.specs.Left as reader;
-ghost use Rattle.css_tokens.specs.Open.{IsRead};
 ghost use Rattle.css_print.specs.Words.{up_to, seen, is_solid, after_white};
 
 use css_model::{Gap, Piece, Token, TokenKind};
-use css_tokens::{Tokens, ends_open, tokens_restart};
+use css_tokens::{Tokens, tokens_restart};
+use verbatim_text::{gap_before, is_white};
 
 /// A token's text, and what is printed behind it.
 #[derive(Clone, Copy, Debug)]
@@ -46,12 +44,6 @@ fn read(tokens: &mut Tokens<'_>, end: u32) -> Option<Token>
     }
 }
 
-fn is_white(kind: TokenKind) -> bool
-    ensures { result ≡ is_white_kind kind }
-{
-    matches!(kind, TokenKind::White)
-}
-
 /// The first token that is no white space: this one, or one of the next.
 fn read_solid(first: Option<Token>, tokens: &mut Tokens<'_>, end: u32) -> Option<Token>
     ensures seen { seen result end (reader.left tokens.new).tokens ≡ after_white (seen first end (reader.left tokens.old).tokens) }
@@ -67,53 +59,15 @@ fn read_solid(first: Option<Token>, tokens: &mut Tokens<'_>, end: u32) -> Option
     None
 }
 
-/// What stands before a token, or before the end of a piece.
-fn gap_before(ahead: Option<Token>) -> Gap
-    ensures { (place : ℕ) (others : List Token) → result ≡ gap_of (seen ahead place others) }
-{
-    match ahead {
-        None => Gap::Nothing,
-        Some(token) => {
-            if is_white(token.kind) {
-                Gap::White
-            } else if token.comment_before {
-                Gap::Comments
-            } else {
-                Gap::Nothing
-            }
-        }
-    }
-}
-
-fn is_lone(kind: TokenKind) -> bool
-    ensures { result ≡ kept.is_lone kind }
-{
-    matches!(kind, TokenKind::Delim(0x5C))
-}
-
-/// What stands for what is behind a token that is no lone backslash.
-fn stand_in(text: &[u8], gap: Gap) -> &'static [u8]
-    ensures { (old : List ℕ) (k : TokenKind) → IsRead text.now old k → result.now ≡ gap_text text.now gap }
-{
-    match gap {
-        Gap::Nothing => b"",
-        Gap::Comments => b"/**/",
-        Gap::White => { if ends_open(text) { b"  " } else { b" " } }
-    }
-}
-
 /// What is printed behind a token, the last one or another.
 fn behind(kind: TokenKind, text: &[u8], gap: Gap, last: bool) -> &'static [u8]
-    requires { is_white_kind kind ≡ false }
-    ensures { (old : List ℕ) → part_at (text.now ++ old) ≡ Ok (Some kind, length text.now) →
-        result.now ≡ (if last then behind_last (record { kind = kind; bytes = text.now; gap = gap }) else between (record { kind = kind; bytes = text.now; gap = gap })) }
+    ensures { result.now ≡ (if last then behind_last (record { kind = kind; bytes = text.now; gap = gap })
+        else between (record { kind = kind; bytes = text.now; gap = gap })) }
 {
-    if is_lone(kind) {
-        b"\n"
-    } else if last {
-        b""
+    if last {
+        verbatim_text::behind_last(kind)
     } else {
-        stand_in(text, gap)
+        verbatim_text::between(kind, text, gap)
     }
 }
 
@@ -123,7 +77,7 @@ impl<'a> Walk<'a> {
 
     /// The tokens of a piece.
     pub(crate) fn new(source: &'a [u8], piece: Piece) -> Walk<'a>
-        requires length { length source.now ≤ 1048576 }
+        requires length { length source.now ≤ max_bytes }
         requires start { piece.start ≤ length source.now }
         ensures left { left result ≡ words_in source.now piece }
         ensures ready { IsReady result }

@@ -1,53 +1,16 @@
-pub mod AlikeLemmas
-pub mod ClosedAgain
-pub mod CommentLemmas
-pub mod CommentParts
-pub mod EndExamples
-pub mod EndsAnywhere
-pub mod EndsLemmas
-pub mod EscapeLemmas
-pub mod FirstBytes
-pub mod Keeps
-pub mod KeptBack
-pub mod KeptExamples
-pub mod KeptParts
-pub mod KeptRows
-pub mod KeptShort
-pub mod KeptTwice
-pub mod LastBytes
-pub mod LawLemmas
-pub mod LexedLemmas
-pub mod LexemeSolids
-pub mod LooksLemmas
-pub mod NamedAgain
-pub mod NamesAgain
-pub mod NearNames
-pub mod NearNumbers
-pub mod NearRules
-pub mod NearTokens
-pub mod NumberRule
-pub mod NumbersAgain
-pub mod OneAnd
-pub mod OpenFront
-pub mod OpenRuns
-pub mod OpenTokens
-pub mod OpenUnits
-pub mod PartFacts
-pub mod PartKinds
-pub mod PartLemmas
-pub mod RestartLemmas
-pub mod RowsAgain
-pub mod RuleBounds
-pub mod RuleLemmas
-pub mod RulesAgain
-pub mod RunLemmas
-pub mod SaidLemmas
-pub mod Shapes
-pub mod SolidFacts
-pub mod StreamLemmas
-pub mod StringLemmas
-pub mod UnitsAgain
-pub mod UrlsAgain
-pub mod Utf8Length
-pub mod WholeCharacters
-pub mod WordsAgain
+mod CommentLemmas
+mod CommentParts
+mod EscapeLemmas
+mod LawLemmas
+mod LexedLemmas
+mod Marks
+mod PartLemmas
+mod RestartLemmas
+mod RuleLemmas
+mod RunLemmas
+mod SaidLemmas
+mod StreamLemmas
+mod StringLemmas
+mod Utf8Length
+mod WholeCharacters
+pub mod ForCallers

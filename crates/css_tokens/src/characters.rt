@@ -74,7 +74,7 @@ pub(crate) fn begins(b: u8, text: &[u8]) -> bool
 
 /// Whether the text begins with a newline.
 pub(crate) fn begins_newline(text: &[u8]) -> bool
-    ensures { result ≡ classes.begins_with classes.is_newline text.now }
+    ensures { result ≡ classes.first_passes classes.is_newline text.now }
 {
     match text {
         [] => false,

@@ -1,11 +1,8 @@
-//! Whether a token ends in an open escape: one of hex digits, to which a white space behind it would belong
+//! Whether a text ends in an open escape: one of hex digits, to which a white space behind it would belong
 //! (CSS Syntax 3, section 4.3.7).
 
-ghost use Rattle.std.specs.Prelude.{◌≡◌, List, ℕ};
-ghost use Rattle.css_model.specs.declared.token.TokenKind.{TokenKind};
-ghost use Rattle.css_model.specs.Text.Kept.{is_open};
-ghost use Rattle.css_tokens.specs.Open.{IsRead};
-ghost use Rattle.css_tokens.specs.OpenEscape as open_escape;
+ghost use Rattle.std.specs.Prelude.{◌≡◌};
+ghost use Rattle.css_model.specs.Text.Kept as kept;
 
 use crate::characters::after;
 use crate::units::escape_after;
@@ -13,7 +10,7 @@ use memchr::memchr;
 
 /// At most six hex digits and nothing else.
 fn is_open_hex(text: &[u8]) -> bool
-    ensures { result ≡ open_escape.is_open_hex 6 text.now }
+    ensures { result ≡ kept.is_open_hex 6 text.now }
 {
     let mut i = 0;
     'digits: while i < 6 && i < text.len() && text[i].is_ascii_hexdigit() {
@@ -24,7 +21,7 @@ fn is_open_hex(text: &[u8]) -> bool
 
 /// What stands behind a backslash is all of an escape to which a white space would belong.
 fn is_open_escape(text: &[u8]) -> bool
-    ensures { result ≡ open_escape.is_open_escape text.now }
+    ensures { result ≡ kept.is_open_escape text.now }
 {
     match text {
         [] => false,
@@ -32,9 +29,10 @@ fn is_open_escape(text: &[u8]) -> bool
     }
 }
 
-/// Whether a text of bytes and escapes ends in an open one.
-fn ends_in_open_escape(text: &[u8]) -> bool
-    ensures { result ≡ open_escape.ends_open text.now }
+/// Whether a text of bytes and escapes ends in an open escape: a white space behind a token of such bytes would
+/// belong to it.
+pub fn ends_open(text: &[u8]) -> bool
+    ensures { result ≡ kept.is_open text.now }
 {
     let mut rest = text;
     'escapes: while let Some(at) = memchr(b'\\', rest) {
@@ -45,12 +43,4 @@ fn ends_in_open_escape(text: &[u8]) -> bool
         rest = after(rest, escape_after(rest).saturating_sub(1));
     }
     false
-}
-
-/// Whether a white space behind this token would belong to it: for a token that is no white space and no lone
-/// backslash, before whatever it was read.
-pub fn ends_open(token: &[u8]) -> bool
-    ensures { (old : List ℕ) (k : TokenKind) → IsRead token.now old k → result ≡ is_open token.now }
-{
-    ends_in_open_escape(token)
 }

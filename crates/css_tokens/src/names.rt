@@ -3,7 +3,6 @@
 ghost use Rattle.std.specs.Prelude.{◌≡◌, ◌≤◌, ◌+◌, ◌++◌, ◌<◌, ◌^◌, ◌*◌, List, ℕ, length, encode_utf8, false, true, MatchOption, IfSome, IfOk, OnOk};
 ghost use Rattle.std.specs.Char.{digit_value, is_ascii_hexdigit};
 ghost use Rattle.std.specs.Str.{IsAscii, chars, str_eq_ignore_ascii_case};
-ghost use Rattle.css_model.specs.Sheets.Declarations as declarations;
 ghost use Rattle.css_model.specs.Text.Source.{IsWithin, text_at};
 ghost use Rattle.css_model.specs.Text.Names as escapes;
 ghost use Rattle.css_tokens.specs.Said.{said_text, IsWide};
@@ -160,7 +159,7 @@ fn spelled<'a>(said: Said, word: &'a [u8]) -> Option<&'a [u8]>
 /// Whether a name is this word of ASCII without ASCII case, once its escapes are read. Takes no memory.
 pub fn is_named(name: &[u8], word: &[u8]) -> bool
     requires { IsAscii word.now }
-    ensures { result ≡ declarations.is_named word.now name.now }
+    ensures { result ≡ escapes.is_named word.now name.now }
 {
     let mut left = word;
     let mut i = 0;

@@ -1,6 +1,7 @@
 //! The tokens of a text, read one at a time.
 
 ghost use Rattle.std.specs.Prelude.{◌≡◌, ◌≤◌, ◌<◌, ◌^◌, ◌↔◌, drop, length, IsOk, IfOk, IfErr};
+ghost use Rattle.css_model.specs.Sheets.Limits.{max_bytes};
 ghost use Rattle.css_model.specs.Text.Tokens as stream;
 
 use crate::rules::part_at;
@@ -47,7 +48,7 @@ impl<'a> Tokens<'a> {
     /// The tokens of a source: that of a whole sheet may begin with a byte order mark, which is skipped;
     /// anywhere else it is an ident code point. Takes no memory.
     pub fn new(source: &'a [u8], sheet: bool) -> Result<Tokens<'a>, NotUtf8>
-        requires { length source.now ≤ 1048576 }
+        requires { length source.now ≤ max_bytes }
         ensures utf8 { IsOk result ↔ IsUtf8 source.now }
         ensures all { IfOk result (λ t. left t ≡ tokens source.now sheet) }
         ensures at { IfErr result (λ e. e.at ≡ utf8_valid_len source.now) }
@@ -70,7 +71,7 @@ impl<'a> Tokens<'a> {
     /// The tokens of a source from a place on: a byte order mark is an ident code point there. Takes no
     /// memory.
     pub fn from_place(source: &'a [u8], at: usize) -> Tokens<'a>
-        requires length { length source.now ≤ 1048576 }
+        requires length { length source.now ≤ max_bytes }
         requires at { at ≤ length source.now }
         ensures { left result ≡ stream.stream at (drop at source.now) }
     {

@@ -137,7 +137,7 @@ fn url_shape(len: usize, text: &[u8]) -> Result<Shape, TokenFlaw>
 }
 
 fn begins_quote(text: &[u8]) -> bool
-    ensures { result ≡ classes.begins_with rules.is_quote text.now }
+    ensures { result ≡ classes.first_passes rules.is_quote text.now }
 {
     match text {
         [] => false,

@@ -10,7 +10,7 @@ use Rattle.css_model.specs.Sheets.Sheet.{sheet_of}
 use Rattle.sheet_laws.specs.Reading.{ReadIsSound}
 use Rattle.css_model.specs.Sheets.Spelling.{AreSame}
 use Rattle.css_model.specs.Sheets.ComesFrom.{ComesFrom}
-use Rattle.css_print.specs.ReadBack.{ReadsBack, IsNoLonger}
+use Rattle.print_laws.specs.Printing.{PrintedReadsBack, PrintedIsNoLonger}
 use Rattle.cssmin.specs.Joining.{JoinsIn, HasNoEqualNeighbours}
 use Rattle.cssmin.specs.Minified.{IsMinified}
 use Rattle.cssmin.proofs.Limits.{within_limits}
@@ -33,7 +33,7 @@ read_comes_from read_is_sound source old new read joins =
     let limits = within_limits source old read in
     joins_come_from source joins.0 old new (read_is_sound source old read) limits.1 limits.2 joins.1
 
-pub sheet_minified : JoiningASetKeepsWinners → PiecesDoNotCount → AlikeWinsAlike → ReadIsSound → ReadsBack → IsNoLonger
+pub sheet_minified : JoiningASetKeepsWinners → PiecesDoNotCount → AlikeWinsAlike → ReadIsSound → PrintedReadsBack → PrintedIsNoLonger
     → (source written : List ℕ) (old new : List Item) → sheet_of source ≡ Ok old → (steps : ℕ) × JoinsIn steps old new → HasNoEqualNeighbours new → written ≡ printed source new → IsMinified source written
 sheet_minified keeps pieces alike read_is_sound reads_back is_no_longer source written old new read joins none_left printed_is =
     let origin = read_comes_from read_is_sound source old new read joins in

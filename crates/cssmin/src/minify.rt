@@ -7,7 +7,8 @@ use crate::join::join_neighbours;
 use css_model::{
     Sheet, alike_wins_alike, joining_a_set_keeps_winners, pieces_do_not_count, read_is_sound,
 };
-use css_print::{is_no_longer, print_sheet, reads_back};
+use css_print::print_sheet;
+use print_laws::{printed_is_no_longer, printed_reads_back};
 use sheet_read::{SheetError, read_sheet};
 use std::alloc::Global;
 
@@ -22,8 +23,8 @@ pub(crate) fn minified(alloc: Global, source: &[u8]) -> Result<Vec<u8>, SheetErr
     pieces_do_not_count();
     alike_wins_alike();
     read_is_sound();
-    reads_back();
-    is_no_longer();
+    printed_reads_back();
+    printed_is_no_longer();
     let sheet = read_sheet(alloc, source)?;
     let items = join_neighbours(alloc, sheet.items)?;
     Ok(print_sheet(alloc, &Sheet { items }, source)?)

@@ -1,1 +1,5 @@
+pub mod ForCallers
+mod Printed
+mod Shown
 mod Soundness
+mod Source

@@ -8,7 +8,7 @@ use Rattle.css_model.specs.Text.Characters.{semicolon}
 use Rattle.css_model.specs.Sheets.Declarations.{is_nested, declaration}
 use Rattle.css_model.specs.Sheets.Items.{block, entries, opens_block, closes_block}
 use Rattle.css_model.specs.Text.Lexemes.{is_sign_at}
-use Rattle.sheet_read.proofs.Places.{all_take, all_drop, all_parts}
+use Rattle.list_facts.proofs.Elements.{all_take, all_drop, all_split}
 use denote.Ref.{Bor}
 
 -- the entries of what is left of a block
@@ -20,7 +20,7 @@ all_block P item each =
     all_take P (position_or_len closes_block (after_first opens_block item)) (after_first opens_block item) (all_drop P (position_or_len opens_block item + 1) item each)
 
 pub all_entries : (P : Lexeme → Type 0) (item : List Lexeme) → AllByRecursion P item → AllByRecursion (AllByRecursion P) (entries item)
-all_entries P item each = all_parts P (is_sign_at semicolon 1) (block item) (all_block P item each)
+all_entries P item each = all_split P (is_sign_at semicolon 1) (block item) (all_block P item each)
 
 -- the declarations that were read before, and those of these entries
 abbrev pub listed : List ℕ → List DeclItem → List (List Lexeme) → Option (List DeclItem)

@@ -43,29 +43,6 @@ rest_none p xs is = sym (drop_all (position_or_len p xs + 1) xs (omega (arith, n
 pub parts_none : {X : Type 0} (p : X → Bool) (xs : List X) → None ≡ position_from p 0 xs → slice_split p xs ≡ xs ∷ []
 parts_none p xs is = slice_split_none p xs (λ k d below. fails_before_first p xs k d (omega (arith, not_found p xs is)))
 
--- what holds of each element holds of each element of a part
-pub all_take : {X : Type 0} (P : X → Type 0) (n : ℕ) (xs : List X) → AllByRecursion P xs → AllByRecursion P (take n xs)
-all_take P zero xs each = tt
-all_take P (suc n) [] each = tt
-all_take P (suc n) (x ∷ xs) each = (each.0, all_take P n xs each.1)
-
-pub all_drop : {X : Type 0} (P : X → Type 0) (n : ℕ) (xs : List X) → AllByRecursion P xs → AllByRecursion P (drop n xs)
-all_drop P zero xs each = each
-all_drop P (suc n) [] each = tt
-all_drop P (suc n) (x ∷ xs) each = all_drop P n xs each.1
-
-all_onto : {X : Type 0} (P : X → Type 0) (x : X) (parts : List (List X)) → P x → AllByRecursion (AllByRecursion P) parts → AllByRecursion (AllByRecursion P) (onto_first x parts)
-all_onto P x [] here each = ((here, tt), tt)
-all_onto P x (part ∷ parts) here each = ((here, each.0), each.1)
-
-pub all_parts : {X : Type 0} (P : X → Type 0) (p : X → Bool) (xs : List X) → AllByRecursion P xs → AllByRecursion (AllByRecursion P) (slice_split p xs)
-all_parts P p [] each = (tt, tt)
-all_parts P p (x ∷ xs) each = which (p x) (all_parts P p xs each.1)
-  where
-    which : (b : Bool) → AllByRecursion (AllByRecursion P) (slice_split p xs) → AllByRecursion (AllByRecursion P) (cond b ([] ∷ slice_split p xs) (onto_first x (slice_split p xs)))
-    which true rest = (tt, rest)
-    which false rest = all_onto P x (slice_split p xs) each.0 rest
-
 -- the piece of lexemes, by the first and the last of them
 last_end : (x last : Lexeme) (xs : List Lexeme) (n : ℕ) → n ≡ length xs → slice_get (x ∷ xs) n ≡ Some last → last.span.«end» ≡ end_of x xs
 last_end x last [] zero size is = cc

@@ -9,7 +9,7 @@ use Rattle.css_model.specs.Sheets.Items.{selector_parts, opens_block}
 use Rattle.css_model.specs.Text.Lexemes.{is_sign_at}
 use Rattle.css_model.specs.Lists.{all_of, before_all}
 use Rattle.css_model.specs.Sheets.Selectors.{selector_item}
-use Rattle.sheet_read.proofs.Places.{all_take, all_parts}
+use Rattle.list_facts.proofs.Elements.{all_take, all_split}
 use denote.Ref.{Bor}
 
 -- the parts of what is left of a prelude
@@ -17,7 +17,7 @@ abbrev pub parts_left : Option (Bor (List Lexeme)) → List (List Lexeme)
 parts_left rest = option_map_or (λ xs. slice_split (is_sign_at comma 0) xs.now) rest []
 
 pub all_selector_parts : (P : Lexeme → Type 0) (item : List Lexeme) → AllByRecursion P item → AllByRecursion (AllByRecursion P) (selector_parts item)
-all_selector_parts P item each = all_parts P (is_sign_at comma 0) (before_first opens_block item) (all_take P (position_or_len opens_block item) item each)
+all_selector_parts P item each = all_split P (is_sign_at comma 0) (before_first opens_block item) (all_take P (position_or_len opens_block item) item each)
 
 -- the selectors that were read before, and those of these parts
 abbrev pub read : List ℕ → List SelItem → List (List Lexeme) → Option (List SelItem)

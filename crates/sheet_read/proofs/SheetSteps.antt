@@ -19,7 +19,8 @@ use Rattle.sheet_read.specs.declared.fault.SheetError.{SheetError}
 use Rattle.sheet_read.specs.declared.fault.SheetError.TheVariants as errors
 use Rattle.sheet_read.specs.Placed.{ArePlaced}
 use Rattle.sheet_read.specs.Reading.{Refuses}
-use Rattle.sheet_read.proofs.Placing.{TokenLaws, placed}
+use Rattle.css_tokens.specs.Laws.{TokensCover}
+use Rattle.sheet_read.proofs.Placing.{placed}
 use Rattle.sheet_read.specs.Steps.{all_tokens, tokens_of, lexemes_of, whole_items, imports_of, items_of, count_imports}
 
 -- faults that were not found stand before others
@@ -57,12 +58,12 @@ tokens_fault source true e f fault ts h = let same : e ≡ f = cc in ap Err same
 tokens_fault source false e f (Some g) ts h = let same : token_fault g ≡ f = cc in ap Err same
 tokens_fault source false e f None ts h = absurd (false≢true (sym (ap is_ok h)))
 
-pub placed_lexemes : TokenLaws → (source : List ℕ) (ts : List Token) (xs : List Lexeme) → tokens_of source ≡ Ok ts → lexemes_of ts ≡ Ok xs → ArePlaced source xs
-placed_lexemes laws source ts xs tokens_are lexemes_are =
+pub placed_lexemes : TokensCover → (source : List ℕ) (ts : List Token) (xs : List Lexeme) → tokens_of source ≡ Ok ts → lexemes_of ts ≡ Ok xs → ArePlaced source xs
+placed_lexemes cover source ts xs tokens_are lexemes_are =
     let all = tokens source true in
     let parts = tokens_parts (nat_lt (utf8_valid_len source) (length source)) (record { kind = NotUtf8; at = utf8_valid_len source }) all.fault all.tokens ts tokens_are in
     let same : lexemes ts ≡ xs = unless_value (fault_of TooDeep (too_deep (lexemes ts)) ∷ fault_of EndInside (unclosed ts) ∷ []) (lexemes ts) xs lexemes_are in
-    subst (ArePlaced source) (ap lexemes parts.2 ∙ same) (placed laws source parts.1)
+    subst (ArePlaced source) (ap lexemes parts.2 ∙ same) (placed cover source parts.1)
 
 not_too_long : (source : List ℕ) → length source ≤ MAX_BYTES
     → sheet_of source ≡ cond (nat_lt (utf8_valid_len source) (length source)) (Err (record { kind = NotUtf8; at = utf8_valid_len source }))

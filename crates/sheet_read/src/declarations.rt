@@ -92,7 +92,7 @@ fn declared(
 ) -> Result<DeclItem, AllocError>
     requires name { IsPlaced source.now name.now }
     requires value { ArePlaced source.now value.now }
-    ensures { IfOk result (λ d. d ≡ block.declared source.now name.now sign.now value.now) }
+    ensures { IfOk result (λ d. d ≡ block.decl_item source.now name.now sign.now value.now) }
 {
     let property = property_of(alloc, decode(alloc, source, &name.span)?)?;
     let custom = is_custom(property.codes());

@@ -2,6 +2,7 @@
 //! sections 4 and 5.4.8).
 
 ghost use Rattle.std.specs.Prelude.{◌≡◌, ◌≤◌, length, reverse, OnOk};
+ghost use Rattle.css_model.specs.Sheets.Limits.{max_bytes};
 ghost use Rattle.css_model.specs.Text.Lexemes as spec;
 ghost use Rattle.css_model.specs.Sheets.Sheet as sheet;
 ghost use Rattle.sheet_read.specs.Reading.{Answers};
@@ -10,10 +11,11 @@ ghost use Rattle.sheet_read.specs.Steps as steps;
 use crate::fault::SheetError;
 use crate::signs::is_sign_of;
 use css_model::{
-    MAX_DEPTH, Bracket, FaultKind, Gap, Lexeme, Piece, SheetFault, Token, TokenFault, TokenKind,
+    Bracket, FaultKind, Gap, Lexeme, MAX_DEPTH, Piece, SheetFault, Token, TokenFault, TokenKind,
 };
 use css_tokens::Tokens;
 use std::alloc::{AllocError, Global};
+use verbatim_text::{gap_before, is_white};
 
 /// A token's fault as the sheet's.
 fn sheet_fault(fault: TokenFault) -> SheetFault
@@ -37,7 +39,7 @@ fn sheet_fault(fault: TokenFault) -> SheetFault
 
 /// The tokens of a sheet.
 pub(crate) fn tokens_of(alloc: Global, source: &[u8]) -> Result<Vec<Token>, SheetError>
-    requires { length source.now ≤ 1048576 }
+    requires { length source.now ≤ max_bytes }
     ensures { Answers (λ tokens. tokens.items) result (steps.tokens_of source.now) }
 {
     let mut reader = match Tokens::new(source, true) {
@@ -59,30 +61,13 @@ pub(crate) fn tokens_of(alloc: Global, source: &[u8]) -> Result<Vec<Token>, Shee
     }
 }
 
-fn is_white(kind: TokenKind) -> bool
-    ensures { result ≡ spec.is_white_kind kind }
-{
-    match kind {
-        TokenKind::White => true,
-        _ => false,
-    }
-}
-
 /// What stands before these tokens.
 fn gap_of(tokens: &[Token]) -> Gap
     ensures { result ≡ spec.gap_of tokens.now }
 {
     match tokens {
-        [] => Gap::Nothing,
-        [token, ..] => {
-            if is_white(token.kind) {
-                Gap::White
-            } else if token.comment_before {
-                Gap::Comments
-            } else {
-                Gap::Nothing
-            }
-        }
+        [] => gap_before(None),
+        [token, ..] => gap_before(Some(*token)),
     }
 }
 

@@ -2,13 +2,14 @@
 
 ghost use Rattle.std.specs.Prelude.{◌≡◌, IfOk};
 ghost use Rattle.css_model.specs.Sheets.Declarations as declarations;
+ghost use Rattle.css_model.specs.Text.Names as spelled;
 
 use css_model::Text;
 use std::alloc::{AllocError, Global};
 
 /// A text in ASCII lower case.
 pub(crate) fn lower(alloc: Global, text: &Text) -> Result<Text, AllocError>
-    ensures { IfOk result (λ t. t ≡ declarations.lower text.now) }
+    ensures { IfOk result (λ t. t ≡ spelled.lower text.now) }
 {
     let codes = text
         .codes()

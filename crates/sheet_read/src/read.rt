@@ -16,10 +16,10 @@ use crate::lexing::{lexemes_of, tokens_of};
 use crate::selectors::selectors;
 use crate::signs::piece_of;
 use css_model::{
-    Decl, DeclItem, FaultKind, MAX_ITEMS, Item, KeptRule, MAX_BYTES, Lexeme, MAX_PAIRS, Piece, Rule, SelItem,
-    Sheet, SheetFault,
+    Decl, DeclItem, FaultKind, Item, KeptRule, Lexeme, MAX_BYTES, MAX_ITEMS, MAX_PAIRS, Piece,
+    Rule, SelItem, Sheet, SheetFault,
 };
-use css_tokens::{is_named, parts_join, parts_read_back, tokens_cover};
+use css_tokens::{is_named, tokens_cover};
 use std::alloc::{AllocError, Global};
 
 /// Why a rule is kept one of whose selectors is not read.
@@ -228,10 +228,8 @@ fn too_many_pairs(items: &[Item]) -> Option<u32>
 pub fn read_sheet(alloc: Global, source: &[u8]) -> Result<Sheet, SheetError>
     ensures { Answers (λ s. s.items) result (sheet_of source.now) }
 {
-    // Laws that the places of the tokens stand on; they do nothing.
+    // A law that the places of the tokens stand on; it does nothing.
     tokens_cover();
-    parts_join();
-    parts_read_back();
     if source.len() > MAX_BYTES as usize {
         return Err(SheetError::Fault(SheetFault {
             kind: FaultKind::TooLong,

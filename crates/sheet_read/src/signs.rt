@@ -3,7 +3,6 @@
 ghost use Rattle.std.specs.Prelude.{◌≡◌, ◌∷◌, ◌<◌, [], length, IfSome};
 ghost use Rattle.std.specs.List.{position_from, before_first, after_first, slice_split, list_any};
 ghost use Rattle.std.specs.Option.{option_map_or};
-ghost use Rattle.css_model.specs.Sheets.Declarations as declarations;
 ghost use Rattle.css_model.specs.Sheets.Items as items;
 ghost use Rattle.css_model.specs.Text.Kept as kept;
 ghost use Rattle.css_model.specs.Text.Lexemes as lexemes;
@@ -22,14 +21,14 @@ pub(crate) fn is_sign_of(sign: u8, kind: TokenKind) -> bool
 
 /// Whether this is an ident.
 pub(crate) fn is_ident(kind: TokenKind) -> bool
-    ensures { result ≡ declarations.is_ident kind }
+    ensures { result ≡ lexemes.is_ident kind }
 {
     matches!(kind, TokenKind::Ident)
 }
 
 /// Whether this is this code point by itself.
 pub(crate) fn is_delim_of(code: u32, kind: TokenKind) -> bool
-    ensures { result ≡ declarations.is_delim_of code kind }
+    ensures { result ≡ lexemes.is_delim_of code kind }
 {
     match kind {
         TokenKind::Delim(c) => c == code,

@@ -1,5 +1,5 @@
 use Rattle.std.proofs.Common.{sym, ◌∙◌}
-use Rattle.css_print.proofs.FrontLemmas.{behind_settled}
+use Rattle.css_print.proofs.Marks.{behind_settled}
 use Rattle.css_print.proofs.tally.+behind.Goals as goal
 
 pub returns-then-is_settled : goal.returns-then-is_settled

@@ -1,5 +1,5 @@
 use Rattle.std.proofs.Common.{◌≡◌, ◌≤◌, ◌-◌, length, drop}
-use Rattle.css_tokens.specs.OpenEscape.{is_open_hex}
+use Rattle.css_model.specs.Text.Kept.{is_open_hex}
 use Rattle.css_tokens.proofs.escapes.is_open_hex.Given as goal
 
 -- the digits that were passed, and what the rest says

@@ -21,7 +21,7 @@ pub returns-clause-ok : goal.returns-clause-ok
 returns-clause-ok c =
     let same = ap (λ (s : SheetParts). s.items) c.sheet.view_is in
     let joins = subst (λ (items : List Item). (steps : ℕ) × JoinsIn steps items c.in_ok-items.items.items) same c.in_ok-items.ensures.joins in
-    sheet_minified c.joining_a_set_keeps_winners.ensures c.pieces_do_not_count.ensures c.alike_wins_alike.ensures c.read_is_sound.ensures c.reads_back.ensures c.is_no_longer.ensures
+    sheet_minified c.joining_a_set_keeps_winners.ensures c.pieces_do_not_count.ensures c.alike_wins_alike.ensures c.read_is_sound.ensures c.printed_reads_back.ensures c.printed_is_no_longer.ensures
     c.args.source.now c.in_ok-print_sheet.field-0.items c.in_ok-sheet.sheet.items c.in_ok-items.items.items c.in_ok-sheet.ensures joins c.in_ok-items.ensures.none_left c.in_ok-print_sheet.ensures
 
 pub returns-in_err-sheet-clause-err : goal.returns-in_err-sheet-clause-err

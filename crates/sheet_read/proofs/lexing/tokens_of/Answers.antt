@@ -4,7 +4,7 @@ use Rattle.std.proofs.lemmas.Bool.{false≢true}
 use Rattle.std.proofs.lemmas.Str.{utf8_valid_len-IsUtf8}
 use Rattle.css_tokens.specs.Left.{left}
 use Rattle.sheet_read.proofs.TokenSteps.{not_utf8, all_read, fault_read}
-use Rattle.css_tokens.proofs.Utf8Length.{not_utf8_longer}
+use Rattle.css_tokens.proofs.ForCallers.{not_utf8_longer}
 use Rattle.sheet_read.proofs.lexing.tokens_of.Goals as goal
 
 pub returns-in-Err : goal.returns-in-Err

@@ -6,7 +6,6 @@ use Rattle.css_model.specs.declared.token.Lexeme.{Lexeme}
 use Rattle.css_model.specs.Sheets.Sheet.{sheet_of, too_many_pairs}
 use Rattle.css_model.specs.Sheets.Fault.{unless, fault_of}
 use Rattle.sheet_read.specs.Steps as steps
-use Rattle.sheet_read.proofs.Placing.{TokenLaws}
 use Rattle.sheet_read.proofs.SheetSteps.{sheet_of_read, sheet_of_fault, lexemes_read, lexemes_fault, imports_read, imports_counted, imports_fault, items_read, items_fault, refused, placed_lexemes}
 use Rattle.sheet_read.proofs.read.read_sheet.Goals as goal
 
@@ -33,8 +32,7 @@ imports_of-requires c =
     let ts = c.in_ok-tokens.tokens.items in
     let xs = c.in_ok-lexemes.lexemes.items in
     let lexed : steps.lexemes_of ts ≡ Ok xs = ap steps.lexemes_of (sym c.as_slice.ensures.value) ∙ c.in_ok-lexemes.ensures in
-    let laws : TokenLaws = record { cover = c.tokens_cover.ensures; join = c.parts_join.ensures; lexed = c.parts_read_back.ensures.lexed } in
-    rw c.as_slice-2.ensures.value (placed_lexemes laws source ts xs c.in_ok-tokens.ensures lexed)
+    rw c.as_slice-2.ensures.value (placed_lexemes c.tokens_cover.ensures source ts xs c.in_ok-tokens.ensures lexed)
 
 pub returns-in_err-imports : goal.returns-in_err-imports
 returns-in_err-imports c =
@@ -56,8 +54,7 @@ items_of-requires-clause-placed c =
     let ts = c.in_ok-tokens.tokens.items in
     let xs = c.in_ok-lexemes.lexemes.items in
     let lexed : steps.lexemes_of ts ≡ Ok xs = ap steps.lexemes_of (sym c.as_slice.ensures.value) ∙ c.in_ok-lexemes.ensures in
-    let laws : TokenLaws = record { cover = c.tokens_cover.ensures; join = c.parts_join.ensures; lexed = c.parts_read_back.ensures.lexed } in
-    rw c.as_slice-3.ensures.value (placed_lexemes laws source ts xs c.in_ok-tokens.ensures lexed)
+    rw c.as_slice-3.ensures.value (placed_lexemes c.tokens_cover.ensures source ts xs c.in_ok-tokens.ensures lexed)
 
 pub items_of-requires-clause-imports : goal.items_of-requires-clause-imports
 items_of-requires-clause-imports c =

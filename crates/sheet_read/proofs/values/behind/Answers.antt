@@ -10,4 +10,8 @@ before_others source x [] gap some is = absurd (omega arith)
 before_others source x (y ∷ ys) gap some is = ap (λ part. text_at source x.span ++ part ++ value_text (map (solid source) (y ∷ ys))) is
 
 pub returns-in_default : goal.returns-in_default
-returns-in_default c = before_others c.args.source.now c.args.x.now c.args.others.now c.between.result.now (omega arith) c.between.ensures
+returns-in_default c =
+    let source = c.args.source.now in
+    let x = c.args.x.now in
+    let here : c.between.result.now ≡ between (solid source x) = rw c.text-bytes.ensures at c.between.ensures in
+    before_others source x c.args.others.now c.between.result.now (omega arith) here

@@ -8,7 +8,7 @@ use Rattle.css_model.specs.Text.Source.{text_at}
 use Rattle.css_tokens.specs.Laws.{StandsIn}
 use Rattle.css_tokens.specs.Left as reader
 use Rattle.css_print.specs.Words.{up_to, seen, is_solid, after_white, solids, words}
-use Rattle.css_print.proofs.WordLemmas.{behind_next, words_first, stand_after_white, token_read}
+use Rattle.css_print.proofs.WordLemmas.{behind_next, words_first, stand_after_white, gap_seen}
 use Rattle.css_print.proofs.walk.Walk.next.Goals as goal
 
 pub returns-clause-word : goal.returns-clause-word
@@ -22,11 +22,11 @@ returns-clause-word c =
     let was : c.args.self.now.ahead ≡ Some token = c.in_ok-token.was in
     let solid : is_solid (Some token) ≡ true = ap is_solid (sym was) ∙ c.requires.solid in
     let is : seen ahead place rest ≡ after_white inside = c.read_solid-self.ensures.seen ∙ ap after_white c.read-next.ensures in
-    let gap : c.gap_before-gap.result ≡ gap_of inside = c.gap_before-gap.ensures place (reader.left c.read-next.new.tokens).tokens ∙ ap gap_of c.read-next.ensures in
+    let gap : c.gap_before-gap.result ≡ gap_of inside =
+    gap_seen c.read-next.result c.gap_before-gap.result c.gap_before-gap.ensures place (reader.left c.read-next.new.tokens).tokens ∙ ap gap_of c.read-next.ensures
+    in
     let of : List ℕ → Gap → Solid = λ bytes gap. record { kind = token.kind; bytes = bytes; gap = gap } in
-    let stands = (subst (λ (o : Option Token). AllByRecursion (StandsIn source) (seen o place (reader.left c.args.self.now.tokens).tokens)) was c.requires.stand).0 in
-    let read = token_read source token c.text-text.result.now stands c.text-text.ensures in
-    let follows = c.behind.ensures read.0 read.1
+    let follows = c.behind.ensures
     ∙ ap (λ (bytes : List ℕ). cond c.is_none.result (behind_last (of bytes c.gap_before-gap.result)) (between (of bytes c.gap_before-gap.result))) c.text-text.ensures
     ∙ ap (λ (gap : Gap). cond c.is_none.result (behind_last (of (text_at source token.span) gap)) (between (of (text_at source token.span) gap))) gap
     ∙ behind_next source (of (text_at source token.span) (gap_of inside)) ahead place rest c.is_none.result c.read_solid-self.ensures.solid c.is_none.ensures in

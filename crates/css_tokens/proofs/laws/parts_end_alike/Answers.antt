@@ -1,6 +1,0 @@
-use Rattle.css_tokens.proofs.RowsAgain.{rows_again}
-use Rattle.css_tokens.proofs.RulesAgain.{part_again}
-use Rattle.css_tokens.proofs.laws.parts_end_alike.Goals as goal
-
-pub returns : goal.returns
-returns c = record { part = part_again; row = rows_again }

@@ -1,0 +1,3 @@
+pub mod Brackets
+pub mod Items
+pub mod Sheet

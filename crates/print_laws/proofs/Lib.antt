@@ -1,0 +1,5 @@
+mod Back
+mod Length
+mod Levels
+mod Source
+mod Tokens

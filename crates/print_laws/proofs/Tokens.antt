@@ -1,0 +1,6 @@
+pub mod Chain
+pub mod Lexed
+pub mod Parts
+pub mod Reads
+pub mod Texts
+pub mod Utf8

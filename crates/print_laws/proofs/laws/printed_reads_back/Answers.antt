@@ -1,0 +1,5 @@
+use Rattle.print_laws.proofs.Back.Sheet.{reads-back}
+use Rattle.print_laws.proofs.laws.printed_reads_back.Goals as goal
+
+pub returns : goal.returns
+returns c = reads-back

@@ -1,0 +1,7 @@
+//! Laws on the printed text of a style sheet: that it is read back, and that it is no longer than its source. They
+//! stand on definitions, and no function that prints needs them.
+#![tactic(auto)]
+
+mod laws;
+
+pub use laws::{printed_is_no_longer, printed_reads_back};

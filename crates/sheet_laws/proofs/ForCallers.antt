@@ -1,0 +1,19 @@
+-- What the crates above cite of the proofs here: what a source that is read gives its items, and how what is printed for
+-- items is read.
+pub use Rattle.sheet_laws.proofs.Printed.Blocks.{IsOfDeclaration}
+pub use Rattle.sheet_laws.proofs.Printed.Faults.{DoFit, IsPrintOf, find_none, sheet_reads_back}
+pub use Rattle.sheet_laws.proofs.Printed.Items.{IsClosedRule, closed_rule, ends_in, ends_with_block, is_ended, is_nil, or_true}
+pub use Rattle.sheet_laws.proofs.Printed.Joins.{StandsIn, stands_behind, stands_inside, stands_whole}
+pub use Rattle.sheet_laws.proofs.Printed.Preludes.{IsOfSelector}
+pub use Rattle.sheet_laws.proofs.Printed.Sheet.{AreInOrder, IsFrom, IsOfItem, ends_itself}
+pub use Rattle.sheet_laws.proofs.Shown.Alike.{AreClosable, IsClosable}
+pub use Rattle.sheet_laws.proofs.Shown.Names.{IsNamed, has_name, is_closable}
+pub use Rattle.sheet_laws.proofs.Shown.Tokens.{Shown, all_shown, closed, colon_gap, declaration_shown, importance_shown, inner, is_before_white, item_shown, joined, kept_shown, last_gap, last_of_item, last_of_value, printed_bytes, rule_shown, selector_shown, selector_token, sheet_shown, shown, sign_shown, value_shown}
+pub use Rattle.sheet_laws.proofs.Shown.Values.{IsShut}
+pub use Rattle.sheet_laws.proofs.Source.Closed.{all_closed}
+pub use Rattle.sheet_laws.proofs.Source.Origins.{HasGoodTokens, declaration_from, kept_from, selector_from, stand_alone_in, value_alone}
+pub use Rattle.sheet_laws.proofs.Source.Parts.{IsPart, each_inside, none_before, split_stands, stands_dropped, stands_taken}
+pub use Rattle.sheet_laws.proofs.Source.Pieces.{AreAscending, stand_alone}
+pub use Rattle.sheet_laws.proofs.Source.Places.{HaveBytes, parts_of_sheet, places_in_order}
+pub use Rattle.sheet_laws.proofs.Source.Raw.{AreRawItems, IsRawItem, raw_stand}
+pub use Rattle.sheet_laws.proofs.Source.Whole.{HasNoFault, in_order, no_map, read_from, tested}

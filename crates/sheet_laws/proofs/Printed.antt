@@ -1,0 +1,11 @@
+pub mod Blocks
+pub mod Contents
+pub mod Entries
+pub mod Faults
+pub mod Items
+pub mod Joins
+pub mod Kept
+pub mod Preludes
+pub mod Rules
+pub mod Selectors
+pub mod Sheet

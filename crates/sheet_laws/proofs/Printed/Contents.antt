@@ -1,0 +1,150 @@
+-- A sheet that is read from what was printed for another says what that one says, and is printed alike.
+use Rattle.std.proofs.Common.{◌≡◌, ℕ, ◌*◌, List, [], ◌∷◌, ◌++◌, length, map, None, refl, ◌∙◌, ap}
+use Rattle.std.specs.List.{AllZip, AllByRecursion, flat_map, join_with_byte, filter, find}
+use Rattle.css_model.specs.declared.sheet.DeclItem.{DeclItem}
+use Rattle.css_model.specs.declared.sheet.Item.{Item}
+use Rattle.css_model.specs.declared.sheet.Item.TheVariants.{Rule, KeptRule, KeptBlock}
+use Rattle.css_model.specs.declared.sheet.Piece.{Piece}
+use Rattle.css_model.specs.declared.sheet.SelItem.{SelItem}
+use Rattle.css_model.specs.declared.token.Lexeme.{Lexeme}
+use Rattle.css_model.specs.Text.Characters.{comma, colon, semicolon, open_curly, close_curly}
+use Rattle.css_model.specs.Sheets.Items.{items, is_whole}
+use Rattle.css_model.specs.Text.Kept.{solid, kept}
+use Rattle.css_model.specs.Sheets.Printed.{printed_selector, importance, printed_declaration, printed_item, behind_mark, printed}
+use Rattle.css_model.specs.Sheets.Sheet.{is_namespace, read_items, pairs_of}
+use Rattle.css_model.specs.Text.Source.{text_at}
+use Rattle.css_model.specs.Sheets.Spelling.{Style, Kept, Block, content, all_content, lexemes_of, tokens_in, kept_text}
+use Rattle.css_model.specs.Sheets.StyleRule.{selectors_of}
+use Rattle.sheet_laws.proofs.Printed.Blocks.{IsDeclarationAgain}
+use Rattle.list_facts.proofs.Zips.{zip_length}
+use Rattle.sheet_laws.proofs.Source.Pieces.{AreAscending, stand_alone}
+use Rattle.sheet_laws.proofs.Printed.Preludes.{IsSelectorAgain}
+use Rattle.sheet_laws.proofs.Printed.Sheet.{IsFrom, AreInOrder, IsKeptAgain, IsAgain, sheet_again}
+use Rattle.sheet_laws.proofs.Shown.Tokens.{shown, sheet_shown}
+
+-- the tokens of a source stand in order
+abbrev pub InOrder : List ℕ → Type 0
+InOrder source = AreAscending 0 (lexemes_of source)
+
+selector_prints : (new old : List ℕ) → InOrder new → (s' s : SelItem) → IsSelectorAgain new old (lexemes_of new) s' s → printed_selector new s' ≡ printed_selector old s
+selector_prints new old order s' s again =
+    ap (λ p. flat_map (λ x. text_at new x.span) (tokens_in new p)) again.stands
+    ∙ ap (flat_map (λ x. text_at new x.span)) (stand_alone 0 (lexemes_of new) again.tokens order again.inside)
+    ∙ again.text
+
+selectors_print : (new old : List ℕ) → InOrder new → (ss' ss : List SelItem) → AllZip (IsSelectorAgain new old (lexemes_of new)) ss' ss
+    → (map (λ s. s.selector) ss' ≡ map (λ s. s.selector) ss) × (map (printed_selector new) ss' ≡ map (printed_selector old) ss)
+selectors_print new old order [] [] z = (refl, refl)
+selectors_print new old order [] (s ∷ ss) z = absurd z
+selectors_print new old order (s' ∷ ss') [] z = absurd z
+selectors_print new old order (s' ∷ ss') (s ∷ ss) z =
+    let rest = selectors_print new old order ss' ss z.1 in (
+      ap (λ t. t ∷ map (λ s. s.selector) ss') z.0.same ∙ ap (λ ts. s.selector ∷ ts) rest.0,
+      ap (λ t. t ∷ map (printed_selector new) ss') (selector_prints new old order s' s z.0) ∙ ap (λ ts. printed_selector old s ∷ ts) rest.1,
+    )
+
+declaration_prints : (new old : List ℕ) (d' d : DeclItem) → IsDeclarationAgain new old d' d → printed_declaration new d' ≡ printed_declaration old d
+declaration_prints new old d' d again =
+    ap (λ t. t ++ colon ∷ d'.decl.value ++ importance d'.decl.important) again.name
+    ∙ ap (λ x. text_at old d.name ++ colon ∷ x.value ++ importance x.important) again.same
+
+declarations_print : (new old : List ℕ) (ds' ds : List DeclItem) → AllZip (IsDeclarationAgain new old) ds' ds
+    → (map (λ d. d.decl) ds' ≡ map (λ d. d.decl) ds) × (map (printed_declaration new) ds' ≡ map (printed_declaration old) ds)
+declarations_print new old [] [] z = (refl, refl)
+declarations_print new old [] (d ∷ ds) z = absurd z
+declarations_print new old (d' ∷ ds') [] z = absurd z
+declarations_print new old (d' ∷ ds') (d ∷ ds) z =
+    let rest = declarations_print new old ds' ds z.1 in (
+      ap (λ t. t ∷ map (λ d. d.decl) ds') z.0.same ∙ ap (λ ts. d.decl ∷ ts) rest.0,
+      ap (λ t. t ∷ map (printed_declaration new) ds') (declaration_prints new old d' d z.0) ∙ ap (λ ts. printed_declaration old d ∷ ts) rest.1,
+    )
+
+kept_says : (new old : List ℕ) → InOrder new → (p' p : Piece) → IsKeptAgain new old (lexemes_of new) p' p → kept_text new p' ≡ kept_text old p
+kept_says new old order p' p again =
+    ap (kept_text new) again.stands
+    ∙ ap (λ xs. kept (map (solid new) xs)) (stand_alone 0 (lexemes_of new) again.tokens order again.inside)
+    ∙ again.text
+
+-- what an item says, and what is printed for it
+record SaysAlike (new old : List ℕ) (item' item : Item) : Type 0 where
+  says : content new item' ≡ content old item
+  prints : printed_item new item' ≡ printed_item old item
+  pairs : pairs_of item' ≡ pairs_of item
+
+item_says : (new old : List ℕ) → InOrder new → (item' item : Item) → IsAgain new old (lexemes_of new) item' item → SaysAlike new old item' item
+item_says new old order (Rule r') (Rule r) again =
+    let selectors = selectors_print new old order r'.selectors r.selectors again.selectors in
+    let decls = declarations_print new old r'.decls r.decls again.decls in
+    record {
+      says =
+          ap (λ ts. Style (record { selectors = ts; decls = map (λ d. d.decl) r'.decls })) selectors.0
+          ∙ ap (λ ts. Style (record { selectors = selectors_of r; decls = ts })) decls.0;
+      prints =
+          ap (λ ts. join_with_byte comma ts ++ open_curly ∷ join_with_byte semicolon (map (printed_declaration new) r'.decls) ++ close_curly ∷ []) selectors.1
+          ∙ ap (λ ts. join_with_byte comma (map (printed_selector old) r.selectors) ++ open_curly ∷ join_with_byte semicolon ts ++ close_curly ∷ []) decls.1;
+      pairs =
+          ap (λ (n : ℕ). n * length r'.decls) (zip_length (IsSelectorAgain new old (lexemes_of new)) r'.selectors r.selectors again.selectors)
+          ∙ ap (λ (n : ℕ). length r.selectors * n) (zip_length (IsDeclarationAgain new old) r'.decls r.decls again.decls);
+    }
+item_says new old order (Rule r') (KeptRule k) again = absurd again
+item_says new old order (Rule r') (KeptBlock p) again = absurd again
+item_says new old order (KeptRule k') (Rule r) again = absurd again
+item_says new old order (KeptRule k') (KeptRule k) again =
+    let text = kept_says new old order k'.piece k.piece again.0 in
+    record {
+      says = ap (λ t. Kept t k'.decls k'.reason) text ∙ ap (λ ds. Kept (kept_text old k.piece) ds k'.reason) again.1 ∙ ap (λ n. Kept (kept_text old k.piece) k.decls n) again.2;
+      prints = text;
+      pairs = refl;
+    }
+item_says new old order (KeptRule k') (KeptBlock p) again = absurd again
+item_says new old order (KeptBlock p') (Rule r) again = absurd again
+item_says new old order (KeptBlock p') (KeptRule k) again = absurd again
+item_says new old order (KeptBlock p') (KeptBlock p) again =
+    let text = kept_says new old order p' p again in
+    record { says = ap Block text; prints = text; pairs = refl }
+
+-- the same of all items of a sheet
+record SayAlike (new old : List ℕ) (its' its : List Item) : Type 0 where
+  says : all_content new its' ≡ all_content old its
+  prints : flat_map (printed_item new) its' ≡ flat_map (printed_item old) its
+  pairs : map pairs_of its' ≡ map pairs_of its
+
+items_say : (new old : List ℕ) → InOrder new → (its' its : List Item) → AllZip (IsAgain new old (lexemes_of new)) its' its → SayAlike new old its' its
+items_say new old order [] [] z = record { says = refl; prints = refl; pairs = refl }
+items_say new old order [] (item ∷ its) z = absurd z
+items_say new old order (item' ∷ its') [] z = absurd z
+items_say new old order (item' ∷ its') (item ∷ its) z =
+    let here = item_says new old order item' item z.0 in
+    let rest = items_say new old order its' its z.1 in
+    record {
+      says = ap (λ t. t ∷ all_content new its') here.says ∙ ap (λ ts. content old item ∷ ts) rest.says;
+      prints = ap (λ t. t ++ flat_map (printed_item new) its') here.prints ∙ ap (λ t. printed_item old item ++ t) rest.prints;
+      pairs = ap (λ (n : ℕ). n ∷ map pairs_of its') here.pairs ∙ ap (λ (ns : List ℕ). pairs_of item ∷ ns) rest.pairs;
+    }
+
+-- a sheet that is read from a text that was printed for another, with its source
+pub record IsReadBack (new old : List ℕ) (its : List Item) : Type 0 where
+  pub raw : List (List Lexeme)
+  pub is_raw : filter is_whole (items (lexemes_of new)) ≡ raw
+  pub no_namespace : find (is_namespace new) raw ≡ None
+  pub read : List Item
+  pub reads : read_items new raw ≡ read
+  pub says : all_content new read ≡ all_content old its
+  pub prints : printed new read ≡ printed old its
+  pub pairs : map pairs_of read ≡ map pairs_of its
+
+pub items_read_back : (new old : List ℕ) (its : List Item) → AllByRecursion (IsFrom old) its → AreInOrder old its → InOrder new
+    → map (shown new) (lexemes_of new) ≡ sheet_shown old its → IsReadBack new old its
+items_read_back new old its sound order ascending e =
+    let again = sheet_again new old (lexemes_of new) its sound order e in
+    let alike = items_say new old ascending again.read its again.each in
+    record {
+      raw = again.raw;
+      is_raw = again.is_raw;
+      no_namespace = again.no_namespace;
+      read = again.read;
+      reads = again.reads;
+      says = alike.says;
+      prints = ap behind_mark alike.prints;
+      pairs = alike.pairs;
+    }

@@ -1,0 +1,356 @@
+-- The items of a printed sheet are read as the items of the sheet.
+use Rattle.std.proofs.Common.{◌≡◌, subst, ℕ, Bool, true, false, List, [], ◌∷◌, ◌++◌, length, drop, map, Option, Some, None, refl, sym, ◌∙◌, ap, arith, append-nil}
+use Rattle.std.specs.Prelude.{⊤, ◌&&◌, ◌||◌, if◌then◌else◌, codes}
+use Rattle.std.specs.List.{cons_option, AllZip, AllByRecursion, filter, find, list_any}
+use Rattle.std.specs.Str.{str_eq_ignore_ascii_case}
+use Rattle.css_model.specs.declared.sheet.Item.{Item}
+use Rattle.css_model.specs.declared.sheet.Item.TheVariants.{Rule, KeptRule, KeptBlock}
+use Rattle.css_model.specs.declared.sheet.Piece.{Piece}
+use Rattle.css_model.specs.declared.sheet.SelItem.{SelItem}
+use Rattle.css_model.specs.declared.token.Lexeme.{Lexeme}
+use Rattle.css_model.specs.declared.token.TokenKind.{TokenKind}
+use Rattle.css_model.specs.declared.token.TokenKind.TheVariants as kind
+use Rattle.css_model.specs.Text.Characters.{open_curly}
+use Rattle.css_model.specs.Text.Names.{is_named}
+use Rattle.css_model.specs.Sheets.Items.{is_at_keyword, item_len, items, is_at_rule, is_whole, opens_block}
+use Rattle.css_model.specs.Text.Kept.{solid, kept}
+use Rattle.css_model.specs.Sheets.KeptRuleParts.{KeptRuleParts}
+use Rattle.css_model.specs.Text.Lexemes.{piece_of}
+use Rattle.css_model.specs.Sheets.Sheet.{is_at_rule_named, is_import, is_namespace, item_of, read_items}
+use Rattle.css_model.specs.Text.Source.{text_at}
+use Rattle.css_model.specs.Sheets.Spelling.{tokens_in, kept_text}
+use Rattle.css_model.specs.Text.Names.{unescaped}
+use Rattle.sheet_laws.proofs.Shown.Alike.{IsLike, AreClosable, name_in, all_shut, item_like}
+use Rattle.sheet_laws.proofs.Printed.Entries.{at_rule_like, sign_like}
+use Rattle.sheet_laws.proofs.Printed.Items.{begins_item, is_ended, ended_item_len, all_of_them, StandAsItems, items_again, ended_like, begins_like, item_len_like}
+use Rattle.sheet_laws.proofs.Printed.Joins.{StandsIn, stands_whole, stands_front, stands_behind, stands_inside}
+use Rattle.sheet_laws.proofs.Printed.Kept.{SameAt, kept_item_same}
+use Rattle.list_facts.proofs.Zips.{AreBoth, cut_at, zip_length, zip_any, zip_map}
+use Rattle.sheet_laws.proofs.Printed.Preludes.{IsSelectorAgain}
+use Rattle.sheet_laws.proofs.Printed.Rules.{IsOfRule, IsRuleAgain, rule_again}
+use Rattle.sheet_laws.proofs.Shown.Tokens.{shown, inner, last_of_item, kept_shown, item_shown, sheet_shown, last_from_shown}
+use Rattle.sheet_laws.proofs.Shown.Values.{kept_same}
+
+-- a kept item, by the tokens in its piece: they are an item of the source
+pub record IsOfItem (source : List ℕ) (piece : Piece) : Type 0 where
+  pub closable : AreClosable source (tokens_in source piece)
+  pub begins : begins_item (tokens_in source piece) ≡ true
+  pub is_item : item_len (tokens_in source piece) ≡ length (tokens_in source piece)
+  pub ended : is_at_rule (tokens_in source piece) ≡ false → is_ended (tokens_in source piece) ≡ true
+  pub is_kept : is_whole (tokens_in source piece) ≡ true
+  pub no_namespace : is_namespace source (tokens_in source piece) ≡ false
+  pub stands : piece_of (tokens_in source piece) ≡ piece
+
+-- an item that is one of a source, or a rule of parts of it
+abbrev pub IsFrom : List ℕ → Item → Type 0
+IsFrom source (Rule r) = IsOfRule source r
+IsFrom source (KeptRule k) = IsOfItem source k.piece
+IsFrom source (KeptBlock piece) = IsOfItem source piece
+
+-- an item that is an `@import`
+abbrev pub imports : List ℕ → Item → Bool
+imports source (Rule r) = false
+imports source (KeptRule k) = is_import source (tokens_in source k.piece)
+imports source (KeptBlock piece) = is_import source (tokens_in source piece)
+
+-- an item that ends by itself
+abbrev pub ends_itself : List ℕ → Item → Bool
+ends_itself source (Rule r) = true
+ends_itself source (KeptRule k) = is_ended (tokens_in source k.piece)
+ends_itself source (KeptBlock piece) = is_ended (tokens_in source piece)
+
+-- an item before others, among which an `@import` is or is not: it is kept as it stands, or as it is read
+abbrev pub IsBefore : List ℕ → Bool → Item → Type 0
+IsBefore source import (Rule r) = import ≡ false
+IsBefore source import (KeptRule k) = (import ≡ false) × (item_of source (tokens_in source k.piece) ≡ Some (KeptRule k))
+IsBefore source import (KeptBlock piece) = import ≡ false → item_of source (tokens_in source piece) ≡ Some (KeptBlock piece)
+
+-- an item that others follow ends by itself
+abbrev pub EndsBefore : List ℕ → List Item → Item → Type 0
+EndsBefore source [] item = ⊤
+EndsBefore source (next ∷ rest) item = ends_itself source item ≡ true
+
+-- items in the order of a source: each is as it is read before the others, and only the last may end by the end of the source
+abbrev pub AreInOrder : List ℕ → List Item → Type 0
+AreInOrder source [] = ⊤
+AreInOrder source (item ∷ rest) = IsBefore source (list_any (imports source) rest) item × EndsBefore source rest item × AreInOrder source rest
+
+-- a kept item that is read from tokens of the same kept text
+pub record IsKeptAgain (new old : List ℕ) (whole : List Lexeme) (piece' piece : Piece) : Type 0 where
+  pub tokens : List Lexeme
+  pub inside : StandsIn whole tokens
+  pub stands : piece' ≡ piece_of tokens
+  pub text : kept (map (solid new) tokens) ≡ kept_text old piece
+
+-- an item that is read back
+abbrev pub IsAgain : List ℕ → List ℕ → List Lexeme → Item → Item → Type 0
+IsAgain new old whole (Rule r') (Rule r) = IsRuleAgain new old whole r' r
+IsAgain new old whole (Rule r') (KeptRule k) = ⊥
+IsAgain new old whole (Rule r') (KeptBlock piece) = ⊥
+IsAgain new old whole (KeptRule k') (Rule r) = ⊥
+IsAgain new old whole (KeptRule k') (KeptRule k) = IsKeptAgain new old whole k'.piece k.piece × (k'.decls ≡ k.decls) × (k'.reason ≡ k.reason)
+IsAgain new old whole (KeptRule k') (KeptBlock piece) = ⊥
+IsAgain new old whole (KeptBlock piece') (Rule r) = ⊥
+IsAgain new old whole (KeptBlock piece') (KeptRule k) = ⊥
+IsAgain new old whole (KeptBlock piece') (KeptBlock piece) = IsKeptAgain new old whole piece' piece
+
+-- what tokens are read as that are shown as an item's
+record IsReadItem (new old : List ℕ) (ys : List Lexeme) (item : Item) : Type 0 where
+  begins : begins_item ys ≡ true
+  is_item : item_len ys ≡ length ys
+  ended : is_ended ys ≡ ends_itself old item
+  is_kept : is_whole ys ≡ true
+  import : is_import new ys ≡ imports old item
+  no_namespace : is_namespace new ys ≡ false
+  reads : (later : Bool) → IsBefore old later item → (read : Item) × ((if later then Some (KeptBlock (piece_of ys)) else item_of new ys) ≡ Some read) × IsAgain new old ys read item
+
+named_in : (k : TokenKind) (word new old : List ℕ) → unescaped (name_in k new) ≡ unescaped (name_in k old) → (is_at_keyword k && is_named word (drop 1 new)) ≡ (is_at_keyword k && is_named word (drop 1 old))
+named_in kind.AtKeyword word new old e = ap (λ name. str_eq_ignore_ascii_case name word) e
+named_in _ word new old e = refl
+
+at_rule_named_like : (word new old : List ℕ) (ys xs : List Lexeme) → AllZip (IsLike new old) ys xs → is_at_rule_named word new ys ≡ is_at_rule_named word old xs
+at_rule_named_like word new old [] [] z = refl
+at_rule_named_like word new old [] (x ∷ xs) z = absurd z
+at_rule_named_like word new old (y ∷ ys) [] z = absurd z
+at_rule_named_like word new old (y ∷ ys) (x ∷ xs) z =
+    ap (λ k. is_at_keyword k && is_named word (drop 1 (text_at new y.span))) z.0.kind ∙ named_in x.kind word (text_at new y.span) (text_at old x.span) z.0.name
+
+pub not_named : (word source : List ℕ) (ys : List Lexeme) → is_at_rule ys ≡ false → is_at_rule_named word source ys ≡ false
+not_named word source [] qualified = refl
+not_named word source (y ∷ ys) qualified = ap (λ b. b && is_named word (drop 1 (text_at source y.span))) qualified
+
+whole_like : (new old : List ℕ) (ys xs : List Lexeme) → AllZip (IsLike new old) ys xs → is_whole ys ≡ is_whole xs
+whole_like new old ys xs z =
+    ap (λ b. b || list_any opens_block ys) (at_rule_like new old ys xs z)
+    ∙ ap (λ b. is_at_rule xs || b) (zip_any (IsLike new old) opens_block opens_block (sign_like new old open_curly 0) ys xs z)
+
+-- the kept item of a piece
+kept_again : (new old : List ℕ) (ys : List Lexeme) (piece : Piece) → IsOfItem old piece → map (shown new) ys ≡ kept_shown old (tokens_in old piece)
+    → IsKeptAgain new old ys (piece_of ys) piece
+kept_again new old ys piece sound e =
+    record {
+      tokens = ys;
+      inside = stands_whole ys;
+      stands = refl;
+      text = kept_same new old ys (tokens_in old piece) (last_from_shown (shown new) (inner old) (last_of_item old) ys (tokens_in old piece) e) (all_shut old (tokens_in old piece) sound.closable);
+    }
+
+-- what its tokens say, whatever kind of kept item they are
+record IsReadKept (new old : List ℕ) (ys xs : List Lexeme) : Type 0 where
+  begins : begins_item ys ≡ true
+  is_item : item_len ys ≡ length ys
+  ended : is_ended ys ≡ is_ended xs
+  is_kept : is_whole ys ≡ true
+  import : is_import new ys ≡ is_import old xs
+  no_namespace : is_namespace new ys ≡ false
+
+kept_facts : (new old : List ℕ) (ys : List Lexeme) (piece : Piece) → IsOfItem old piece → map (shown new) ys ≡ kept_shown old (tokens_in old piece) → IsReadKept new old ys (tokens_in old piece)
+kept_facts new old ys piece sound e =
+    let xs = tokens_in old piece in
+    let like : AllZip (IsLike new old) ys xs = item_like new old ys xs (last_from_shown (shown new) (inner old) (last_of_item old) ys xs e) sound.closable in
+    record {
+      begins = begins_like new old ys xs like ∙ sound.begins;
+      is_item = item_len_like new old ys xs like ∙ sound.is_item ∙ sym (zip_length (IsLike new old) ys xs like);
+      ended = ended_like new old ys xs like;
+      is_kept = whole_like new old ys xs like ∙ sound.is_kept;
+      import = at_rule_named_like (codes "import") new old ys xs like;
+      no_namespace = at_rule_named_like (codes "namespace") new old ys xs like ∙ sound.no_namespace;
+    }
+
+same_kept : (new old : List ℕ) (ys : List Lexeme) (piece : Piece) → IsOfItem old piece → map (shown new) ys ≡ kept_shown old (tokens_in old piece)
+    → AreBoth (SameAt (piece_of ys) (piece_of (tokens_in old piece))) (item_of new ys) (item_of old (tokens_in old piece))
+same_kept new old ys piece sound e =
+    kept_item_same new old ys (tokens_in old piece) (last_from_shown (shown new) (inner old) (last_of_item old) ys (tokens_in old piece) e) sound.closable sound.ended
+
+kept_rule_reads : (new old : List ℕ) (ys : List Lexeme) (k : KeptRuleParts) (piece : Piece) (read : Option Item) → AreBoth (SameAt (piece_of ys) piece) read (Some (KeptRule k))
+    → IsKeptAgain new old ys (piece_of ys) k.piece → (item : Item) × (read ≡ Some item) × IsAgain new old ys item (KeptRule k)
+kept_rule_reads new old ys k piece None same kept = absurd same
+kept_rule_reads new old ys k piece (Some (Rule r')) same kept = absurd same
+kept_rule_reads new old ys k piece (Some (KeptBlock p')) same kept = absurd same
+kept_rule_reads new old ys k piece (Some (KeptRule k')) same kept =
+    (KeptRule k', refl, (subst (λ p. IsKeptAgain new old ys p k.piece) (sym same.0) kept, same.2, same.3))
+
+kept_block_reads : (new old : List ℕ) (ys : List Lexeme) (p piece : Piece) (read : Option Item) → AreBoth (SameAt (piece_of ys) piece) read (Some (KeptBlock p))
+    → IsKeptAgain new old ys (piece_of ys) p → (item : Item) × (read ≡ Some item) × IsAgain new old ys item (KeptBlock p)
+kept_block_reads new old ys p piece None same kept = absurd same
+kept_block_reads new old ys p piece (Some (Rule r')) same kept = absurd same
+kept_block_reads new old ys p piece (Some (KeptRule k')) same kept = absurd same
+kept_block_reads new old ys p piece (Some (KeptBlock p')) same kept = (KeptBlock p', refl, subst (λ p'. IsKeptAgain new old ys p' p) (sym same.0) kept)
+
+item_again : (new old : List ℕ) (ys : List Lexeme) (item : Item) → IsFrom old item → map (shown new) ys ≡ item_shown old item → IsReadItem new old ys item
+item_again new old ys (Rule r) sound e =
+    let again = rule_again new old ys r sound e in
+    record {
+      begins = again.begins;
+      is_item = ap item_len (sym (append-nil ys)) ∙ ended_item_len ys [] again.ended;
+      ended = again.ended;
+      is_kept = again.whole;
+      import = not_named (codes "import") new ys again.qualified;
+      no_namespace = not_named (codes "namespace") new ys again.qualified;
+      reads = λ later before. (Rule again.rule, ap (λ b. if b then Some (KeptBlock (piece_of ys)) else item_of new ys) before ∙ again.reads, again.again);
+    }
+item_again new old ys (KeptRule k) sound e =
+    let facts = kept_facts new old ys k.piece sound e in
+    record {
+      begins = facts.begins;
+      is_item = facts.is_item;
+      ended = facts.ended;
+      is_kept = facts.is_kept;
+      import = facts.import;
+      no_namespace = facts.no_namespace;
+      reads = reads;
+    }
+  where
+    reads : (later : Bool) → IsBefore old later (KeptRule k) → (read : Item) × ((if later then Some (KeptBlock (piece_of ys)) else item_of new ys) ≡ Some read) × IsAgain new old ys read (KeptRule k)
+    reads later before =
+        let same = subst (λ m. AreBoth (SameAt (piece_of ys) (piece_of (tokens_in old k.piece))) (item_of new ys) m) before.1 (same_kept new old ys k.piece sound e) in
+        let got = kept_rule_reads new old ys k (piece_of (tokens_in old k.piece)) (item_of new ys) same (kept_again new old ys k.piece sound e) in
+        (got.0, ap (λ b. if b then Some (KeptBlock (piece_of ys)) else item_of new ys) before.0 ∙ got.1, got.2)
+item_again new old ys (KeptBlock p) sound e =
+    let facts = kept_facts new old ys p sound e in
+    record {
+      begins = facts.begins;
+      is_item = facts.is_item;
+      ended = facts.ended;
+      is_kept = facts.is_kept;
+      import = facts.import;
+      no_namespace = facts.no_namespace;
+      reads = reads;
+    }
+  where
+    reads : (later : Bool) → IsBefore old later (KeptBlock p) → (read : Item) × ((if later then Some (KeptBlock (piece_of ys)) else item_of new ys) ≡ Some read) × IsAgain new old ys read (KeptBlock p)
+    reads true before = (KeptBlock (piece_of ys), refl, kept_again new old ys p sound e)
+    reads false before =
+        let same = subst (λ m. AreBoth (SameAt (piece_of ys) (piece_of (tokens_in old p))) (item_of new ys) m) (before refl) (same_kept new old ys p sound e) in
+        kept_block_reads new old ys p (piece_of (tokens_in old p)) (item_of new ys) same (kept_again new old ys p sound e)
+
+-- tokens that are shown as a sheet's, cut into those of its items
+record AreCutItems (new old : List ℕ) (ys : List Lexeme) (its : List Item) : Type 0 where
+  raw : List (List Lexeme)
+  whole : ys ≡ all_of_them raw
+  each : AllZip (λ zs item. IsReadItem new old zs item × StandsIn ys zs) raw its
+
+wider_items : (new old : List ℕ) (outer inner : List Lexeme) (raw : List (List Lexeme)) (its : List Item) → StandsIn outer inner
+    → AllZip (λ zs item. IsReadItem new old zs item × StandsIn inner zs) raw its → AllZip (λ zs item. IsReadItem new old zs item × StandsIn outer zs) raw its
+wider_items new old outer inner [] [] inside z = tt
+wider_items new old outer inner [] (item ∷ its) inside z = absurd z
+wider_items new old outer inner (zs ∷ raw) [] inside z = absurd z
+wider_items new old outer inner (zs ∷ raw) (item ∷ its) inside z = ((z.0.0, stands_inside outer inner zs inside z.0.1), wider_items new old outer inner raw its inside z.1)
+
+cut_items : (new old : List ℕ) (ys : List Lexeme) (its : List Item) → AllByRecursion (IsFrom old) its → map (shown new) ys ≡ sheet_shown old its → AreCutItems new old ys its
+cut_items new old [] [] sound e = record { raw = []; whole = refl; each = tt }
+cut_items new old (y ∷ ys) [] sound e = absurd (omega (arith, ap length e))
+cut_items new old ys (item ∷ its) sound e =
+    let cut = cut_at (shown new) ys (item_shown old item) (sheet_shown old its) e in
+    let rest = cut_items new old cut.lower its sound.1 cut.is_behind in
+    record {
+      raw = cut.upper ∷ rest.raw;
+      whole = cut.whole ∙ ap (λ zs. cut.upper ++ zs) rest.whole;
+      each = (
+        (item_again new old cut.upper item sound.0 cut.is_front, subst (λ zs. StandsIn zs cut.upper) (sym cut.whole) (stands_front cut.upper cut.lower)),
+        wider_items new old ys cut.lower rest.raw its (subst (λ zs. StandsIn zs cut.lower) (sym cut.whole) (stands_behind cut.upper cut.lower)) rest.each,
+      );
+    }
+
+wider_selectors : (new old : List ℕ) (outer inner : List Lexeme) → StandsIn outer inner → (ss' ss : List SelItem) → AllZip (IsSelectorAgain new old inner) ss' ss → AllZip (IsSelectorAgain new old outer) ss' ss
+wider_selectors new old outer inner inside = zip_map (IsSelectorAgain new old inner) (IsSelectorAgain new old outer)
+    (λ s' s again. record { tokens = again.tokens; inside = stands_inside outer inner again.tokens inside again.inside; stands = again.stands; same = again.same; text = again.text })
+
+wider_kept : (new old : List ℕ) (outer inner : List Lexeme) → StandsIn outer inner → (p' p : Piece) → IsKeptAgain new old inner p' p → IsKeptAgain new old outer p' p
+wider_kept new old outer inner inside p' p again =
+    record { tokens = again.tokens; inside = stands_inside outer inner again.tokens inside again.inside; stands = again.stands; text = again.text }
+
+wider_again : (new old : List ℕ) (outer inner : List Lexeme) → StandsIn outer inner → (read item : Item) → IsAgain new old inner read item → IsAgain new old outer read item
+wider_again new old outer inner inside (Rule r') (Rule r) again =
+    record { selectors = wider_selectors new old outer inner inside r'.selectors r.selectors again.selectors; decls = again.decls }
+wider_again new old outer inner inside (Rule r') (KeptRule k) again = absurd again
+wider_again new old outer inner inside (Rule r') (KeptBlock p) again = absurd again
+wider_again new old outer inner inside (KeptRule k') (Rule r) again = absurd again
+wider_again new old outer inner inside (KeptRule k') (KeptRule k) again = (wider_kept new old outer inner inside k'.piece k.piece again.0, again.1, again.2)
+wider_again new old outer inner inside (KeptRule k') (KeptBlock p) again = absurd again
+wider_again new old outer inner inside (KeptBlock p') (Rule r) again = absurd again
+wider_again new old outer inner inside (KeptBlock p') (KeptRule k) again = absurd again
+wider_again new old outer inner inside (KeptBlock p') (KeptBlock p) again = wider_kept new old outer inner inside p' p again
+
+-- tokens of an item among those of a sheet
+abbrev IsRaw : List ℕ → List ℕ → List Lexeme → List Lexeme → Item → Type 0
+IsRaw new old ys zs item = IsReadItem new old zs item × StandsIn ys zs
+
+raw_stand : (new old : List ℕ) (ys : List Lexeme) (raw : List (List Lexeme)) (its : List Item) → AllZip (IsRaw new old ys) raw its → AreInOrder old its → StandAsItems raw
+raw_stand new old ys [] [] z order = tt
+raw_stand new old ys [] (item ∷ its) z order = absurd z
+raw_stand new old ys (zs ∷ raw) [] z order = absurd z
+raw_stand new old ys (zs ∷ []) (item ∷ []) z order = (z.0.0.begins, z.0.0.is_item)
+raw_stand new old ys (zs ∷ []) (item ∷ next ∷ its) z order = absurd z.1
+raw_stand new old ys (zs ∷ later ∷ raw) (item ∷ []) z order = absurd z.1
+raw_stand new old ys (zs ∷ later ∷ raw) (item ∷ next ∷ its) z order =
+    (z.0.0.begins, z.0.0.ended ∙ order.1, raw_stand new old ys (later ∷ raw) (next ∷ its) z.1 order.2)
+
+raw_whole : (new old : List ℕ) (ys : List Lexeme) (raw : List (List Lexeme)) (its : List Item) → AllZip (IsRaw new old ys) raw its → filter is_whole raw ≡ raw
+raw_whole new old ys [] [] z = refl
+raw_whole new old ys [] (item ∷ its) z = absurd z
+raw_whole new old ys (zs ∷ raw) [] z = absurd z
+raw_whole new old ys (zs ∷ raw) (item ∷ its) z =
+    ap (λ b. if b then zs ∷ filter is_whole raw else filter is_whole raw) z.0.0.is_kept ∙ ap (λ rest. zs ∷ rest) (raw_whole new old ys raw its z.1)
+
+raw_names : (new old : List ℕ) (ys : List Lexeme) (raw : List (List Lexeme)) (its : List Item) → AllZip (IsRaw new old ys) raw its → find (is_namespace new) raw ≡ None
+raw_names new old ys [] [] z = refl
+raw_names new old ys [] (item ∷ its) z = absurd z
+raw_names new old ys (zs ∷ raw) [] z = absurd z
+raw_names new old ys (zs ∷ raw) (item ∷ its) z =
+    ap (λ b. if b then Some zs else find (is_namespace new) raw) z.0.0.no_namespace ∙ raw_names new old ys raw its z.1
+
+raw_imports : (new old : List ℕ) (ys : List Lexeme) (raw : List (List Lexeme)) (its : List Item) → AllZip (IsRaw new old ys) raw its → list_any (is_import new) raw ≡ list_any (imports old) its
+raw_imports new old ys = zip_any (IsRaw new old ys) (is_import new) (imports old) (λ zs item r. r.0.import)
+
+record AreRead (new old : List ℕ) (ys : List Lexeme) (raw : List (List Lexeme)) (its : List Item) : Type 0 where
+  read : List Item
+  reads : read_items new raw ≡ read
+  each : AllZip (IsAgain new old ys) read its
+
+read_first : (new old : List ℕ) (ys zs : List Lexeme) (raw : List (List Lexeme)) (item : Item) (its : List Item) → IsRaw new old ys zs item → IsBefore old (list_any (imports old) its) item
+    → list_any (is_import new) raw ≡ list_any (imports old) its → AreRead new old ys raw its → AreRead new old ys (zs ∷ raw) (item ∷ its)
+read_first new old ys zs raw item its r before imported rest =
+    let here = r.0.reads (list_any (imports old) its) before in
+    record {
+      read = here.0 ∷ rest.read;
+      reads =
+          ap (λ b. cons_option (if b then Some (KeptBlock (piece_of zs)) else item_of new zs) (read_items new raw)) imported
+          ∙ ap (λ x. cons_option x (read_items new raw)) here.1
+          ∙ ap (λ xs. here.0 ∷ xs) rest.reads;
+      each = (wider_again new old ys zs r.1 here.0 item here.2, rest.each);
+    }
+
+raw_read : (new old : List ℕ) (ys : List Lexeme) (raw : List (List Lexeme)) (its : List Item) → AllZip (IsRaw new old ys) raw its → AreInOrder old its → AreRead new old ys raw its
+raw_read new old ys [] [] z order = record { read = []; reads = refl; each = tt }
+raw_read new old ys [] (item ∷ its) z order = absurd z
+raw_read new old ys (zs ∷ raw) [] z order = absurd z
+raw_read new old ys (zs ∷ raw) (item ∷ its) z order =
+    read_first new old ys zs raw item its z.0 order.0 (raw_imports new old ys raw its z.1) (raw_read new old ys raw its z.1 order.2)
+
+-- what the tokens of a printed sheet are read as
+pub record IsSheetAgain (new old : List ℕ) (ys : List Lexeme) (its : List Item) : Type 0 where
+  pub raw : List (List Lexeme)
+  pub is_raw : filter is_whole (items ys) ≡ raw
+  pub no_namespace : find (is_namespace new) raw ≡ None
+  pub read : List Item
+  pub reads : read_items new raw ≡ read
+  pub each : AllZip (IsAgain new old ys) read its
+
+-- Tokens that are shown as those of a sheet are read as its items.
+pub sheet_again : (new old : List ℕ) (ys : List Lexeme) (its : List Item) → AllByRecursion (IsFrom old) its → AreInOrder old its → map (shown new) ys ≡ sheet_shown old its
+    → IsSheetAgain new old ys its
+sheet_again new old ys its sound order e =
+    let cut = cut_items new old ys its sound e in
+    let read = raw_read new old ys cut.raw its cut.each order in
+    record {
+      raw = cut.raw;
+      is_raw =
+          ap (λ zs. filter is_whole (items zs)) cut.whole
+          ∙ ap (filter is_whole) (items_again cut.raw (raw_stand new old ys cut.raw its cut.each order))
+          ∙ raw_whole new old ys cut.raw its cut.each;
+      no_namespace = raw_names new old ys cut.raw its cut.each;
+      read = read.read;
+      reads = read.reads;
+      each = read.each;
+    }

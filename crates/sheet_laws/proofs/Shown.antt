@@ -1,0 +1,4 @@
+pub mod Alike
+pub mod Names
+pub mod Tokens
+pub mod Values

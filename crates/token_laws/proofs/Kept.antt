@@ -1,0 +1,5 @@
+pub mod Back
+pub mod Parts
+pub mod Rows
+pub mod Short
+pub mod Twice

@@ -1,0 +1,9 @@
+pub mod Behind
+pub mod Front
+pub mod LastBytes
+pub mod Names
+pub mod Numbers
+pub mod Rules
+pub mod Runs
+pub mod Tokens
+pub mod Units
