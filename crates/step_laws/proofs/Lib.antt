@@ -1,0 +1,4 @@
+mod PartedRules
+mod StepChanges
+mod StepExamples
+mod StepKinds

@@ -1,0 +1,2 @@
+pub mod RuleParting
+pub mod StepEdits
