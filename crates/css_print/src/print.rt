@@ -3,7 +3,7 @@
 ghost use Rattle.std.specs.Prelude.{◌≡◌, ◌≤◌, ◌==◌, ◌^◌, ◌-◌, [], if◌then◌else◌, length, map, min, IfOk, OnOk};
 ghost use Rattle.std.specs.List.{AllByRecursion, flat_map, join_with_byte};
 ghost use Rattle.css_model.specs.Sheets.Limits.{max_bytes};
-ghost use Rattle.css_model.specs.Sheets.Printed.{printed_selector, printed_declaration, printed_rule, printed_item, printed};
+ghost use Rattle.css_model.specs.Sheets.Printed.{printed_selector, printed_declaration, printed_rule, printed_item, printed, behind_mark};
 ghost use Rattle.css_model.specs.Sheets.Printed as spec;
 ghost use Rattle.css_model.specs.Sheets.Sound.{IsSoundSelector, IsSoundDeclaration, IsSoundRule, IsSoundItem, IsSound};
 ghost use Rattle.css_model.specs.Sheets.Spelling.{kept_text};
@@ -16,6 +16,9 @@ use crate::walk::Walk;
 use css_model::{DeclItem, Item, Piece, Rule, SelItem, Sheet};
 use css_tokens::tokens_restart;
 use std::alloc::{AllocError, Global};
+
+/// U+FEFF in UTF-8.
+const BYTE_ORDER_MARK: &[u8] = b"\xEF\xBB\xBF";
 
 /// Writes the kept text of a piece.
 fn put_kept<O: Output>(out: &mut O, piece: Piece, source: &[u8]) -> Result<(), O::Error>
@@ -177,19 +180,27 @@ pub fn print_decl(alloc: Global, item: &DeclItem, source: &[u8]) -> Result<Vec<u
     Ok(out)
 }
 
-/// The printed text of a sheet that is sound for `source`, in a buffer that is made at its length.
+/// Puts a space before a byte order mark at the front of a text: it would be skipped there
+/// (CSS Syntax 3, section 3.2).
+fn put_before_mark(text: &mut Vec<u8>) -> Result<(), AllocError>
+    ensures { OnOk result (text.new.items ≡ behind_mark text.old.items) }
+{
+    if text.starts_with(BYTE_ORDER_MARK) {
+        text.insert(0, b' ')?;
+    }
+    Ok(())
+}
+
+/// The printed text of a sheet that is sound for `source`. Its buffer has the length of the source at first, which
+/// is enough for a sheet as it was read.
 pub fn print_sheet(alloc: Global, sheet: &Sheet, source: &[u8]) -> Result<Vec<u8>, AllocError>
     requires length { length source.now ≤ max_bytes }
     requires sound { IsSound source.now sheet.now.items }
     ensures { IfOk result (λ text. text.items ≡ printed source.now sheet.now.items) }
 {
-    let items = sheet.items.as_slice();
-    let tally = tally(items, source);
-    let mut out = Vec::with_capacity(alloc, tally.len_behind_mark() as usize)?;
-    if tally.begins_with_mark() {
-        out.put(b" ")?;
-    }
-    put_items(&mut out, items, source)?;
+    let mut out = Vec::with_capacity(alloc, source.len())?;
+    put_items(&mut out, sheet.items.as_slice(), source)?;
+    put_before_mark(&mut out)?;
     Ok(out)
 }
 
