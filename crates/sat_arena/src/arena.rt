@@ -50,7 +50,7 @@ impl Arena {
         Ok(arena)
     }
 
-    // An arena without clauses.
+    /// An arena without clauses.
     fn empty(alloc: Global, vars: u32) -> Result<Arena, AllocError>
         requires { vars ≤ 2 ^ 30 }
         ensures vars { IfOk result (λ a. a.vars ≡ vars) }
@@ -193,7 +193,8 @@ impl Arena {
         ensures clauses { self.new.clauses ≡ map (with_watch clause lit to) self.old.clauses }
         ensures to { watch_list self.new to ≡ clause ∷ watch_list self.old to }
         ensures lit { watch_list self.new lit ≡ without clause (watch_list self.old lit) }
-        ensures others { (l : Lit) → l ≢ lit → l ≢ to → watch_list self.new l ≡ watch_list self.old l }
+        ensures others { (l : Lit) → l ≢ lit → l ≢ to
+            → watch_list self.new l ≡ watch_list self.old l }
         ensures arena { IsArena self.new }
     {
         let before = self.before(lit, clause);
@@ -212,13 +213,14 @@ impl Arena {
         ensures clauses { self.new.clauses ≡ map (with_watch clause lit to) self.old.clauses }
         ensures to { watch_list self.new to ≡ clause ∷ watch_list self.old to }
         ensures lit { watch_list self.new lit ≡ without clause (watch_list self.old lit) }
-        ensures others { (l : Lit) → l ≢ lit → l ≢ to → watch_list self.new l ≡ watch_list self.old l }
+        ensures others { (l : Lit) → l ≢ lit → l ≢ to
+            → watch_list self.new l ≡ watch_list self.old l }
         ensures arena { IsArena self.new }
     {
         relink(&mut self.words, &mut self.firsts, lit, before, clause, to);
     }
 
-    // The clause before another in the list of a literal that this watches.
+    /// The clause before another in the list of a literal that this watches.
     fn before(&self, lit: Lit, clause: usize) -> Option<usize>
         requires lit { IsTrue (is_below self.now.vars lit) }
         requires known { Contains (indexes self.now) clause }

@@ -73,7 +73,7 @@ pub(crate) fn relink(
     firsts[to.0 as usize] = clause;
 }
 
-// Takes what stands behind `before` out of the list of a literal, where `next` is behind that.
+/// Takes what stands behind `before` out of the list of a literal, where `next` is behind that.
 fn cut(
     words: &mut Vec<usize>,
     firsts: &mut Vec<usize>,

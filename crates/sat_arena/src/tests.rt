@@ -1,6 +1,5 @@
-ghost use Rattle.std.specs.Prelude.{◌≡◌, ◌+◌, ◌<◌, ◌≤◌, ◌^◌, length, Contains, IsTrue, IfOk};
+ghost use Rattle.std.specs.Prelude.{◌≡◌, IsTrue, IfOk};
 ghost use Rattle.cnf.specs.Lits.{is_below};
-ghost use Rattle.sat_arena.specs.Arena.{indexes, clause_at};
 
 use super::*;
 use cnf::{Formula, Lit};
@@ -52,14 +51,21 @@ fn watching(alloc: Global, arena: &Arena, lit: Lit) -> Result<Vec<usize>, AllocE
     Ok(found)
 }
 
-// Lets a clause watch its k-th literal in place of its first watch, where it watches two others.
-fn rewatch(arena: &mut Arena, clause: usize, k: usize) -> bool
-    requires known { Contains (indexes arena.old) clause }
-    requires in_bounds { k < length (clause_at arena.old clause).lits }
+// Lets the clause at a place watch its k-th literal in place of its first watch, where it has so many
+// and watches two others.
+fn rewatch(arena: &mut Arena, place: usize, k: usize) -> bool
+    ensures { arena.new.vars ≡ arena.old.vars }
 {
+    if place >= arena.len() {
+        return false;
+    }
+    let clause = arena.at(place);
     let (one, other) = arena.watches(clause);
+    if one.0 == other.0 || k >= arena.size(clause) {
+        return false;
+    }
     let to = arena.literal(clause, k);
-    if one.0 == other.0 || to.0 == one.0 || to.0 == other.0 {
+    if to.0 == one.0 || to.0 == other.0 {
         return false;
     }
     arena.move_watch(one, clause, to);
@@ -112,9 +118,9 @@ fn does_a_moved_watch_leave_its_list(rt: HostRuntime) -> Result<(), Fail> {
     let lists = [walk(alloc, &arena, Lit(0))?, walk(alloc, &arena, Lit(5))?];
     assert_eq!(rt; lists[0], vec![in alloc; last, moved, first]?);
     assert_eq!(rt; lists[1], vec![in alloc; last]?);
-    assert!(rt; rewatch(&mut arena, moved, 2));
+    assert!(rt; rewatch(&mut arena, 1, 2));
     assert_eq!(rt; walk(alloc, &arena, Lit(0))?, vec![in alloc; last, first]?);
     assert_eq!(rt; walk(alloc, &arena, Lit(5))?, vec![in alloc; moved, last]?);
-    assert!(rt; !rewatch(&mut arena, moved, 1));
+    assert!(rt; !rewatch(&mut arena, 1, 1));
     Ok(())
 }

@@ -8,19 +8,20 @@ use std::alloc::{AllocError, Global};
 use std::test::Fail;
 
 // Formulas as in DIMACS files (n stands for the n-th variable, counted from 1, and -n for its
-// negation): how many variables, the clauses, and whether values satisfy them.
-const FORMULAS: [(u32, &[&[i32]], bool); 12] = [
-    (0, &[], true),
-    (3, &[], true),
-    (0, &[&[]], false),
-    (2, &[&[1, 2], &[]], false),
-    (2, &[&[1, 2], &[-1]], true),
-    (1, &[&[1], &[-1]], false),
-    (5, &[&[4, 4], &[-4, 2, -4]], true),
-    (2, &[&[1, -1], &[2, -1]], true),
-    (2, &[&[1, 2], &[1, -2], &[-1, 2], &[-1, -2]], false),
-    (4, &[&[-1, 2], &[-2, 3], &[-3, 4], &[1], &[-4]], false),
-    (4, &[&[-1, 2], &[-2, 3], &[-3, 4], &[4], &[1, 4]], true),
+// negation): how many variables, the clauses, and None where values satisfy them, else how many
+// clauses the ledger has: one where unit propagation alone refutes.
+const FORMULAS: [(u32, &[&[i32]], Option<usize>); 12] = [
+    (0, &[], None),
+    (3, &[], None),
+    (0, &[&[]], Some(0)),
+    (2, &[&[1, 2], &[]], Some(0)),
+    (2, &[&[1, 2], &[-1]], None),
+    (1, &[&[1], &[-1]], Some(1)),
+    (5, &[&[4, 4], &[-4, 2, -4]], None),
+    (2, &[&[1, -1], &[2, -1]], None),
+    (2, &[&[1, 2], &[1, -2], &[-1, 2], &[-1, -2]], Some(2)),
+    (4, &[&[-1, 2], &[-2, 3], &[-3, 4], &[1], &[-4]], Some(1)),
+    (4, &[&[-1, 2], &[-2, 3], &[-3, 4], &[4], &[1, 4]], None),
     (
         3,
         &[
@@ -31,7 +32,7 @@ const FORMULAS: [(u32, &[&[i32]], bool); 12] = [
             &[1, -2],
             &[1, -3],
         ],
-        true,
+        None,
     ),
 ];
 
@@ -168,28 +169,45 @@ fn is_ledger(alloc: Global, f: &Formula, ledger: &Ledger) -> Result<bool, AllocE
     Ok(true)
 }
 
+// An answer that the plain program agrees with: values, or how many clauses the ledger has.
+#[derive(Clone, Copy, Debug, PartialEq)]
+enum Checked {
+    Model,
+    NoModel(usize),
+    Spent(usize),
+    Wrong,
+}
+
+fn check(alloc: Global, f: &Formula, verdict: &Verdict) -> Result<Checked, AllocError> {
+    let (ledger, checked) = match verdict {
+        Verdict::Model(values) => {
+            return Ok(if satisfies(values, f) {
+                Checked::Model
+            } else {
+                Checked::Wrong
+            });
+        }
+        Verdict::NoModel(ledger) => (ledger, Checked::NoModel(ledger.clauses.len())),
+        Verdict::Spent(ledger) => (ledger, Checked::Spent(ledger.clauses.len())),
+    };
+    Ok(if is_ledger(alloc, f, ledger)? {
+        checked
+    } else {
+        Checked::Wrong
+    })
+}
+
 #[test]
 fn decides_small_formulas(rt: HostRuntime) -> Result<(), Fail> {
     let alloc = rt.alloc();
-    for (vars, clauses, satisfiable) in FORMULAS {
+    for (vars, clauses, learned) in FORMULAS {
         let f = formula(alloc, vars, clauses)?;
-        match solve(alloc, &f, NO_LIMIT)? {
-            Verdict::Model(values) => {
-                assert!(rt;
-                    satisfiable && satisfies(&values, &f),
-                    "{vars}, {}",
-                    f.len()
-                );
-            }
-            Verdict::NoModel(ledger) => {
-                assert!(rt;
-                    !satisfiable && is_ledger(alloc, &f, &ledger)?,
-                    "{vars}, {}",
-                    f.len()
-                );
-            }
-            Verdict::Spent(_) => assert!(rt; false, "spent"),
-        }
+        let verdict = solve(alloc, &f, NO_LIMIT)?;
+        let want = match learned {
+            None => Checked::Model,
+            Some(n) => Checked::NoModel(n),
+        };
+        assert_eq!(rt; check(alloc, &f, &verdict)?, want, "{vars}, {}", f.len());
     }
     Ok(())
 }
@@ -199,42 +217,33 @@ fn spends_its_budget_to_the_clause(rt: HostRuntime) -> Result<(), Fail> {
     let alloc = rt.alloc();
     for holes in 2..4u32 {
         let f = pigeons(alloc, holes)?;
-        let mut learned = 0;
+        let mut whole = 1;
         for budget in 0..12u32 {
-            match solve(alloc, &f, budget)? {
-                Verdict::Model(_) => assert!(rt; false, "{holes}"),
-                Verdict::NoModel(ledger) => {
-                    assert!(rt; is_ledger(alloc, &f, &ledger)?, "{holes}, {budget}");
-                    assert_eq!(rt; ledger.clauses.len(), learned + 1);
-                    assert!(rt; budget as usize >= learned);
-                }
-                Verdict::Spent(ledger) => {
-                    assert!(rt; is_ledger(alloc, &f, &ledger)?, "{holes}, {budget}");
-                    assert_eq!(rt; ledger.clauses.len(), budget as usize);
-                    learned = budget as usize + 1;
-                }
+            let verdict = solve(alloc, &f, budget)?;
+            let checked = check(alloc, &f, &verdict)?;
+            if checked == Checked::Spent(budget as usize) {
+                whole = budget as usize + 2;
+            } else {
+                assert_eq!(rt; checked, Checked::NoModel(whole), "{holes}, {budget}");
             }
         }
-        assert!(rt; learned > 0);
+        assert!(rt; whole > 1);
     }
     Ok(())
 }
 
 #[test]
+#[tactic(auto, unfolding(cnf::specs::Gates::with_and_gate))]
 fn exactly_one_of_two_is_not_both(rt: HostRuntime) -> Result<(), Fail> {
     let alloc = rt.alloc();
     let mut f = Formula::new(alloc, 0);
     let lits = [f.fresh(), f.fresh()];
     exactly_one(alloc, &mut f, &lits)?;
     let both = and_gate(alloc, &mut f, &lits)?;
-    match solve(alloc, &f, 27)? {
-        Verdict::Model(values) => assert!(rt; values[0] != values[1]),
-        _ => assert!(rt; false, "no model"),
-    }
+    let some = solve(alloc, &f, 27)?;
+    assert_eq!(rt; check(alloc, &f, &some)?, Checked::Model);
     f.add_clause(&[both])?;
-    match solve(alloc, &f, 27)? {
-        Verdict::NoModel(ledger) => assert!(rt; is_ledger(alloc, &f, &ledger)?),
-        _ => assert!(rt; false, "no refutation"),
-    }
+    let none = solve(alloc, &f, 27)?;
+    assert_eq!(rt; check(alloc, &f, &none)?, Checked::NoModel(1));
     Ok(())
 }

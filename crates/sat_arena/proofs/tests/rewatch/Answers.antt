@@ -3,4 +3,4 @@ use Rattle.sat_arena.proofs.ForCallers.{among-slice_get}
 use Rattle.sat_arena.proofs.tests.rewatch.Goals as goal
 
 pub move_watch-requires-clause-holds : goal.move_watch-requires-clause-holds
-move_watch-requires-clause-holds c = among-slice_get (clause_at c.args.arena.now c.args.clause).lits c.args.k c.literal-to.result c.literal-to.ensures.literal
+move_watch-requires-clause-holds c = among-slice_get (clause_at c.args.arena.now c.at-clause.result).lits c.args.k c.literal-to.result c.literal-to.ensures.literal
