@@ -1,6 +1,6 @@
 //! Whether a value passes tests as they are asked (Selectors 3, sections 6.3.1 and 6.3.2).
 
-ghost use Rattle.std.specs.Prelude.{◌≡◌, ◌≢◌, ℕ, List, [], ◌∷◌, ◌++◌, not, ◌||◌, IfOk, string_bytes};
+ghost use Rattle.std.specs.Prelude.{◌≡◌, ◌≢◌, ℕ, List, [], ◌∷◌, ◌++◌, not, IfOk, string_bytes};
 ghost use Rattle.std.specs.List.{list_all};
 ghost use Rattle.std.specs.Str.{encode_utf8_all};
 ghost use Rattle.css_model.specs.Documents.Attribute.{
@@ -12,7 +12,7 @@ ghost use Rattle.css_model.specs.Documents.Attribute.{
 };
 ghost use Rattle.css_model.specs.Lists.{begins_with};
 ghost use Rattle.css_model.specs.Text.Characters.{is_white};
-ghost use Rattle.attr_values.specs.Asked.{passes_as_asked, passes_one};
+ghost use Rattle.attr_values.specs.Asked.{passes_as_asked};
 
 use css_model::{AttrTest, Op};
 use memchr::memmem;
@@ -53,12 +53,14 @@ fn passes(alloc: Global, test: &AttrTest, value: &[char], bytes: &str) -> Result
     }
 }
 
+/// Whether a value begins with another one that is not empty.
 fn passes_prefix(value: &[char], v: &[char]) -> bool
     ensures { result ≡ passes Op.Prefix v.now value.now }
 {
     !v.is_empty() && value.starts_with(v)
 }
 
+/// Whether a value ends with another one that is not empty.
 fn passes_suffix(value: &[char], v: &[char]) -> bool
     ensures { result ≡ passes Op.Suffix v.now value.now }
 {
@@ -105,12 +107,14 @@ fn passes_word(value: &[char], word: &[char]) -> bool
         && (begins_with_word(value, word) || has_word_later(value, word))
 }
 
+/// Whether a text holds no white space.
 fn is_without_white(text: &[char]) -> bool
     ensures { result ≡ list_all (λ c. not (is_white c)) text.now }
 {
     text.iter().all(|c| !is_white(*c))
 }
 
+/// Whether a code point is white space (Selectors 3, section 4).
 fn is_white(c: char) -> bool
     ensures { result ≡ is_white c }
 {
@@ -161,6 +165,7 @@ fn begins_with_dash(text: &[char], v: &[char]) -> bool
     }
 }
 
+/// Whether a text begins with `-`.
 fn starts_with_dash(text: &[char]) -> bool
     ensures { result ≡ begins_with text.now (0x2D ∷ []) }
 {
