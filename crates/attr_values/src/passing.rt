@@ -81,8 +81,8 @@ fn passes_part(alloc: Global, value: &[char], bytes: &str, v: &[char]) -> Result
 
 /// Whether a text has a part: in UTF-8 no character begins inside another one, so that the bytes say it.
 fn has_part(bytes: &str, part: &str) -> bool
-    ensures { (text v : List ℕ) → v ≢ [] → bytes.now ≡ encode_utf8_all text → part.now ≡ encode_utf8_all v →
-        result ≡ has_part text v }
+    ensures { (text v : List ℕ) → v ≢ [] → bytes.now ≡ encode_utf8_all text
+        → part.now ≡ encode_utf8_all v → result ≡ has_part text v }
 {
     memmem::find(bytes.as_bytes(), part.as_bytes()).is_some()
 }

@@ -39,7 +39,9 @@ pub(crate) fn first_unused(
     alloc: Global,
     tests: &[(AttrTest, bool)],
 ) -> Result<Option<char>, AllocError>
-    ensures { IfOk result (λ unused. MatchOption unused (HasUnused tests.now → ⊥) (λ f. IsFirstUnused f tests.now)) }
+    ensures { IfOk result (λ unused. MatchOption unused
+        (HasUnused tests.now → ⊥)
+        (λ f. IsFirstUnused f tests.now)) }
 {
     let marks = marks(alloc, tests)?;
     Ok(first_unmarked(marks.as_slice()))

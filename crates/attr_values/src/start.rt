@@ -47,7 +47,8 @@ fn with_start<'a>(best: Start<'a>, test: &'a AttrTest, wanted: bool) -> Start<'a
 /// The longer one, of equally long ones the first.
 fn longer_start<'a>(best: Start<'a>, other: Start<'a>) -> Start<'a>
     ensures { start_text result.value.now result.dash
-        ≡ longer (start_text best.entry.value.now best.entry.dash) (start_text other.entry.value.now other.entry.dash) }
+        ≡ longer (start_text best.entry.value.now best.entry.dash)
+        (start_text other.entry.value.now other.entry.dash) }
 {
     if start_len(other) <= start_len(best) {
         best
