@@ -18,8 +18,10 @@ use css_model::{AttrTest, Op};
 use memchr::memmem;
 use std::alloc::{AllocError, Global};
 
-/// Whether a value passes each test as it is asked.
-pub(crate) fn passes_as_asked(
+/// Whether a value of code points passes each test as it is asked: holds it where the flag is true, and
+/// does not hold it where the flag is false (Selectors 3, sections 6.3.1, 6.3.2 and 6.6.7). The names
+/// in the tests do not count.
+pub fn passes_as_asked(
     alloc: Global,
     tests: &[(AttrTest, bool)],
     value: &[char],
