@@ -1,5 +1,5 @@
 -- The value that is built passes as asked, where some text does.
-use Rattle.std.proofs.Common.{◌≡◌, ◌≢◌, ◌⊎◌, ℕ, Bool, true, false, not, ◌&&◌, cond, List, [], ◌∷◌, ◌++◌, refl, sym, ap, subst, inl, inr, ◌∙◌, append_assoc}
+use Rattle.std.proofs.Common.{◌≡◌, ◌≢◌, ℕ, Bool, true, false, not, ◌&&◌, cond, List, [], ◌∷◌, ◌++◌, refl, sym, ap, subst, inl, inr, ◌∙◌, append_assoc}
 use Rattle.std.specs.Bool.{MatchBool}
 use Rattle.std.specs.List.{All}
 use Rattle.std.proofs.lemmas.List.Elements.{All-head, All-tail, All-nil, All-cons, All-append, All-weaker}
@@ -12,7 +12,7 @@ use Rattle.css_model.specs.Documents.Attribute.{BeginsWith, EndsWith, HasPart, S
 use Rattle.attr_values.specs.Asked.{PassesOne, PassesAsAsked, asked, refused, is_equal, is_word, is_dash, is_suffix, is_part}
 use Rattle.attr_values.specs.Separators.{IsUnused, IsFreeSpace}
 use Rattle.attr_values.specs.Value.{start_of, starts, longest, once, followed, words_then, built}
-use Rattle.attr_values.proofs.Inside.{part_inside, begins-part, ends-part, alone-part, part_back, word_back, parts_followed, words_stand, last_there, part_behind, end_splits, begin_splits, holds_separator}
+use Rattle.attr_values.proofs.Inside.{alone-part, part_back, word_back, parts_followed, words_stand, last_there, part_behind, end_splits, begin_splits, holds_separator}
 use Rattle.attr_values.proofs.Tests.{words_pass, parts_pass, suffixes_pass, starts_pass, begins_trans, ends_trans, longest_begins, longest_ends, once_All, once_back}
 
 -- one test, asked to hold or not
@@ -71,15 +71,15 @@ rebuild s j f w some_word back (t ∷ tests) h unused clear no_equal begins part
     let free : All (λ d. d ≢ f) v = All-head (λ x. All (λ c. c ≢ f) x.0.value) t tests unused in
     All-cons (PassesOne j) t tests
     (rebuild_one s j op v b (asked is_equal tests) (starts tests) (asked is_part tests) (asked is_suffix tests) (asked is_word tests)
-      (All-head (PassesOne s) t tests h) no_equal begins parts ends words
-      (λ no_hold. back op v free (λ is some. clear_one (λ x. All (λ c. c ≢ w) x) op v b (refused is_part tests) (clear some) no_hold is)))
+    (All-head (PassesOne s) t tests h) no_equal begins parts ends words
+    (λ no_hold. back op v free (λ is some. clear_one (λ x. All (λ c. c ≢ w) x) op v b (refused is_part tests) (clear some) no_hold is)))
     (rebuild s j f w some_word back tests (All-tail (PassesOne s) t tests h) (All-tail (λ x. All (λ c. c ≢ f) x.0.value) t tests unused)
-      (λ some. rest_of (λ x. All (λ c. c ≢ w) x) (not b && is_part op) v (refused is_part tests) (clear some))
-      (none_of (b && is_equal op) v (asked is_equal tests) no_equal)
-      (rest_of_starts (BeginsWith j) b op v (starts tests) begins)
-      (rest_of (HasPart j) (b && is_part op) v (asked is_part tests) parts)
-      (rest_of (EndsWith j) (b && is_suffix op) v (asked is_suffix tests) ends)
-      (rest_of (StandsAlone j) (b && is_word op) v (asked is_word tests) words))
+    (λ some. rest_of (λ x. All (λ c. c ≢ w) x) (not b && is_part op) v (refused is_part tests) (clear some))
+    (none_of (b && is_equal op) v (asked is_equal tests) no_equal)
+    (rest_of_starts (BeginsWith j) b op v (starts tests) begins)
+    (rest_of (HasPart j) (b && is_part op) v (asked is_part tests) parts)
+    (rest_of (EndsWith j) (b && is_suffix op) v (asked is_suffix tests) ends)
+    (rest_of (StandsAlone j) (b && is_word op) v (asked is_word tests) words))
 
 -- the value of the fourth rule
 pub built_passes : (tests : List (AttrTest × Bool)) (s : List ℕ) (f w : ℕ) → is_white f ≡ false → f ≢ 0x2D → IsUnused f tests →
@@ -129,9 +129,13 @@ built_passes tests s f w dark no_hyphen unused space no_equal no_dash h =
     back : (op : Op) (v : List ℕ) → All (λ d. d ≢ f) v → (op ≡ Part → words ≢ [] → All (λ d. d ≢ w) v) → Passes op v (built f w tests) → Passes op v s
     back Present v free clear k = tt
     back Equal v free clear k = absurd (holds_separator f start inside v free k)
-    back Word v free clear k = (k.0, k.1, word_back f w dark s start parts words last v white k.0 free
-        (λ some. All-weaker (λ d. is_white d ≡ false) (λ d. d ≢ w) (λ d no_white e. false≢true (sym no_white ∙ ap is_white e ∙ white some)) v k.1)
-        begins.0 (parts_pass s tests h) words_have ends.0 k.2)
+    back Word v free clear k = (
+      k.0,
+      k.1,
+      word_back f w dark s start parts words last v white k.0 free
+          (λ some. All-weaker (λ d. is_white d ≡ false) (λ d. d ≢ w) (λ d no_white e. false≢true (sym no_white ∙ ap is_white e ∙ white some)) v k.1)
+          begins.0 (parts_pass s tests h) words_have ends.0 k.2,
+    )
     back Dash v free clear (inl e) = absurd (holds_separator f start inside v free e)
     back Dash v free clear (inr k) = inr (begins_trans s start (v ++ 0x2D ∷ []) begins.0
         (begin_splits f start inside (v ++ 0x2D ∷ []) (All-append (λ d. d ≢ f) v (0x2D ∷ []) free (All-cons (λ d. d ≢ f) 0x2D [] (λ e. no_hyphen (sym e)) (All-nil (λ d. d ≢ f)))) k))
@@ -139,5 +143,8 @@ built_passes tests s f w dark no_hyphen unused space no_equal no_dash h =
     back Suffix v free clear k =
         let e = last_there f w start parts words last in
         (k.0, ends_trans s last v ends.0 (end_splits f e.0 last v free (subst (λ (t : List ℕ). EndsWith t v) e.1 k.1)))
-    back Part v free clear k = (k.0, part_back f w s start parts words last v k.0 free (clear refl) begins.0 (parts_pass s tests h)
-        (All-weaker (λ x. All (λ d. is_white d ≡ false) x × StandsAlone s x) (HasPart s) (λ x j. alone-part s x j.1) words words_have) ends.0 k.1)
+    back Part v free clear k = (
+      k.0,
+      part_back f w s start parts words last v k.0 free (clear refl) begins.0 (parts_pass s tests h)
+          (All-weaker (λ x. All (λ d. is_white d ≡ false) x × StandsAlone s x) (HasPart s) (λ x j. alone-part s x j.1) words words_have) ends.0 k.1,
+    )

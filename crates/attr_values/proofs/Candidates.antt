@@ -12,10 +12,10 @@ use Rattle.css_model.specs.declared.selector.Op.TheVariants.{Present, Equal, Wor
 use Rattle.css_model.specs.Text.Characters.{is_white}
 use Rattle.css_model.specs.Documents.Attribute.{StandsAlone, Passes, passes}
 use Rattle.cascade_laws.proofs.ForCallers.{passes-decides}
-use Rattle.attr_values.specs.Asked.{PassesOne, PassesAsAsked, passes_one, passes_as_asked, asked, refused, is_equal, is_word, is_dash, is_part, is_word_or_present}
+use Rattle.attr_values.specs.Asked.{PassesOne, PassesAsAsked, passes_one, passes_as_asked, asked, is_equal, is_word, is_dash, is_word_or_present}
 use Rattle.attr_values.specs.Separators.{IsUnused, IsFreeSpace}
-use Rattle.attr_values.specs.Value.{once, followed, built, spaced, first_passing, without_equal, first_or, candidate}
-use Rattle.attr_values.proofs.WordPieces.{Alone, ends_white, starts_white, ends-append, alone-stands, stands-alone, alone_splits, alone_nil, alone_whole}
+use Rattle.attr_values.specs.Value.{once, built, spaced, first_passing, without_equal, first_or, candidate}
+use Rattle.attr_values.proofs.WordPieces.{Alone, ends_white, ends-append, alone-stands, stands-alone, alone_splits, alone_nil, alone_whole}
 use Rattle.attr_values.proofs.Tests.{words_pass, once_All, once_back}
 use Rattle.attr_values.proofs.Built.{built_passes}
 
@@ -70,7 +70,7 @@ words_in_spaced (x ∷ []) = All-cons (Alone true true x) x [] ([], [], sym (app
 words_in_spaced (x ∷ y ∷ xs) =
     All-cons (Alone true true (spaced (x ∷ y ∷ xs))) x (y ∷ xs) ([], 0x20 ∷ spaced (y ∷ xs), refl, refl, refl)
     (All-weaker (Alone true true (spaced (y ∷ xs))) (Alone true true (spaced (x ∷ y ∷ xs)))
-      (λ v h. alone_behind true true x (0x20 ∷ spaced (y ∷ xs)) v (alone_behind (ends_white true x) true (0x20 ∷ []) (spaced (y ∷ xs)) v h)) (y ∷ xs) (words_in_spaced (y ∷ xs)))
+    (λ v h. alone_behind true true x (0x20 ∷ spaced (y ∷ xs)) v (alone_behind (ends_white true x) true (0x20 ∷ []) (spaced (y ∷ xs)) v h)) (y ∷ xs) (words_in_spaced (y ∷ xs)))
 
 -- all tests are Word or Present
 word_or_present_one : (s j : List ℕ) (op : Op) (v : List ℕ) (b : Bool) (ws : List (List ℕ)) → is_word_or_present op ≡ true → MatchBool b (Passes op v s) (Passes op v s → ⊥) →
@@ -112,8 +112,12 @@ spaced_passes tests s all h = words_or_present s j back tests all h
     have = once_All (λ x. Passes Word x s) (asked is_word tests) (words_pass s tests h)
 
     back : (v : List ℕ) → Passes Word v j → Passes Word v s
-    back v k = (k.0, k.1, spaced_words words v k.0 k.1 (All-weaker (λ x. Passes Word x s) (λ x. All (λ d. is_white d ≡ false) x) (λ x p. p.1) words have) s
-        (All-weaker (λ x. Passes Word x s) (StandsAlone s) (λ x p. p.2) words have) (stands-alone j v k.2))
+    back v k = (
+      k.0,
+      k.1,
+      spaced_words words v k.0 k.1 (All-weaker (λ x. Passes Word x s) (λ x. All (λ d. is_white d ≡ false) x) (λ x p. p.1) words have) s
+          (All-weaker (λ x. Passes Word x s) (StandsAlone s) (λ x p. p.2) words have) (stands-alone j v k.2),
+    )
 
 -- the first of these values that passes
 first_passes : (tests : List (AttrTest × Bool)) (s : List ℕ) → PassesAsAsked tests s → (vs : List (List ℕ)) (other : List ℕ) → (All (λ x. s ≢ x) vs → PassesAsAsked tests other) →

@@ -1,20 +1,19 @@
 -- What the tests of a value say, as the functions make them.
-use Rattle.std.proofs.Common.{◌≡◌, ◌≢◌, ℕ, ◌+◌, ◌<◌, ◌≤◌, ◌-◌, Bool, true, false, not, ◌&&◌, List, [], ◌∷◌, ◌++◌, Option, Some, None, length, take, drop, get_or, refl, sym, ap, ap₂, subst, ◌∙◌, arith, append_assoc}
+use Rattle.std.proofs.Common.{◌≡◌, ◌≢◌, ℕ, ◌+◌, ◌<◌, ◌≤◌, ◌-◌, Bool, true, false, ◌&&◌, List, [], ◌∷◌, ◌++◌, Option, Some, None, length, take, drop, get_or, refl, sym, ap, ap₂, subst, ◌∙◌, arith, append_assoc}
 use Rattle.std.specs.Prelude.{◌==◌, nat_eq, is_some}
 use Rattle.std.specs.Bool.{Decides}
 use Rattle.std.specs.List.{starts_with, ends_with}
 use Rattle.std.specs.Str.{IsUtf8, IsCharBoundary, encode_utf8_all}
 use Rattle.std.proofs.lemmas.Bool.{false≢true, eqb-true, eq-eqb}
-use Rattle.std.proofs.lemmas.Bool.Decides.{Decides-and, Decides-eqb}
+use Rattle.std.proofs.lemmas.Bool.Decides.{Decides-eqb}
 use Rattle.std.proofs.lemmas.List.{take-append-drop, length-append, get_or-append-add, get_or_append_left}
 use Rattle.std.proofs.lemmas.List.Prefix.{at_from_reads}
 use Rattle.std.proofs.lemmas.Slice.Eq.{starts_is, ends_is}
 use Rattle.std.proofs.lemmas.Str.{encodes-append, encodes_same, cons_from_encodes, IsCharBoundary-start, IsUtf8-take, IsUtf8-drop, length-le-encodes}
 use Rattle.memchr.specs.Find.{OccursAt, FindsNeedle}
 use Rattle.css_model.specs.declared.selector.Op.TheVariants.{Prefix, Suffix, Part}
-use Rattle.css_model.specs.Documents.Attribute.{BeginsWith, EndsWith, HasPart, Passes, begins_with_word, has_part, passes, starts_white}
-use Rattle.css_model.specs.Documents.Attribute as attribute
-use Rattle.css_model.specs.Lists.{begins_with, is_empty}
+use Rattle.css_model.specs.Documents.Attribute.{HasPart, begins_with_word, has_part, passes, starts_white}
+use Rattle.css_model.specs.Lists.{begins_with}
 use Rattle.cascade_laws.proofs.ForCallers.{passes-decides}
 
 -- two tests that decide the same
@@ -112,11 +111,12 @@ is_occurrence front v rest = record {
 }
 
 part_occurs : (text v hay needle : List ℕ) → hay ≡ encode_utf8_all text → needle ≡ encode_utf8_all v → HasPart text v → (k : ℕ) × OccursAt hay needle k
-part_occurs text v hay needle is_hay is_needle h =
-    (length (encode_utf8_all h.0),
-      subst (λ (t : List ℕ). OccursAt hay t (length (encode_utf8_all h.0))) (sym is_needle)
+part_occurs text v hay needle is_hay is_needle h = (
+  length (encode_utf8_all h.0),
+  subst (λ (t : List ℕ). OccursAt hay t (length (encode_utf8_all h.0))) (sym is_needle)
       (subst (λ (t : List ℕ). OccursAt t (encode_utf8_all v) (length (encode_utf8_all h.0))) (sym pieces)
-        (is_occurrence (encode_utf8_all h.0) (encode_utf8_all v) (encode_utf8_all h.1))))
+      (is_occurrence (encode_utf8_all h.0) (encode_utf8_all v) (encode_utf8_all h.1))),
+)
   where
     pieces : hay ≡ encode_utf8_all h.0 ++ (encode_utf8_all v ++ encode_utf8_all h.1)
     pieces =
@@ -133,7 +133,10 @@ part_is text v hay needle r some is_hay is_needle hay_utf8 needle_utf8 finds =
     same_truth (is_some r) (has_part text v) (tells r finds) (part_decides text v some)
   where
     tells : (r : Option ℕ) → FindsNeedle hay needle 0 r → Decides (is_some r) (HasPart text v)
-    tells None none = (λ bad. absurd (false≢true bad), λ h.
-      let at = part_occurs text v hay needle is_hay is_needle h in
-      absurd (none at.0 (omega arith) (let within = at.1.fits in omega arith) at.1))
+    tells None none = (
+      λ bad. absurd (false≢true bad),
+      λ h.
+          let at = part_occurs text v hay needle is_hay is_needle h in
+          absurd (none at.0 (omega arith) (let within = at.1.fits in omega arith) at.1),
+    )
     tells (Some k) found = (λ _. occurs_is text v hay needle k some is_hay is_needle hay_utf8 needle_utf8 found.1, λ _. refl)

@@ -1,16 +1,15 @@
 -- What has been put together at the end of each function.
-use Rattle.std.proofs.Common.{◌≡◌, ℕ, ◌<◌, ◌≤◌, Bool, true, false, not, cond, List, [], ◌∷◌, ◌++◌, Option, Some, None, Result, Ok, Err, length, take, drop, ◌-◌, refl, arith, sym, ap, subst, ◌∙◌, append_assoc, get_or}
-use Rattle.std.specs.Prelude.{◌==◌, nat_eq, IfOk}
+use Rattle.std.proofs.Common.{◌≡◌, ℕ, ◌≤◌, Bool, true, false, cond, List, [], ◌∷◌, ◌++◌, Some, None, Result, Ok, Err, length, take, drop, ◌-◌, arith, sym, ap, subst, ◌∙◌, append_assoc, get_or}
+use Rattle.std.specs.Prelude.{◌==◌, IfOk}
 use Rattle.std.specs.List.{list_all}
 use Rattle.std.proofs.lemmas.List.{append-nil, drop_all, take_all}
-use Rattle.std.proofs.lemmas.Bool.{false≢true, true≢false}
+use Rattle.std.proofs.lemmas.Bool.{false≢true}
 use Rattle.css_model.specs.declared.selector.AttrTest.{AttrTest}
-use Rattle.attr_values.specs.declared.solve.Fits.{Fits}
-use Rattle.attr_values.specs.declared.solve.Fits.TheVariants.{Absent, Value, Nothing}
+use Rattle.attr_values.specs.declared.solve.Fits.TheVariants.{Value, Nothing}
 use Rattle.attr_values.specs.Asked.{PassesAsAsked, passes_as_asked, asked, is_equal, is_word, is_part, is_suffix, is_dash, is_word_or_present, is_asked}
 use Rattle.attr_values.specs.Separators.{free_space, spaces_taken, HasUnused, IsFirstUnused}
 use Rattle.attr_values.specs.Solved.{IsCandidate, Solves}
-use Rattle.attr_values.specs.Value.{once, starts, longest, followed, words_then, built, spaced, first_passing, without_equal, candidate, first_or, head_of, kept_of, more_words}
+use Rattle.attr_values.specs.Value.{once, starts, longest, followed, words_then, built, spaced, first_passing, without_equal, first_or, head_of, kept_of, more_words}
 use Rattle.attr_values.proofs.Steps.{kept_once, followed_then, together, spaced_more}
 use Rattle.attr_values.proofs.Candidates.{passing-decides}
 use Rattle.attr_values.proofs.Separated.{candidate_passes}
@@ -26,7 +25,7 @@ pub push_words_end : (old out : List ℕ) (words : List (List ℕ)) (i f w : ℕ
 push_words_end old out [] i f w some done e = absurd (false≢true some)
 push_words_end old out (x ∷ xs) i f w some done e =
     let all : out ≡ (old ++ w ∷ []) ++ followed w (x ∷ xs) [] =
-      sym (append-nil out) ∙ sym (ap (λ (rest : List (List ℕ)). out ++ followed w rest []) (drop_all i (x ∷ xs) done)) ∙ e in
+    sym (append-nil out) ∙ sym (ap (λ (rest : List (List ℕ)). out ++ followed w rest []) (drop_all i (x ∷ xs) done)) ∙ e in
     ap (λ (t : List ℕ). t ++ f ∷ []) all ∙
     append_assoc (old ++ w ∷ []) (followed w (x ∷ xs) []) (f ∷ []) ∙
     append_assoc old (w ∷ []) (followed w (x ∷ xs) [] ++ f ∷ []) ∙
@@ -55,9 +54,12 @@ words_tried tests v has all e =
 pub dash_tried : (tests : List (AttrTest × Bool)) (v value : List ℕ) → HasUnused tests → false ≡ list_all (λ t. is_word_or_present t.0.op) tests →
     ((other : List ℕ) → first_passing tests (asked is_dash tests) other ≡ v) → value ≡ v → (f : ℕ) × IsFirstUnused f tests × (value ≡ without_equal f (free_space tests) tests)
 dash_tried tests v value has none dash e =
-    let first = some_first tests has in
-    (first.0, first.1, e ∙ sym (dash (built first.0 (free_space tests) tests)) ∙
-      ap (λ (b : Bool). cond b (spaced (once (asked is_word tests))) (first_passing tests (asked is_dash tests) (built first.0 (free_space tests) tests))) none)
+    let first = some_first tests has in (
+      first.0,
+      first.1,
+      e ∙ sym (dash (built first.0 (free_space tests) tests)) ∙
+          ap (λ (b : Bool). cond b (spaced (once (asked is_word tests))) (first_passing tests (asked is_dash tests) (built first.0 (free_space tests) tests))) none,
+    )
 
 equal_tried : (tests : List (AttrTest × Bool)) (v value : List ℕ) → HasUnused tests → head_of (asked is_equal tests) ≡ Some v → value ≡ v → IsCandidate value tests
 equal_tried tests v value has head e =
@@ -85,9 +87,13 @@ value_end tests v left some pass is = (sym left, (sym some, (passing-decides tes
 
 pub nothing_end : (tests : List (AttrTest × Bool)) (v : List ℕ) → false ≡ spaces_taken tests → true ≡ is_asked tests → false ≡ passes_as_asked tests v →
     IsCandidate v tests → (spaces_taken tests ≡ false) × Solves Nothing tests
-nothing_end tests v left some pass is =
-    (sym left, (sym some,
-      λ s h. false≢true (pass ∙ (passing-decides tests v).1 (subst (PassesAsAsked tests) (sym is.is) (candidate_passes tests s is.separator is.first (sym left) h)))))
+nothing_end tests v left some pass is = (
+  sym left,
+  (
+    sym some,
+    λ s h. false≢true (pass ∙ (passing-decides tests v).1 (subst (PassesAsAsked tests) (sym is.is) (candidate_passes tests s is.separator is.first (sym left) h))),
+  ),
+)
 
 pub spaced_end : (words : List (List ℕ)) (first out : List ℕ) → 1 ≤ length words → first ≡ get_or words 0 first →
     out ≡ first ++ more_words (take (length words - 1) (drop 1 words)) → out ≡ spaced words

@@ -1,6 +1,6 @@
 -- What holds of a text that is put together from the pieces of another one, with separators between
 -- them, and what then held of that other text.
-use Rattle.std.proofs.Common.{◌≡◌, ◌≢◌, ◌⊎◌, ℕ, Bool, true, false, List, [], ◌∷◌, ◌++◌, refl, sym, ap, ap₂, subst, inl, inr, ◌∙◌, append_assoc, slice_index_or}
+use Rattle.std.proofs.Common.{◌≡◌, ◌≢◌, ◌⊎◌, ℕ, Bool, true, false, List, [], ◌∷◌, ◌++◌, refl, sym, ap, subst, inl, inr, ◌∙◌, append_assoc, slice_index_or}
 use Rattle.std.specs.List.{All}
 use Rattle.std.proofs.lemmas.List.Elements.{All-head, All-tail, All-nil, All-cons, All-weaker}
 use Rattle.std.proofs.lemmas.List.{append-nil}
@@ -8,7 +8,7 @@ use Rattle.css_model.specs.Text.Characters.{is_white}
 use Rattle.css_model.specs.Documents.Attribute.{BeginsWith, EndsWith, HasPart, StandsAlone}
 use Rattle.attr_values.specs.Value.{followed, words_then}
 use Rattle.attr_values.proofs.Pieces.{begins_before, lies}
-use Rattle.attr_values.proofs.WordPieces.{Alone, ends_white, starts_white, ends-append, alone-stands, stands-alone, alone_splits, alone_nil, alone_whole, alone_anywhere, alone_first, alone_last}
+use Rattle.attr_values.proofs.WordPieces.{Alone, ends_white, ends-append, alone-stands, stands-alone, alone_splits, alone_nil, alone_whole, alone_anywhere, alone_first, alone_last}
 
 -- the parts of a part
 pub part_inside : (text piece v : List ℕ) → HasPart text piece → HasPart piece v → HasPart text v
@@ -190,16 +190,16 @@ words_followed w white [] rest = All-nil (Alone true true (followed w [] rest))
 words_followed w white (x ∷ xs) rest =
     All-cons (Alone true true (x ++ w ∷ followed w xs rest)) x xs ([], w ∷ followed w xs rest, refl, refl, white)
     (All-weaker (Alone true true (followed w xs rest)) (Alone true true (x ++ w ∷ followed w xs rest))
-      (λ v h. alone_behind true true x (w ∷ followed w xs rest) v (alone_behind (ends_white true x) true (w ∷ []) (followed w xs rest) v (subst (λ (b : Bool). Alone b true (followed w xs rest) v) (sym white) h)))
-      xs (words_followed w white xs rest))
+    (λ v h. alone_behind true true x (w ∷ followed w xs rest) v (alone_behind (ends_white true x) true (w ∷ []) (followed w xs rest) v (subst (λ (b : Bool). Alone b true (followed w xs rest) v) (sym white) h)))
+    xs (words_followed w white xs rest))
 
 words_there : (f w : ℕ) → (before : Bool) (xs : List (List ℕ)) (rest : List ℕ) → (xs ≢ [] → is_white w ≡ true) → All (Alone before true (words_then f w xs rest)) xs
 words_there f w before [] rest white = All-nil (Alone before true (words_then f w [] rest))
 words_there f w before (x ∷ xs) rest white =
     let is : is_white w ≡ true = white (λ e. cc) in
     All-weaker (Alone true true (followed w (x ∷ xs) (f ∷ rest))) (Alone before true (w ∷ followed w (x ∷ xs) (f ∷ rest)))
-      (λ v h. alone_behind before true (w ∷ []) (followed w (x ∷ xs) (f ∷ rest)) v (subst (λ (b : Bool). Alone b true (followed w (x ∷ xs) (f ∷ rest)) v) (sym is) h))
-      (x ∷ xs) (words_followed w is (x ∷ xs) (f ∷ rest))
+    (λ v h. alone_behind before true (w ∷ []) (followed w (x ∷ xs) (f ∷ rest)) v (subst (λ (b : Bool). Alone b true (followed w (x ∷ xs) (f ∷ rest)) v) (sym is) h))
+    (x ∷ xs) (words_followed w is (x ∷ xs) (f ∷ rest))
 
 behind_followed : (f : ℕ) → (xs : List (List ℕ)) (rest v : List ℕ) → ((before : Bool) → Alone before true rest v) → (before : Bool) → Alone before true (followed f xs rest) v
 behind_followed f [] rest v h before = h before

@@ -2,6 +2,7 @@ mod Built
 mod Candidates
 mod Decisions
 mod Ends
+pub mod ForCallers
 mod Inside
 mod LongestDash
 mod Marks

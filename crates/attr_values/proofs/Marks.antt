@@ -1,5 +1,5 @@
 -- Marks for the code points that stand in values.
-use Rattle.std.proofs.Common.{◌≡◌, ◌⊎◌, ℕ, zero, suc, ◌<◌, ◌≤◌, ◌+◌, ◌-◌, Bool, true, false, ◌||◌, cond, List, [], ◌∷◌, length, refl, sym, ap, subst, inl, inr, ◌∙◌, arith, slice_index_or, get_or-set_other}
+use Rattle.std.proofs.Common.{◌≡◌, ◌⊎◌, ℕ, ◌<◌, ◌≤◌, ◌+◌, Bool, true, false, ◌||◌, List, length, refl, sym, ap, inl, inr, ◌∙◌, arith, slice_index_or, get_or-set_other}
 use Rattle.std.specs.Prelude.{◌==◌, nat_le, slice_set}
 use Rattle.std.proofs.lemmas.Bool.{ne_eqb, eq-eqb, eqb-true, true≢false}
 use Rattle.std.proofs.lemmas.Bool.Decides.{leb_tells}

@@ -1,11 +1,7 @@
 -- A text without a separator, inside texts with the separator between them.
-use Rattle.std.proofs.Common.{◌≡◌, ◌≢◌, ◌⊎◌, ℕ, Bool, true, false, List, [], ◌∷◌, ◌++◌, refl, sym, ap, ap₂, subst, inl, inr, ◌∙◌, append_assoc}
+use Rattle.std.proofs.Common.{◌≡◌, ◌≢◌, ◌⊎◌, ℕ, List, [], ◌∷◌, ◌++◌, refl, sym, ap₂, inl, inr}
 use Rattle.std.specs.List.{All}
 use Rattle.std.proofs.lemmas.List.Elements.{All-head, All-tail}
-use Rattle.std.proofs.lemmas.List.{append-nil}
-use Rattle.std.proofs.lemmas.Bool.{false≢true}
-use Rattle.css_model.specs.Text.Characters.{is_white}
-use Rattle.css_model.specs.Documents.Attribute.{BeginsWith, EndsWith, HasPart, StartsWhite, EndsWhite, StandsAlone}
 
 -- at the front
 pub begins_before : (c : ℕ) (xs ys v rest : List ℕ) → All (λ d. d ≢ c) v → xs ++ c ∷ ys ≡ v ++ rest →

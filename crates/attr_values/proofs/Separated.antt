@@ -1,15 +1,14 @@
 -- The value that is candidate passes as asked, where some text does and a white space is left.
-use Rattle.std.proofs.Common.{◌≡◌, ◌≢◌, ◌⊎◌, ℕ, ◌≤◌, Bool, true, false, not, ◌&&◌, cond, List, [], ◌∷◌, ◌++◌, Option, Some, None, refl, sym, ap, subst, inl, inr, ◌∙◌, arith}
+use Rattle.std.proofs.Common.{◌≡◌, ◌≢◌, ◌⊎◌, ℕ, ◌≤◌, Bool, true, false, not, ◌&&◌, cond, List, [], ◌∷◌, Some, refl, sym, ap, inl, inr, ◌∙◌, arith}
 use Rattle.std.specs.Prelude.{unwrap_or, find, ◌==◌, ◌||◌}
 use Rattle.std.specs.List.{All, list_all, list_any}
 use Rattle.std.proofs.lemmas.List.Elements.{All-nil, All-cons}
-use Rattle.std.proofs.lemmas.Bool.{false≢true, true≢false, or_parts, or_from, ne_eqb, eqb-false, cases_Bool, not-true, and_cases, and_from, not-false}
-use Rattle.css_model.specs.declared.selector.AttrTest.{AttrTest}
+use Rattle.std.proofs.lemmas.Bool.{false≢true, true≢false, or_parts, or_from, ne_eqb, eqb-false, and_cases, and_from}
 use Rattle.css_model.specs.Text.Characters.{is_white}
-use Rattle.attr_values.specs.Asked.{PassesAsAsked, asked, refused, is_equal, is_word, is_part, some_of}
-use Rattle.attr_values.specs.Separators.{IsUnused, IsFreeSpace, holds, white_spaces, is_taken, spaces_taken, free_space, IsFirstUnused}
+use Rattle.attr_values.specs.Asked.{asked, refused, is_equal, is_word, is_part, some_of}
+use Rattle.attr_values.specs.Separators.{IsFreeSpace, holds, white_spaces, is_taken, free_space}
 use Rattle.attr_values.specs.Solved.{CandidatePasses}
-use Rattle.attr_values.specs.Value.{once, candidate}
+use Rattle.attr_values.specs.Value.{once}
 use Rattle.attr_values.proofs.Candidates.{candidate_passes_with}
 
 -- a number that stands in none of the texts
@@ -33,7 +32,7 @@ found test (c ∷ cs) white e = cases (test c) refl (is_white c) refl white e (f
   where
     cases : (b : Bool) → test c ≡ b → (x : Bool) → is_white c ≡ x → (x && list_all is_white cs) ≡ true → (b && list_all test cs) ≡ false →
         (list_all is_white cs ≡ true → list_all test cs ≡ false →
-          (is_white (unwrap_or (find (λ c. not (test c)) cs) 0x20) ≡ true) × (test (unwrap_or (find (λ c. not (test c)) cs) 0x20) ≡ false)) →
+        (is_white (unwrap_or (find (λ c. not (test c)) cs) 0x20) ≡ true) × (test (unwrap_or (find (λ c. not (test c)) cs) 0x20) ≡ false)) →
         (is_white (unwrap_or (cond (not b) (Some c) (find (λ c. not (test c)) cs)) 0x20) ≡ true) × (test (unwrap_or (cond (not b) (Some c) (find (λ c. not (test c)) cs)) 0x20) ≡ false)
     cases true is x isx white e later = later (rest x white) e
       where
@@ -52,8 +51,8 @@ not_white f le =
     or_from (f == 0x20 || f == 0x09) ((f == 0x0A || f == 0x0D) || f == 0x0C)
     (or_from (f == 0x20) (f == 0x09) (ne_eqb f 0x20 (omega arith)) (ne_eqb f 0x09 (omega arith)))
     (or_from (f == 0x0A || f == 0x0D) (f == 0x0C)
-      (or_from (f == 0x0A) (f == 0x0D) (ne_eqb f 0x0A (omega arith)) (ne_eqb f 0x0D (omega arith)))
-      (ne_eqb f 0x0C (omega arith)))
+    (or_from (f == 0x0A) (f == 0x0D) (ne_eqb f 0x0A (omega arith)) (ne_eqb f 0x0D (omega arith)))
+    (ne_eqb f 0x0C (omega arith)))
 
 pub candidate_passes : CandidatePasses
 candidate_passes tests s f first left h =

@@ -5,10 +5,10 @@ use Rattle.std.specs.List.{filter, list_any}
 use Rattle.std.specs.Cmp.Lexicographic.{bytes_decides}
 use Rattle.std.proofs.lemmas.List.{append-nil}
 use Rattle.std.proofs.lemmas.List.Folds.{list_any-append}
-use Rattle.std.proofs.lemmas.Bool.{false≢true, true≢false, le-leb}
+use Rattle.std.proofs.lemmas.Bool.{false≢true, le-leb}
 use Rattle.std.proofs.lemmas.Bool.Decides.{leb_tells}
 use Rattle.css_model.specs.Lists.{same_text}
-use Rattle.attr_values.specs.Value.{once, longer, followed, words_then, spaced, kept_with, kept_of, more_words}
+use Rattle.attr_values.specs.Value.{once, longer, followed, words_then, spaced, kept_of, more_words}
 
 filter_both : (p q r : List ℕ → Bool) → ((y : List ℕ) → p y ≡ (q y && r y)) → (ys : List (List ℕ)) → filter p ys ≡ filter q (filter r ys)
 filter_both p q r h [] = refl
@@ -81,10 +81,10 @@ kept_are kept (x ∷ xs) = cases (list_any (λ y. same_text y x) kept) refl (kep
         kept ++ cond (not b) (x ∷ filter (λ y. not (list_any (λ k. same_text k y) kept)) (filter (λ y. not (same_text y x)) (once xs))) (filter (λ y. not (list_any (λ k. same_text k y) kept)) (filter (λ y. not (same_text y x)) (once xs)))
     cases true is here there =
         here ∙ ap (λ (zs : List (List ℕ)). kept ++ zs)
-          (filter_both (λ y. not (list_any (λ k. same_text k y) kept)) (λ y. not (list_any (λ k. same_text k y) kept)) (λ y. not (same_text y x)) (absorbs kept x is) (once xs))
+        (filter_both (λ y. not (list_any (λ k. same_text k y) kept)) (λ y. not (list_any (λ k. same_text k y) kept)) (λ y. not (same_text y x)) (absorbs kept x is) (once xs))
     cases false is here there =
         there ∙ append_assoc kept (x ∷ []) (filter (λ y. not (list_any (λ k. same_text k y) (kept ++ x ∷ []))) (once xs)) ∙ ap (λ (zs : List (List ℕ)). kept ++ x ∷ zs)
-          (filter_both (λ y. not (list_any (λ k. same_text k y) (kept ++ x ∷ []))) (λ y. not (list_any (λ k. same_text k y) kept)) (λ y. not (same_text y x)) (splits kept x) (once xs))
+        (filter_both (λ y. not (list_any (λ k. same_text k y) (kept ++ x ∷ []))) (λ y. not (list_any (λ k. same_text k y) kept)) (λ y. not (same_text y x)) (splits kept x) (once xs))
 
 pub kept_once : (xs : List (List ℕ)) → kept_of [] xs ≡ once xs
 kept_once xs = kept_are [] xs ∙ filter_each (λ y. true) (λ y. refl) (once xs)

@@ -1,21 +1,18 @@
 -- The tests as they are asked, and the value that is built for them.
-use Rattle.std.proofs.Common.{◌≡◌, ◌≢◌, ◌⊎◌, ℕ, ◌<◌, ◌≤◌, nat_le, Bool, true, false, not, ◌&&◌, cond, List, [], ◌∷◌, ◌++◌, length, refl, sym, ap, ap₂, subst, inl, inr, ◌∙◌, append_assoc, slice_index_or, arith}
+use Rattle.std.proofs.Common.{◌≡◌, ◌≢◌, ◌⊎◌, ℕ, ◌<◌, ◌≤◌, nat_le, Bool, true, false, not, ◌&&◌, cond, List, [], ◌∷◌, ◌++◌, length, refl, sym, ap, ap₂, subst, inl, inr, ◌∙◌, append_assoc, arith}
 use Rattle.std.specs.Bool.{MatchBool}
 use Rattle.std.specs.List.{All, filter}
 use Rattle.std.proofs.lemmas.List.Elements.{All-head, All-tail, All-nil, All-cons, All-weaker}
 use Rattle.std.proofs.lemmas.List.{append-nil, length-append}
-use Rattle.std.proofs.lemmas.Bool.{false≢true, cases_Bool, leb-true, leb-false, not-true}
+use Rattle.std.proofs.lemmas.Bool.{leb-true, leb-false}
 use Rattle.std.specs.Cmp.Lexicographic.{bytes_decides}
 use Rattle.css_model.specs.declared.selector.AttrTest.{AttrTest}
 use Rattle.css_model.specs.declared.selector.Op.{Op}
 use Rattle.css_model.specs.declared.selector.Op.TheVariants.{Present, Equal, Word, Dash, Prefix, Suffix, Part}
-use Rattle.css_model.specs.Text.Characters.{is_white}
-use Rattle.css_model.specs.Documents.Attribute.{BeginsWith, EndsWith, HasPart, StandsAlone, Passes}
+use Rattle.css_model.specs.Documents.Attribute.{BeginsWith, EndsWith, HasPart, Passes}
 use Rattle.css_model.specs.Lists.{same_text}
-use Rattle.attr_values.specs.Asked.{PassesOne, PassesAsAsked, asked, refused, is_equal, is_word, is_dash, is_suffix, is_part}
-use Rattle.attr_values.specs.Separators.{IsUnused, IsFreeSpace}
-use Rattle.attr_values.specs.Value.{start_of, starts, longer, longest, once, followed, words_then, built}
-use Rattle.attr_values.proofs.Inside.{part_inside, begins-part, ends-part, alone-part, part_back, word_back, parts_followed, words_stand, last_there, part_behind, end_splits, begin_splits, holds_separator}
+use Rattle.attr_values.specs.Asked.{PassesOne, PassesAsAsked, asked, is_word, is_dash, is_suffix, is_part}
+use Rattle.attr_values.specs.Value.{start_of, starts, longest, once}
 
 -- what a passing value says of the tests that are asked to hold
 word_one : (s : List ℕ) (op : Op) (v : List ℕ) (w : Bool) (vs : List (List ℕ)) → MatchBool w (Passes op v s) (Passes op v s → ⊥) →

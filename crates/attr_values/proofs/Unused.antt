@@ -1,14 +1,14 @@
 -- The least code point that stands in no value.
 use Rattle.std.proofs.Common.{◌≡◌, ◌≢◌, ◌⊎◌, ℕ, zero, suc, ◌<◌, ◌≤◌, ◌+◌, ◌-◌, Bool, true, false, Option, Some, None, List, [], ◌∷◌, refl, sym, ap, inl, inr, ◌∙◌, arith, slice_index_or}
-use Rattle.std.specs.Prelude.{◌==◌, ◌||◌, nat_le, is_some, MatchOption}
+use Rattle.std.specs.Prelude.{◌==◌, nat_le, is_some, MatchOption}
 use Rattle.std.specs.Char.{IsScalar}
 use lib.Utf8.{scalar, scalar_cases}
-use Rattle.std.specs.List.{All, list_any}
+use Rattle.std.specs.List.{All}
 use Rattle.std.proofs.lemmas.List.Elements.{All-head, All-tail, All-nil, All-cons}
 use Rattle.std.proofs.lemmas.Bool.{true≢false, false≢true, or_parts, or_from, ne_eqb, eqb-false}
 use Rattle.std.proofs.lemmas.Bool.Decides.{leb_tells}
 use Rattle.css_model.specs.declared.selector.AttrTest.{AttrTest}
-use Rattle.attr_values.specs.Separators.{IsUnused, holds, is_used, HasUnused, IsFirstUnused, first_separator, AreMarks, AllMarkedBelow}
+use Rattle.attr_values.specs.Separators.{IsUnused, holds, is_used, HasUnused, IsFirstUnused, first_separator, AreMarks, AllMarkedBelow, IsFirstUnmarked}
 
 free_of : (c : ℕ) (v : List ℕ) → holds c v ≡ false → All (λ d. d ≢ c) v
 free_of c [] e = All-nil (λ d. d ≢ c)
@@ -45,19 +45,18 @@ mark_tells : (marks : List Bool) (tests : List (AttrTest × Bool)) (c : ℕ) →
 mark_tells marks tests c are le =
     are (c - first_separator) ∙ ap (λ (n : ℕ). is_used n tests) (let e : first_separator + (c - first_separator) ≡ c = omega arith in e)
 
-pub first_is : (f : ℕ) (marks : List Bool) (tests : List (AttrTest × Bool)) → AreMarks marks tests → IsScalar f → first_separator ≤ f →
-    slice_index_or marks (f - first_separator) false ≡ false → AllMarkedBelow f marks → IsFirstUnused f tests
-first_is f marks tests are scalar from none below =
-    record { scalar = scalar; from_a = from; unused = unused_is f tests (sym (mark_tells marks tests f are from) ∙ none); least = least }
+first_is : (f : ℕ) (marks : List Bool) (tests : List (AttrTest × Bool)) → AreMarks marks tests → IsFirstUnmarked f marks → IsFirstUnused f tests
+first_is f marks tests are first =
+    record { scalar = first.scalar; from_a = first.from_a; unused = unused_is f tests (sym (mark_tells marks tests f are first.from_a) ∙ first.unmarked); least = least }
   where
     least : (g : ℕ) → IsScalar g → first_separator ≤ g → IsUnused g tests → f ≤ g
     least g is le free = cases (leb_tells f g)
       where
         cases : ((nat_le f g ≡ true) × (f ≤ g)) ⊎ ((nat_le f g ≡ false) × (g < f)) → f ≤ g
         cases (inl t) = t.1
-        cases (inr t) = absurd (true≢false (sym (below g is le t.1) ∙ mark_tells marks tests g are le ∙ not_used g tests free))
+        cases (inr t) = absurd (true≢false (sym (first.least g is le t.1) ∙ mark_tells marks tests g are le ∙ not_used g tests free))
 
-pub none_is : (marks : List Bool) (tests : List (AttrTest × Bool)) → AreMarks marks tests → AllMarkedBelow 0x110000 marks → HasUnused tests → ⊥
+none_is : (marks : List Bool) (tests : List (AttrTest × Bool)) → AreMarks marks tests → AllMarkedBelow 0x110000 marks → HasUnused tests → ⊥
 none_is marks tests are below has =
     true≢false (sym (below has.0 has.1 has.2 (small has.0 has.1)) ∙ mark_tells marks tests has.0 are has.2 ∙ not_used has.0 tests has.3)
 
@@ -86,10 +85,10 @@ some_first tests has = search_from tests (suc has.0) 0 (λ g is le free. omega a
 
 -- what is found by the marks
 pub unmarked_is : (marks : List Bool) (tests : List (AttrTest × Bool)) (r : Option ℕ) → AreMarks marks tests →
-    MatchOption r (AllMarkedBelow 0x110000 marks) (λ f. IsScalar f × (first_separator ≤ f) × (slice_index_or marks (f - first_separator) false ≡ false) × AllMarkedBelow f marks) →
+    MatchOption r (AllMarkedBelow 0x110000 marks) (λ f. IsFirstUnmarked f marks) →
     MatchOption r (HasUnused tests → ⊥) (λ f. IsFirstUnused f tests)
 unmarked_is marks tests None are h = none_is marks tests are h
-unmarked_is marks tests (Some f) are h = first_is f marks tests are h.0 h.1 h.2 h.3
+unmarked_is marks tests (Some f) are h = first_is f marks tests are h
 
 pub found_is : (tests : List (AttrTest × Bool)) (r : Option ℕ) (b : Bool) → MatchOption r (HasUnused tests → ⊥) (λ f. IsFirstUnused f tests) → b ≡ is_some r →
     (b ≡ true → HasUnused tests) × (HasUnused tests → b ≡ true)

@@ -112,10 +112,13 @@ alone_whole before behind text v some dark h = cases h.0 h.1 v some text dark h.
 
 -- in a piece of a text
 pub alone_inside : (left piece right v : List ℕ) → Alone (ends_white true left) (starts_white true right) piece v → StandsAlone (left ++ piece ++ right) v
-alone_inside left piece right v h = alone-stands (left ++ piece ++ right) v
-    (left ++ h.0, h.1 ++ right, placed,
-    ends-append true left h.0 ∙ h.3,
-    starts-append true h.1 right ∙ h.4)
+alone_inside left piece right v h = alone-stands (left ++ piece ++ right) v (
+  left ++ h.0,
+  h.1 ++ right,
+  placed,
+  ends-append true left h.0 ∙ h.3,
+  starts-append true h.1 right ∙ h.4,
+)
   where
     placed : left ++ piece ++ right ≡ (left ++ h.0) ++ v ++ (h.1 ++ right)
     placed = ap (λ (t : List ℕ). left ++ t ++ right) h.2 ∙ simp append_assoc

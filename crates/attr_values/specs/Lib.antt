@@ -1,4 +1,5 @@
 pub mod Asked
+pub mod Messages
 pub mod Separators
 pub mod Solved
 pub mod Value

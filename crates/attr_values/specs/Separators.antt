@@ -42,6 +42,13 @@ AreMarks marks tests = (k : ℕ) → slice_index_or marks k false ≡ is_used (f
 abbrev pub AllMarkedBelow : ℕ → List Bool → Type 0
 AllMarkedBelow n marks = (g : ℕ) → IsScalar g → first_separator ≤ g → g < n → slice_index_or marks (g - first_separator) false ≡ true
 
+-- the first code point from `a` on that is not marked
+pub record IsFirstUnmarked (f : ℕ) (marks : List Bool) : Type 0 where
+  pub scalar : IsScalar f
+  pub from_a : first_separator ≤ f
+  pub unmarked : slice_index_or marks (f - first_separator) false ≡ false
+  pub least : AllMarkedBelow f marks
+
 -- the white space of Selectors 3, section 4, in the order in which it is tried
 abbrev pub white_spaces : List ℕ
 white_spaces = 0x20 ∷ 0x09 ∷ 0x0A ∷ 0x0C ∷ 0x0D ∷ []

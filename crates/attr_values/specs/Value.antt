@@ -4,7 +4,7 @@ use Rattle.std.specs.Prelude.{ℕ, Bool, true, false, not, if◌then◌else◌, 
 use Rattle.std.specs.List.{filter, list_all, list_any}
 use Rattle.css_model.specs.declared.selector.AttrTest.{AttrTest}
 use Rattle.css_model.specs.declared.selector.Op.{Op}
-use Rattle.css_model.specs.declared.selector.Op.TheVariants.{Present, Equal, Word, Dash, Prefix, Suffix, Part}
+use Rattle.css_model.specs.declared.selector.Op.TheVariants.{Dash, Prefix}
 use Rattle.css_model.specs.Lists.{same_text}
 use Rattle.attr_values.specs.Asked.{passes_as_asked, asked, is_equal, is_word, is_dash, is_suffix, is_part, is_word_or_present}
 

@@ -53,10 +53,15 @@ pub(crate) fn longest_asked(tests: &[(AttrTest, bool)], op: Op) -> &[char]
     best
 }
 
+/// The longer of two texts, of equally long ones the first.
 fn longer<'a>(best: &'a [char], other: &'a [char]) -> &'a [char]
     ensures { result.now ≡ longer best.now other.now }
 {
-    if other.len() <= best.len() { best } else { other }
+    if other.len() <= best.len() {
+        best
+    } else {
+        other
+    }
 }
 
 /// Whether each test is one of a word, or of presence alone.
@@ -66,12 +71,14 @@ pub(crate) fn is_of_words(tests: &[(AttrTest, bool)]) -> bool
     tests.iter().all(|(test, _)| is_word_or_present(test.op))
 }
 
+/// Whether an operator asks for a word, or for presence alone.
 fn is_word_or_present(op: Op) -> bool
     ensures { result ≡ is_word_or_present op }
 {
     matches!(op, Op::Word | Op::Present)
 }
 
+/// Whether the second operator is the first one.
 fn is_op(op: Op, other: Op) -> bool
     ensures { result ≡ is_op op other }
 {

@@ -8,6 +8,7 @@ mod solve;
 mod start;
 mod value;
 
+pub use passing::passes_as_asked;
 pub use separators::has_unused;
 pub use solve::{Fits, ValueError, candidate_passes, solve_value};
 

@@ -1,6 +1,6 @@
 //! Whether a value passes tests as they are asked (Selectors 3, sections 6.3.1 and 6.3.2).
 
-ghost use Rattle.std.specs.Prelude.{◌≡◌, ◌≢◌, ℕ, List, [], ◌∷◌, ◌++◌, not, ◌||◌, IfOk, string_bytes};
+ghost use Rattle.std.specs.Prelude.{◌≡◌, ◌≢◌, ℕ, List, [], ◌∷◌, ◌++◌, not, IfOk, string_bytes};
 ghost use Rattle.std.specs.List.{list_all};
 ghost use Rattle.std.specs.Str.{encode_utf8_all};
 ghost use Rattle.css_model.specs.Documents.Attribute.{
@@ -12,14 +12,16 @@ ghost use Rattle.css_model.specs.Documents.Attribute.{
 };
 ghost use Rattle.css_model.specs.Lists.{begins_with};
 ghost use Rattle.css_model.specs.Text.Characters.{is_white};
-ghost use Rattle.attr_values.specs.Asked.{passes_as_asked, passes_one};
+ghost use Rattle.attr_values.specs.Asked.{passes_as_asked};
 
 use css_model::{AttrTest, Op};
 use memchr::memmem;
 use std::alloc::{AllocError, Global};
 
-/// Whether a value passes each test as it is asked.
-pub(crate) fn passes_as_asked(
+/// Whether a value of code points passes each test as it is asked: holds it where the flag is true, and
+/// does not hold it where the flag is false (Selectors 3, sections 6.3.1, 6.3.2 and 6.6.7). The names
+/// in the tests do not count.
+pub fn passes_as_asked(
     alloc: Global,
     tests: &[(AttrTest, bool)],
     value: &[char],
@@ -53,12 +55,14 @@ fn passes(alloc: Global, test: &AttrTest, value: &[char], bytes: &str) -> Result
     }
 }
 
+/// Whether a value begins with another one that is not empty.
 fn passes_prefix(value: &[char], v: &[char]) -> bool
     ensures { result ≡ passes Op.Prefix v.now value.now }
 {
     !v.is_empty() && value.starts_with(v)
 }
 
+/// Whether a value ends with another one that is not empty.
 fn passes_suffix(value: &[char], v: &[char]) -> bool
     ensures { result ≡ passes Op.Suffix v.now value.now }
 {
@@ -79,8 +83,8 @@ fn passes_part(alloc: Global, value: &[char], bytes: &str, v: &[char]) -> Result
 
 /// Whether a text has a part: in UTF-8 no character begins inside another one, so that the bytes say it.
 fn has_part(bytes: &str, part: &str) -> bool
-    ensures { (text v : List ℕ) → v ≢ [] → bytes.now ≡ encode_utf8_all text → part.now ≡ encode_utf8_all v →
-        result ≡ has_part text v }
+    ensures { (text v : List ℕ) → v ≢ [] → bytes.now ≡ encode_utf8_all text
+        → part.now ≡ encode_utf8_all v → result ≡ has_part text v }
 {
     memmem::find(bytes.as_bytes(), part.as_bytes()).is_some()
 }
@@ -105,12 +109,14 @@ fn passes_word(value: &[char], word: &[char]) -> bool
         && (begins_with_word(value, word) || has_word_later(value, word))
 }
 
+/// Whether a text holds no white space.
 fn is_without_white(text: &[char]) -> bool
     ensures { result ≡ list_all (λ c. not (is_white c)) text.now }
 {
     text.iter().all(|c| !is_white(*c))
 }
 
+/// Whether a code point is white space (Selectors 3, section 4).
 fn is_white(c: char) -> bool
     ensures { result ≡ is_white c }
 {
@@ -161,6 +167,7 @@ fn begins_with_dash(text: &[char], v: &[char]) -> bool
     }
 }
 
+/// Whether a text begins with `-`.
 fn starts_with_dash(text: &[char]) -> bool
     ensures { result ≡ begins_with text.now (0x2D ∷ []) }
 {

@@ -1,16 +1,15 @@
 //! What keeps the pieces of a value apart: a code point that no test names, and a white space.
 
-ghost use Rattle.std.specs.Prelude.{◌≡◌, ◌≤◌, ◌+◌, ◌-◌, ◌==◌, ◌||◌, ◌↔◌, not, false, ℕ, IfOk, OnOk, IsTrue, MatchOption, slice_index_or};
-ghost use Rattle.std.specs.Char.{IsScalar};
+ghost use Rattle.std.specs.Prelude.{◌≡◌, ◌≤◌, ◌+◌, ◌-◌, ◌==◌, ◌||◌, ◌↔◌, false, ℕ, IfOk, OnOk, IsTrue, MatchOption, slice_index_or};
 ghost use Rattle.std.specs.List.{list_all};
 ghost use Rattle.attr_values.specs.Separators.{
   holds,
-  is_used,
   HasUnused,
   IsFirstUnused,
   first_separator,
   AreMarks,
   AllMarkedBelow,
+  IsFirstUnmarked,
   white_spaces,
   is_taken,
   spaces_taken,
@@ -24,6 +23,9 @@ use std::alloc::{AllocError, Global};
 /// The first code point that may keep pieces apart.
 const FIRST_SEPARATOR: u32 = 'a' as u32;
 
+/// How many code points there are.
+const CODE_POINTS: u32 = char::MAX as u32 + 1;
+
 /// Whether some code point from `a` on stands in the value of no test, as `solve_value` asks.
 pub fn has_unused(alloc: Global, tests: &[(AttrTest, bool)]) -> Result<bool, AllocError>
     ensures { IfOk result (λ unused. IsTrue unused ↔ HasUnused tests.now) }
@@ -33,8 +35,13 @@ pub fn has_unused(alloc: Global, tests: &[(AttrTest, bool)]) -> Result<bool, All
 }
 
 /// The least code point from `a` on that stands in the value of no test, if there is one.
-pub(crate) fn first_unused(alloc: Global, tests: &[(AttrTest, bool)]) -> Result<Option<char>, AllocError>
-    ensures { IfOk result (λ unused. MatchOption unused (HasUnused tests.now → ⊥) (λ f. IsFirstUnused f tests.now)) }
+pub(crate) fn first_unused(
+    alloc: Global,
+    tests: &[(AttrTest, bool)],
+) -> Result<Option<char>, AllocError>
+    ensures { IfOk result (λ unused. MatchOption unused
+        (HasUnused tests.now → ⊥)
+        (λ f. IsFirstUnused f tests.now)) }
 {
     let marks = marks(alloc, tests)?;
     Ok(first_unmarked(marks.as_slice()))
@@ -51,6 +58,7 @@ fn marks(alloc: Global, tests: &[(AttrTest, bool)]) -> Result<Vec<bool>, AllocEr
     Ok(marks)
 }
 
+/// Marks the code points of a text.
 fn mark_all(marks: &mut Vec<bool>, text: &[char]) -> Result<(), AllocError>
     ensures { OnOk result ((k : ℕ) → slice_index_or marks.new.items k false
         ≡ (slice_index_or marks.old.items k false || holds (first_separator + k) text.now)) }
@@ -61,6 +69,7 @@ fn mark_all(marks: &mut Vec<bool>, text: &[char]) -> Result<(), AllocError>
     Ok(())
 }
 
+/// Marks a code point; nothing where it stands before `a`.
 fn mark(marks: &mut Vec<bool>, c: char) -> Result<(), AllocError>
     ensures { OnOk result ((k : ℕ) → slice_index_or marks.new.items k false
         ≡ (slice_index_or marks.old.items k false || (c == first_separator + k))) }
@@ -79,10 +88,9 @@ fn mark(marks: &mut Vec<bool>, c: char) -> Result<(), AllocError>
 
 /// The least code point from `a` on that is not marked.
 fn first_unmarked(marks: &[bool]) -> Option<char>
-    ensures { MatchOption result (AllMarkedBelow 0x110000 marks.now)
-        (λ f. IsScalar f × (first_separator ≤ f) × (slice_index_or marks.now (f - first_separator) false ≡ false) × AllMarkedBelow f marks.now) }
+    ensures { MatchOption result (AllMarkedBelow 0x110000 marks.now) (λ f. IsFirstUnmarked f marks.now) }
 {
-    for code in FIRST_SEPARATOR..0x110000 {
+    for code in FIRST_SEPARATOR..CODE_POINTS {
         if let Some(c) = char::from_u32(code) {
             if !is_marked(marks, code) {
                 return Some(c);
@@ -92,6 +100,7 @@ fn first_unmarked(marks: &[bool]) -> Option<char>
     None
 }
 
+/// Whether a code point from `a` on is marked.
 fn is_marked(marks: &[bool], code: u32) -> bool
     requires { first_separator ≤ code }
     ensures { result ≡ slice_index_or marks.now (code - first_separator) false }
@@ -107,6 +116,7 @@ pub(crate) fn spaces_taken(tests: &[(AttrTest, bool)]) -> bool
     is_any_asked(tests, Op::Word) && !is_any_asked(tests, Op::Equal) && all_taken(tests)
 }
 
+/// Whether each white space is taken.
 fn all_taken(tests: &[(AttrTest, bool)]) -> bool
     ensures { result ≡ list_all (λ c. is_taken c tests.now) white_spaces }
 {

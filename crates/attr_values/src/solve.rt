@@ -10,6 +10,7 @@ use crate::separators::spaces_taken;
 use crate::value::candidate;
 use css_model::{AttrTest, Text};
 use std::alloc::{AllocError, Global};
+use std::fmt;
 use thiserror::Error;
 
 /// How an attribute passes tests as they are asked.
@@ -27,11 +28,23 @@ pub enum Fits {
 #[derive(Clone, Copy, Debug, PartialEq, Eq, Error)]
 pub enum ValueError {
     /// A word is asked for, and each white space that could stand beside it is refused.
-    #[error("no white space is left to stand beside a word")]
     SpacesTaken,
     /// There is not enough memory.
-    #[error("out of memory")]
     NoMemory,
+}
+
+impl fmt::Display for ValueError {
+    ghost use Rattle.std.specs.Prelude.{Some};
+    ghost use Rattle.attr_values.specs.Messages.{value_error};
+
+    ghost output = { λ error. Some (value_error error) };
+
+    fn fmt<W: fmt::Write>(&self, f: &mut fmt::Formatter<W>) -> fmt::Result {
+        f.write_str(match self {
+            ValueError::SpacesTaken => "no white space is left to stand beside a word",
+            ValueError::NoMemory => "out of memory",
+        })
+    }
 }
 
 impl From<AllocError> for ValueError {

@@ -17,17 +17,21 @@ pub(crate) struct Start<'a> {
 pub(crate) fn longest_start(tests: &[(AttrTest, bool)]) -> Start<'_>
     ensures { start_text result.value.now result.dash ≡ longest (starts tests.now) }
 {
-    let mut best = Start { value: &[], dash: false };
+    let mut best = Start {
+        value: &[],
+        dash: false,
+    };
     for (test, wanted) in tests {
         best = with_start(best, test, *wanted);
     }
     best
 }
 
+/// The longest so far, with one test more.
 fn with_start<'a>(best: Start<'a>, test: &'a AttrTest, wanted: bool) -> Start<'a>
     ensures { (rest : List (List ℕ)) → longer (start_text result.value.now result.dash) (longest rest)
         ≡ longer (start_text best.entry.value.now best.entry.dash)
-            (longest (if wanted then start_of test.now.op test.now.value rest else rest)) }
+        (longest (if wanted then start_of test.now.op test.now.value rest else rest)) }
 {
     if !wanted {
         return best;
@@ -40,9 +44,11 @@ fn with_start<'a>(best: Start<'a>, test: &'a AttrTest, wanted: bool) -> Start<'a
     }
 }
 
+/// The longer one, of equally long ones the first.
 fn longer_start<'a>(best: Start<'a>, other: Start<'a>) -> Start<'a>
     ensures { start_text result.value.now result.dash
-        ≡ longer (start_text best.entry.value.now best.entry.dash) (start_text other.entry.value.now other.entry.dash) }
+        ≡ longer (start_text best.entry.value.now best.entry.dash)
+        (start_text other.entry.value.now other.entry.dash) }
 {
     if start_len(other) <= start_len(best) {
         best
@@ -51,6 +57,7 @@ fn longer_start<'a>(best: Start<'a>, other: Start<'a>) -> Start<'a>
     }
 }
 
+/// How many code points it has.
 fn start_len(start: Start<'_>) -> usize
     ensures { result ≡ length (start_text start.entry.value.now start.entry.dash) }
 {
@@ -60,4 +67,3 @@ fn start_len(start: Start<'_>) -> usize
         start.value.len()
     }
 }
-

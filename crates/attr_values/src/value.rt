@@ -37,9 +37,11 @@ pub(crate) fn candidate(alloc: Global, tests: &[(AttrTest, bool)]) -> Result<Tex
     }
 }
 
+/// The value that is tried where no Equal is asked for.
 fn without_equal(alloc: Global, tests: &[(AttrTest, bool)]) -> Result<Text, AllocError>
     requires { HasUnused tests.now }
-    ensures { IfOk result (λ v. (f : ℕ) × IsFirstUnused f tests.now × (v ≡ without_equal f (free_space tests.now) tests.now)) }
+    ensures { IfOk result (λ v. (f : ℕ) × IsFirstUnused f tests.now
+        × (v ≡ without_equal f (free_space tests.now) tests.now)) }
 {
     let words = words(alloc, tests)?;
     if is_of_words(tests) {
@@ -60,7 +62,10 @@ fn without_equal(alloc: Global, tests: &[(AttrTest, bool)]) -> Result<Text, Allo
 
 /// The value of the first Dash that is asked for and passes. It is the longest of those that are asked
 /// for, since a value that passes is each of them or begins with it.
-fn passing_dash<'a>(alloc: Global, tests: &'a [(AttrTest, bool)]) -> Result<Option<&'a [char]>, AllocError>
+fn passing_dash<'a>(
+    alloc: Global,
+    tests: &'a [(AttrTest, bool)],
+) -> Result<Option<&'a [char]>, AllocError>
     ensures { IfOk result (λ found. MatchOption found
         ((other : List ℕ) → first_passing tests.now (asked is_dash tests.now) other ≡ other)
         (λ v. (other : List ℕ) → first_passing tests.now (asked is_dash tests.now) other ≡ v.now)) }
@@ -86,6 +91,7 @@ fn words(alloc: Global, tests: &[(AttrTest, bool)]) -> Result<Vec<Text>, AllocEr
     Ok(kept)
 }
 
+/// Keeps a word, unless it is there.
 fn keep(kept: &mut Vec<Text>, word: &Text) -> Result<(), AllocError>
     ensures { OnOk result (kept.new.items ≡ kept_with kept.old.items word.now) }
 {
@@ -112,6 +118,7 @@ fn spaced(alloc: Global, words: &[Text]) -> Result<Vec<char>, AllocError>
     }
 }
 
+/// Appends words, and a space before each.
 fn push_more(out: &mut Vec<char>, words: &[Text]) -> Result<(), AllocError>
     ensures { OnOk result (out.new.items ≡ out.old.items ++ more_words words.now) }
 {
@@ -126,7 +133,8 @@ fn push_more(out: &mut Vec<char>, words: &[Text]) -> Result<(), AllocError>
 fn built(alloc: Global, tests: &[(AttrTest, bool)], words: &[Text]) -> Result<Vec<char>, AllocError>
     requires words { words.now ≡ once (asked is_word tests.now) }
     requires unused { HasUnused tests.now }
-    ensures { IfOk result (λ v. (f : ℕ) × IsFirstUnused f tests.now × (v.items ≡ built f (free_space tests.now) tests.now)) }
+    ensures { IfOk result (λ v. (f : ℕ) × IsFirstUnused f tests.now
+        × (v.items ≡ built f (free_space tests.now) tests.now)) }
 {
     match first_unused(alloc, tests)? {
         Some(f) => built_with(alloc, tests, f, words),
@@ -134,7 +142,13 @@ fn built(alloc: Global, tests: &[(AttrTest, bool)], words: &[Text]) -> Result<Ve
     }
 }
 
-fn built_with(alloc: Global, tests: &[(AttrTest, bool)], f: char, words: &[Text]) -> Result<Vec<char>, AllocError>
+/// The same with the separator `f`.
+fn built_with(
+    alloc: Global,
+    tests: &[(AttrTest, bool)],
+    f: char,
+    words: &[Text],
+) -> Result<Vec<char>, AllocError>
     requires { words.now ≡ once (asked is_word tests.now) }
     ensures { IfOk result (λ v. v.items ≡ built f (free_space tests.now) tests.now) }
 {
@@ -147,6 +161,7 @@ fn built_with(alloc: Global, tests: &[(AttrTest, bool)], f: char, words: &[Text]
     Ok(out)
 }
 
+/// Appends what a value has to begin with.
 fn push_start(out: &mut Vec<char>, start: Start<'_>) -> Result<(), AllocError>
     ensures { OnOk result (out.new.items ≡ out.old.items ++ start_text start.entry.value.now start.entry.dash) }
 {
@@ -157,7 +172,7 @@ fn push_start(out: &mut Vec<char>, start: Start<'_>) -> Result<(), AllocError>
     Ok(())
 }
 
-/// The parts that are asked for, and a separator behind each.
+/// Appends the parts that are asked for, and a separator behind each.
 fn push_parts(out: &mut Vec<char>, f: char, tests: &[(AttrTest, bool)]) -> Result<(), AllocError>
     ensures { OnOk result (out.new.items ≡ out.old.items ++ followed f (asked is_part tests.now) []) }
 {
@@ -169,9 +184,15 @@ fn push_parts(out: &mut Vec<char>, f: char, tests: &[(AttrTest, bool)]) -> Resul
     Ok(())
 }
 
-/// The words between white spaces; nothing where there is no word.
-fn push_words(out: &mut Vec<char>, f: char, tests: &[(AttrTest, bool)], words: &[Text]) -> Result<(), AllocError>
-    ensures { OnOk result (out.new.items ≡ out.old.items ++ words_then f (free_space tests.now) words.now []) }
+/// Appends the words between white spaces; nothing where there is no word.
+fn push_words(
+    out: &mut Vec<char>,
+    f: char,
+    tests: &[(AttrTest, bool)],
+    words: &[Text],
+) -> Result<(), AllocError>
+    ensures { OnOk result (out.new.items
+        ≡ out.old.items ++ words_then f (free_space tests.now) words.now []) }
 {
     if words.is_empty() {
         return Ok(());
@@ -185,6 +206,7 @@ fn push_words(out: &mut Vec<char>, f: char, tests: &[(AttrTest, bool)], words: &
     Ok(())
 }
 
+/// Appends a text, and a code point behind it.
 fn push_then(out: &mut Vec<char>, text: &[char], c: char) -> Result<(), AllocError>
     ensures { OnOk result (out.new.items ≡ out.old.items ++ (text.now ++ c ∷ [])) }
 {

@@ -9,7 +9,7 @@ pub returns-in-Some : goal.returns-in-Some
 returns-in-Some c =
     c.starts_with_dash.ensures ∙
     sym (ap (λ (t : List ℕ). begins_with t (c.args.v.now ++ 0x2D ∷ [])) (strip_prefix_is Decides-eqb c.args.text.now c.args.v.now (Some c.in-Some.rest) c.in-Some.ensures.cases) ∙
-      dash_behind c.args.v.now c.in-Some.rest.now (0x2D ∷ []))
+    dash_behind c.args.v.now c.in-Some.rest.now (0x2D ∷ []))
 
 pub returns-in-None : goal.returns-in-None
 returns-in-None c = sym (no_dash c.args.text.now c.args.v.now (0x2D ∷ []) (strip_prefix_is Decides-eqb c.args.text.now c.args.v.now None c.in-None.ensures.cases))

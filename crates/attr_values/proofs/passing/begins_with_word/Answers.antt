@@ -9,7 +9,7 @@ pub returns-in-Some : goal.returns-in-Some
 returns-in-Some c =
     c.starts_white.ensures ∙
     sym (ap (λ (t : List ℕ). begins_with_word t c.args.word.now) (strip_prefix_is Decides-eqb c.args.text.now c.args.word.now (Some c.in-Some.rest) c.in-Some.ensures.cases) ∙
-      word_behind c.args.word.now c.in-Some.rest.now)
+    word_behind c.args.word.now c.in-Some.rest.now)
 
 pub returns-in-None : goal.returns-in-None
 returns-in-None c = sym (no_word c.args.text.now c.args.word.now (strip_prefix_is Decides-eqb c.args.text.now c.args.word.now None c.in-None.ensures.cases))

@@ -1,4 +1,4 @@
-use Rattle.std.proofs.Common.{◌≡◌, ◌++◌, ◌∷◌, [], ◌∙◌, ℕ, ap, sym, arith}
+use Rattle.std.proofs.Common.{◌++◌, [], ◌∙◌, ℕ, ap, arith}
 use Rattle.attr_values.specs.Value.{words_then}
 use Rattle.attr_values.proofs.Ends.{push_words_end}
 use Rattle.attr_values.proofs.value.push_words.Goals as goal

@@ -14,8 +14,8 @@ pub returns-in-Some : goal.returns-in-Some
 returns-in-Some c =
     dash_tried c.args.tests.now c.in-Some.v.now c.new-in-Some.result c.requires c.if-is_of_words.ensures
     (subst
-      (λ (o : Option (Bor (List ℕ))). MatchOption o
-        ((other : List ℕ) → first_passing c.args.tests.now (asked is_dash c.args.tests.now) other ≡ other)
-        (λ v. (other : List ℕ) → first_passing c.args.tests.now (asked is_dash c.args.tests.now) other ≡ v.now))
-      c.in-Some.is c.in_ok-v.ensures)
+    (λ (o : Option (Bor (List ℕ))). MatchOption o
+    ((other : List ℕ) → first_passing c.args.tests.now (asked is_dash c.args.tests.now) other ≡ other)
+    (λ v. (other : List ℕ) → first_passing c.args.tests.now (asked is_dash c.args.tests.now) other ≡ v.now))
+    c.in-Some.is c.in_ok-v.ensures)
     (c.new-in-Some.ensures ∙ c.in_ok-codes-in-Some.ensures.items)
