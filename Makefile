@@ -3,6 +3,8 @@
 # make install    installs it below PREFIX (/usr/local)
 # make examples   checks that the program gives the outputs beside the examples
 # make bench      measures it, and its reading of tokens, against wc -c on the same files
+# make sizes      prints the sizes that it and esbuild give the examples
+# make recipes    tries the recipes for builds in examples/build
 
 PREFIX ?= /usr/local
 RT ?= rt
@@ -31,7 +33,13 @@ bench: cssmin
 	python3 bench/min.py ./cssmin $(SHEETS)
 	python3 bench/tokens.py crates/token_count/out/token_count
 
+sizes: cssmin
+	python3 bench/sizes.py ./cssmin $(SHEETS)
+
+recipes: cssmin
+	node examples/build/try.mjs ./cssmin
+
 clean:
 	rm -rf cssmin crates/*/out
 
-.PHONY: all check install examples bench clean
+.PHONY: all check install examples bench sizes recipes clean
