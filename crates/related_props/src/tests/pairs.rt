@@ -3,7 +3,7 @@
 
 /// Shorthands beside properties that they set, also through the directions of a text, and some
 /// longhands of one such property.
-pub(crate) const SHORTHANDS: [(&str, &str); 88] = [
+pub(crate) const SHORTHANDS: [(&str, &str); 90] = [
     ("font", "line-height"),
     ("font", "font-family"),
     ("font", "font-size-adjust"),
@@ -36,6 +36,8 @@ pub(crate) const SHORTHANDS: [(&str, &str); 88] = [
     ("columns", "column-count"),
     ("columns", "column-width"),
     ("column-rule", "column-rule-color"),
+    ("rule", "column-rule"),
+    ("rule", "row-rule-color"),
     ("text-decoration", "text-decoration-thickness"),
     ("text-decoration-skip", "text-decoration-skip-ink"),
     ("text-emphasis", "text-emphasis-color"),
@@ -165,9 +167,7 @@ pub(crate) const INDEPENDENT: [(&str, &str); 20] = [
 
 /// Names of drafts, trials and releases of the past that do set properties of another family. The
 /// claim does not cover sheets that hold such a pair.
-pub(crate) const ACROSS: [(&str, &str); 11] = [
-    ("rule", "column-rule"),
-    ("rule", "row-rule-color"),
+pub(crate) const ACROSS: [(&str, &str); 9] = [
     ("line-clamp", "max-lines"),
     ("line-clamp", "block-ellipsis"),
     ("line-clamp", "continue"),
