@@ -28,7 +28,7 @@ selector_of_tokens : (text : List ℕ) (xs : List SelectorToken) (fault : Bool) 
 selector_of_tokens text xs fault all ends =
     by_fault (tokens text false).fault _
     ∙ ap₂ (λ (f : Bool) (ys : List SelectorToken). before_fault f (selector_of_terms (terms_from 0 0 ys))) (sym ends)
-        (tokens_of_lexemes text [] (tokens text false).tokens ∙ sym all)
+    (tokens_of_lexemes text [] (tokens text false).tokens ∙ sym all)
 
 -- whole
 pub is_whole : (text : List ℕ) (xs : List SelectorToken) (selector : SelectorParts) → xs ≡ tokens_of text (tokens text false).tokens

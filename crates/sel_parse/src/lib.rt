@@ -18,5 +18,7 @@ mod tokens;
 mod types;
 
 pub use error::SelError;
-pub use parse::parse_selector;
-pub use tokens::SelectorToken;
+pub use parse::{parse_selector, read_selector};
+
+#[cfg(test)]
+mod tests;

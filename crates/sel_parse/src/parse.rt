@@ -1,9 +1,12 @@
 //! Selectors from the bytes of their texts.
 
-ghost use Rattle.std.specs.Prelude.{◌≡◌, ◌≤◌, ◌++◌, [], ◌∷◌, false, is_some, length, IfOk, IfSome, OnOk};
+ghost use Rattle.std.specs.Prelude.{◌≡◌, ◌≤◌, ◌++◌, [], ◌∷◌, false, is_some, length, map, IfOk, IfSome, OnOk};
 ghost use Rattle.css_model.specs.Text.Lexemes.{gap_of, is_white_kind};
-ghost use Rattle.css_model.specs.Selectors.Reading.{selector_of, selector_of_terms};
-ghost use Rattle.css_model.specs.Selectors.Terms.{terms_from};
+ghost use Rattle.std.specs.List.{AllByRecursion};
+ghost use Rattle.css_model.specs.Selectors.Reading.{selector_of, selector_of_lexemes};
+ghost use Rattle.css_model.specs.Selectors.Tokens.{selector_token};
+ghost use Rattle.css_model.specs.Text.Kept.{solid};
+ghost use Rattle.css_model.specs.Text.Source.{IsWithin};
 ghost use Rattle.css_model.specs.Text.Tokens.{tokens};
 ghost use Rattle.css_model.specs.Sheets.Limits.{max_bytes};
 ghost use Rattle.css_tokens.specs.Laws.{StandsIn};
@@ -13,7 +16,7 @@ ghost use Rattle.sel_parse.specs.Tokens as spec;
 use crate::error::{Refusal, SelError};
 use crate::reading::read;
 use crate::tokens::SelectorToken;
-use css_model::{Gap, Reason, Selector, Token, TokenKind};
+use css_model::{Gap, Lexeme, Reason, Selector, Token, TokenKind};
 use css_tokens::{Tokens, tokens_restart};
 use std::alloc::{AllocError, Global};
 
@@ -140,6 +143,54 @@ pub fn parse_selector(alloc: Global, text: &[u8]) -> Result<Selector, SelError>
                 Ok(selector)
             }
         }
+        Err(Refusal::Outside(reason)) => Err(SelError::Outside(reason.number())),
+        Err(Refusal::NoMemory) => Err(SelError::NoMemory),
+    }
+}
+
+/// A token of a source by its place.
+fn token_of<'a>(source: &'a [u8], x: &Lexeme) -> SelectorToken<'a>
+    requires within { IsWithin source.now x.now.span }
+    requires short { length source.now ≤ max_bytes }
+    ensures { result ≡ selector_token (solid source.now x.now) }
+{
+    SelectorToken::new(x.kind, x.span.text(source), x.gap)
+}
+
+fn tokens_of_part<'a>(
+    alloc: Global,
+    source: &'a [u8],
+    part: &[Lexeme],
+) -> Result<Vec<SelectorToken<'a>>, AllocError>
+    requires within { AllByRecursion (λ x. IsWithin source.now x.span) part.now }
+    requires short { length source.now ≤ max_bytes }
+    ensures { IfOk result (λ v. v.items ≡ map selector_token (map (solid source.now) part.now)) }
+{
+    let mut tokens = Vec::new(alloc);
+    let mut rest = part;
+    'tokens: while let [x, behind @ ..] = rest {
+        tokens.push(token_of(source, x))?;
+        rest = behind;
+    }
+    Ok(tokens)
+}
+
+/// Reads the selector of a part of a prelude, whose tokens that are no white space lie in a source of at most
+/// 1,048,576 bytes.
+///
+/// `Outside` exactly where the part is outside the profile: its number is that of the reason that comes first
+/// from left to right. Only `NoMemory` may come in place of either answer.
+pub fn read_selector(alloc: Global, source: &[u8], part: &[Lexeme]) -> Result<Selector, SelError>
+    requires within { AllByRecursion (λ x. IsWithin source.now x.span) part.now }
+    requires short { length source.now ≤ max_bytes }
+    ensures { Answers result (selector_of_lexemes source.now part.now) }
+{
+    let tokens = match tokens_of_part(alloc, source, part) {
+        Ok(tokens) => tokens,
+        Err(_) => return Err(SelError::NoMemory),
+    };
+    match read(alloc, tokens.as_slice()) {
+        Ok(selector) => Ok(selector),
         Err(Refusal::Outside(reason)) => Err(SelError::Outside(reason.number())),
         Err(Refusal::NoMemory) => Err(SelError::NoMemory),
     }

@@ -17,7 +17,7 @@ use std::marker::Model;
 
 /// A token of a selector text that is no white space: a slice of its source.
 #[derive(Debug, Drop)]
-pub struct SelectorToken<'a> {
+pub(crate) struct SelectorToken<'a> {
     kind: TokenKind,
     bytes: &'a [u8],
     gap: Gap,
@@ -35,8 +35,8 @@ impl<'a> Model for SelectorToken<'a> {
 }
 
 impl<'a> SelectorToken<'a> {
-    /// A token of this kind with these bytes, before such a gap. Takes no memory.
-    pub fn new(kind: TokenKind, bytes: &'a [u8], gap: Gap) -> SelectorToken<'a>
+    /// A token of this kind with these bytes, before such a gap.
+    pub(crate) fn new(kind: TokenKind, bytes: &'a [u8], gap: Gap) -> SelectorToken<'a>
         requires { length bytes.now < 2 ^ 32 }
         ensures { result ≡ spec.selector_token (record { kind = kind; bytes = bytes.now; gap = gap }) }
     {

@@ -12,4 +12,4 @@ returns-in-len1-up c =
     sym c.self.view_is
     ∙ ap (terms_from c.self.inside.depth 0) (first_and_rest tokens x c.in-len1-up.len_at_least c.token-item.is)
     ∙ terms_from-cons c.self.inside.depth c.depth_behind_term-depth.result x xs c.split_at.result.1.now c.kind.result c.gap_of_term.result c.counted_gap-gap.result c.first_kind.result
-        c.depth_behind_term-depth.ensures.depth c.kind.ensures c.gap_of_term.ensures c.first_kind.ensures c.counted_gap-gap.ensures rest
+    c.depth_behind_term-depth.ensures.depth c.kind.ensures c.gap_of_term.ensures c.first_kind.ensures c.counted_gap-gap.ensures rest
