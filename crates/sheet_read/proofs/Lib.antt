@@ -6,4 +6,5 @@ mod Placing
 mod Preludes
 mod ReadSteps
 mod SheetSteps
+mod Sorting
 mod TokenSteps

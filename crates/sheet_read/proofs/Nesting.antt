@@ -19,27 +19,10 @@ last_push o (x ∷ xs) b = last_push (Some x) xs b
 pub last_reverse : (b : Bracket) (brackets : List Bracket) → last_or None (reverse (b ∷ brackets)) ≡ Some b
 last_reverse b brackets = ap (last_or None) (reverse-append (b ∷ []) brackets) ∙ last_push None (reverse brackets) b
 
--- what is still to come, from a token that is no white space on
-lexemes_step : (brackets : List Bracket) (t : Token) (ts : List Token) → is_white_kind t.kind ≡ false
-    → lexemes_in brackets (t ∷ ts) ≡ lexeme (length brackets) t ts ∷ lexemes_in (after t brackets) ts
-lexemes_step brackets t ts h = rw h refl
+-- a lexeme that is too deep, and one that is not, before others
+pub deep_here : (x : Lexeme) (xs : List Lexeme) → is_too_deep x ≡ true → too_deep (x ∷ xs) ≡ Some x.span.start
+deep_here x xs h = rw h refl
 
-pub lexemes_more : (brackets inside : List Bracket) (rest behind : List Token) (d : Token) (x : Lexeme) → 1 ≤ length rest → is_white_kind (get_or rest 0 d).kind ≡ false
-    → behind ≡ drop 1 rest → x ≡ lexeme (length brackets) (get_or rest 0 d) behind → inside ≡ after (get_or rest 0 d) brackets
-    → x ∷ lexemes_in inside behind ≡ lexemes_in brackets rest
-lexemes_more brackets inside [] behind d x some h is made inner = absurd (omega arith)
-lexemes_more brackets inside (t ∷ ts) behind d x some h is made inner =
-    ap (λ (y : Lexeme). y ∷ lexemes_in inside behind) made
-    ∙ ap (λ (us : List Token). lexeme (length brackets) t us ∷ lexemes_in inside us) is
-    ∙ ap (λ (bs : List Bracket). lexeme (length brackets) t ts ∷ lexemes_in bs ts) inner
-    ∙ sym (lexemes_step brackets t ts h)
-
-pub after_more : (brackets inside : List Bracket) (rest behind : List Token) (d : Token) → 1 ≤ length rest → behind ≡ drop 1 rest → inside ≡ after (get_or rest 0 d) brackets
-    → after_all inside behind ≡ after_all brackets rest
-after_more brackets inside [] behind d some is inner = absurd (omega arith)
-after_more brackets inside (t ∷ ts) behind d some is inner = ap (after_all inside) is ∙ ap (λ (bs : List Bracket). after_all bs ts) inner
-
--- a lexeme that is not too deep, before others
 pub deep_later : (x : Lexeme) (xs : List Lexeme) → is_too_deep x ≡ false → too_deep (x ∷ xs) ≡ too_deep xs
 deep_later x xs h = rw h refl
 

@@ -21,7 +21,7 @@ use Rattle.sheet_read.specs.Placed.{ArePlaced}
 use Rattle.sheet_read.specs.Reading.{Refuses}
 use Rattle.css_tokens.specs.Laws.{TokensCover}
 use Rattle.sheet_read.proofs.Placing.{placed}
-use Rattle.sheet_read.specs.Steps.{all_tokens, tokens_of, lexemes_of, whole_items, imports_of, items_of, count_imports}
+use Rattle.sheet_read.specs.Steps.{all_tokens, tokens_of, lexemes_of, lexed, whole_items, imports_of, items_of, count_imports}
 
 -- faults that were not found stand before others
 unless_ok : {A B : Type 0} (fs gs : List (Option SheetFault)) (x v : A) (y : B) → unless fs x ≡ Ok v → unless (fs ++ gs) y ≡ unless gs y
@@ -58,7 +58,7 @@ tokens_fault source true e f fault ts h = let same : e ≡ f = cc in ap Err same
 tokens_fault source false e f (Some g) ts h = let same : token_fault g ≡ f = cc in ap Err same
 tokens_fault source false e f None ts h = absurd (false≢true (sym (ap is_ok h)))
 
-pub placed_lexemes : TokensCover → (source : List ℕ) (ts : List Token) (xs : List Lexeme) → tokens_of source ≡ Ok ts → lexemes_of ts ≡ Ok xs → ArePlaced source xs
+placed_lexemes : TokensCover → (source : List ℕ) (ts : List Token) (xs : List Lexeme) → tokens_of source ≡ Ok ts → lexemes_of ts ≡ Ok xs → ArePlaced source xs
 placed_lexemes cover source ts xs tokens_are lexemes_are =
     let all = tokens source true in
     let parts = tokens_parts (nat_lt (utf8_valid_len source) (length source)) (record { kind = NotUtf8; at = utf8_valid_len source }) all.fault all.tokens ts tokens_are in
@@ -70,15 +70,23 @@ not_too_long : (source : List ℕ) → length source ≤ MAX_BYTES
     (sheet_of_stream source (tokens source true).fault (tokens source true).tokens)
 not_too_long source le = rw (le-ltb MAX_BYTES (length source) le) refl
 
-pub sheet_of_read : (source : List ℕ) (ts : List Token) → length source ≤ MAX_BYTES → tokens_of source ≡ Ok ts → sheet_of source ≡ sheet_of_tokens source ts
+sheet_of_read : (source : List ℕ) (ts : List Token) → length source ≤ MAX_BYTES → tokens_of source ≡ Ok ts → sheet_of source ≡ sheet_of_tokens source ts
 sheet_of_read source ts le h =
     not_too_long source le
     ∙ tokens_all source (nat_lt (utf8_valid_len source) (length source)) (record { kind = NotUtf8; at = utf8_valid_len source }) (tokens source true).fault (tokens source true).tokens ts h
 
-pub sheet_of_fault : (source : List ℕ) (f : SheetFault) → length source ≤ MAX_BYTES → tokens_of source ≡ Err f → sheet_of source ≡ Err f
+sheet_of_fault : (source : List ℕ) (f : SheetFault) → length source ≤ MAX_BYTES → tokens_of source ≡ Err f → sheet_of source ≡ Err f
 sheet_of_fault source f le h =
     not_too_long source le
     ∙ tokens_fault source (nat_lt (utf8_valid_len source) (length source)) (record { kind = NotUtf8; at = utf8_valid_len source }) f (tokens source true).fault (tokens source true).tokens h
+
+-- the tokens that are no white space are those of all tokens, which have no fault
+pub lexed_tokens : (source : List ℕ) (xs : List Lexeme) → lexed (tokens_of source) ≡ Ok xs → (ts : List Token) × (tokens_of source ≡ Ok ts) × (lexemes_of ts ≡ Ok xs)
+lexed_tokens source xs h = which (tokens_of source) refl
+  where
+    which : (r : Result (List Token) SheetFault) → tokens_of source ≡ r → (ts : List Token) × (tokens_of source ≡ Ok ts) × (lexemes_of ts ≡ Ok xs)
+    which (Ok ts) is = (ts, is, ap lexed (sym is) ∙ h)
+    which (Err f) is = absurd (false≢true (ap is_ok (ap lexed (sym is) ∙ h)))
 
 -- the faults of the brackets, and then those of the items
 abbrev pub pairs_fault : List Item → List (Option SheetFault)
@@ -90,7 +98,7 @@ item_faults read = fault_of TooManyItems (too_many_items read) ∷ pairs_fault r
 abbrev pub raw_faults : List ℕ → List (List Lexeme) → List (Option SheetFault)
 raw_faults source raw = fault_of Namespace (namespace_at source raw) ∷ item_faults (read_items source raw)
 
-pub lexemes_read : (source : List ℕ) (ts : List Token) (xs : List Lexeme) → lexemes_of ts ≡ Ok xs
+lexemes_read : (source : List ℕ) (ts : List Token) (xs : List Lexeme) → lexemes_of ts ≡ Ok xs
     → sheet_of_tokens source ts ≡ unless (raw_faults source (whole_items xs)) (read_items source (whole_items xs))
 lexemes_read source ts xs h =
     let same : lexemes ts ≡ xs = unless_value (fault_of TooDeep (too_deep (lexemes ts)) ∷ fault_of EndInside (unclosed ts) ∷ []) (lexemes ts) xs h in
@@ -98,10 +106,31 @@ lexemes_read source ts xs h =
     (read_items source (whole_items (lexemes ts))) h
     ∙ ap (λ (xs : List Lexeme). unless (raw_faults source (whole_items xs)) (read_items source (whole_items xs))) same
 
-pub lexemes_fault : (source : List ℕ) (ts : List Token) (f : SheetFault) → lexemes_of ts ≡ Err f → sheet_of_tokens source ts ≡ Err f
+lexemes_fault : (source : List ℕ) (ts : List Token) (f : SheetFault) → lexemes_of ts ≡ Err f → sheet_of_tokens source ts ≡ Err f
 lexemes_fault source ts f h =
     unless_err (fault_of TooDeep (too_deep (lexemes ts)) ∷ fault_of EndInside (unclosed ts) ∷ []) (raw_faults source (whole_items (lexemes ts))) (lexemes ts)
     (read_items source (whole_items (lexemes ts))) f h
+
+pub lexed_placed : TokensCover → (source : List ℕ) (xs : List Lexeme) → lexed (tokens_of source) ≡ Ok xs → ArePlaced source xs
+lexed_placed cover source xs h =
+    let read = lexed_tokens source xs h in
+    placed_lexemes cover source read.0 xs read.1 read.2
+
+pub lexed_read : (source : List ℕ) (xs : List Lexeme) → length source ≤ MAX_BYTES → lexed (tokens_of source) ≡ Ok xs
+    → sheet_of source ≡ unless (raw_faults source (whole_items xs)) (read_items source (whole_items xs))
+lexed_read source xs le h =
+    let read = lexed_tokens source xs h in
+    sheet_of_read source read.0 le read.1 ∙ lexemes_read source read.0 xs read.2
+
+pub lexed_fault : (source : List ℕ) (f : SheetFault) → length source ≤ MAX_BYTES → lexed (tokens_of source) ≡ Err f → sheet_of source ≡ Err f
+lexed_fault source f le h = which (tokens_of source) refl
+  where
+    which : (r : Result (List Token) SheetFault) → tokens_of source ≡ r → sheet_of source ≡ Err f
+    which (Ok ts) is = sheet_of_read source ts le is ∙ lexemes_fault source ts f (ap lexed (sym is) ∙ h)
+    which (Err g) is =
+        let refused : ◌≡◌ {A = Result (List Lexeme) SheetFault} (Err g) (Err f) = ap lexed (sym is) ∙ h in
+        let same : g ≡ f = cc in
+        sheet_of_fault source g le is ∙ ap Err same
 
 pub imports_read : (source : List ℕ) (raw : List (List Lexeme)) (n : ℕ) → imports_of source raw ≡ Ok n
     → unless (raw_faults source raw) (read_items source raw) ≡ unless (item_faults (read_items source raw)) (read_items source raw)

@@ -17,7 +17,7 @@ use Rattle.css_model.specs.Text.Lexemes.{lexemes, piece_of}
 use Rattle.css_model.specs.Sheets.Sheet.{token_fault, too_deep, unclosed, is_import, namespace_at, item_of, read_items, too_many_items}
 use Rattle.css_model.specs.Sheets.Fault.{fault_of, unless}
 use Rattle.css_model.specs.Text.Lexemes.{opens}
-use Rattle.css_model.specs.Text.Tokens.{tokens}
+use Rattle.css_model.specs.Text.Tokens.{Stream, tokens}
 
 -- all tokens of a stream, or the fault that ends it
 abbrev pub all_tokens : Option TokenFault → List Token → Result (List Token) SheetFault
@@ -39,6 +39,19 @@ is_too_deep x = opens x.kind && x.level == MAX_DEPTH
 
 abbrev pub lexemes_of : List Token → Result (List Lexeme) SheetFault
 lexemes_of ts = unless (fault_of TooDeep (too_deep (lexemes ts)) ∷ fault_of EndInside (unclosed ts) ∷ []) (lexemes ts)
+
+-- the tokens that are no white space, where nothing is wrong with any token
+abbrev pub lexed : Result (List Token) SheetFault → Result (List Lexeme) SheetFault
+lexed (Ok ts) = lexemes_of ts
+lexed (Err f) = Err f
+
+abbrev pub sorted : Stream → Result (List Lexeme) SheetFault
+sorted s = lexed (all_tokens s.fault s.tokens)
+
+-- what is wrong with tokens, or this fault where nothing is
+abbrev pub fault_before : Option TokenFault → SheetFault → SheetFault
+fault_before None fault = fault
+fault_before (Some f) fault = token_fault f
 
 -- the items that are not dropped for want of a block
 abbrev pub whole_items : List Lexeme → List (List Lexeme)

@@ -1,17 +1,19 @@
-//! The tokens of a sheet, and those that are no white space with how deep they stand (CSS Syntax 3,
-//! sections 4 and 5.4.8).
+//! The tokens of a sheet that are no white space, with how deep they stand (CSS Syntax 3, sections 4 and 5.4.8).
 
-ghost use Rattle.std.specs.Prelude.{◌≡◌, ◌≤◌, length, reverse, OnOk};
+ghost use Rattle.std.specs.Prelude.{◌≡◌, ◌≤◌, ◌∷◌, [], List, length, reverse, MatchOption, OnOk};
+ghost use Rattle.css_model.specs.declared.token.Token.{Token};
 ghost use Rattle.css_model.specs.Sheets.Limits.{max_bytes};
-ghost use Rattle.css_model.specs.Text.Lexemes as spec;
 ghost use Rattle.css_model.specs.Sheets.Sheet as sheet;
-ghost use Rattle.sheet_read.specs.Reading.{Answers};
+ghost use Rattle.css_model.specs.Text.Lexemes as spec;
+ghost use Rattle.css_model.specs.Text.Tokens.{tokens};
+ghost use Rattle.css_tokens.specs.Left.{left};
+ghost use Rattle.sheet_read.specs.Reading.{Answers, GivesNext, Opens};
 ghost use Rattle.sheet_read.specs.Steps as steps;
 
 use crate::fault::SheetError;
 use crate::signs::is_sign_of;
 use css_model::{
-    Bracket, FaultKind, Gap, Lexeme, MAX_DEPTH, Piece, SheetFault, Token, TokenFault, TokenKind,
+    Bracket, FaultKind, Lexeme, MAX_DEPTH, Piece, SheetFault, Token, TokenFault, TokenKind,
 };
 use css_tokens::Tokens;
 use std::alloc::{AllocError, Global};
@@ -37,47 +39,40 @@ fn sheet_fault(fault: TokenFault) -> SheetFault
     }
 }
 
-/// The tokens of a sheet.
-pub(crate) fn tokens_of(alloc: Global, source: &[u8]) -> Result<Vec<Token>, SheetError>
+/// A reader of the tokens of a sheet.
+fn reader_of(source: &[u8]) -> Result<Tokens<'_>, SheetFault>
     requires { length source.now ≤ max_bytes }
-    ensures { Answers (λ tokens. tokens.items) result (steps.tokens_of source.now) }
+    ensures { Opens source.now result }
 {
-    let mut reader = match Tokens::new(source, true) {
-        Ok(reader) => reader,
-        Err(error) => {
-            return Err(SheetError::Fault(SheetFault {
-                kind: FaultKind::NotUtf8,
-                at: error.at,
-            }));
-        }
-    };
-    let mut tokens = Vec::new(alloc);
+    match Tokens::new(source, true) {
+        Ok(reader) => Ok(reader),
+        Err(error) => Err(SheetFault {
+            kind: FaultKind::NotUtf8,
+            at: error.at,
+        }),
+    }
+}
+
+/// The next token of a sheet, or none at its end.
+fn next_of(reader: &mut Tokens<'_>) -> Result<Option<Token>, SheetFault>
+    ensures { GivesNext (left reader.old) result (left reader.new) }
+{
+    match reader.next() {
+        Ok(token) => Ok(token),
+        Err(fault) => Err(sheet_fault(fault)),
+    }
+}
+
+/// What is wrong with the tokens that are left, or this fault where nothing is.
+fn fault_behind(reader: &mut Tokens<'_>, fault: SheetFault) -> SheetFault
+    ensures { result ≡ steps.fault_before (left reader.old).fault fault }
+{
     'tokens: loop {
         match reader.next() {
-            Ok(Some(token)) => tokens.push(token)?,
-            Ok(None) => return Ok(tokens),
-            Err(fault) => return Err(SheetError::Fault(sheet_fault(fault))),
+            Ok(Some(_)) => {}
+            Ok(None) => return fault,
+            Err(flaw) => return sheet_fault(flaw),
         }
-    }
-}
-
-/// What stands before these tokens.
-fn gap_of(tokens: &[Token]) -> Gap
-    ensures { result ≡ spec.gap_of tokens.now }
-{
-    match tokens {
-        [] => gap_before(None),
-        [token, ..] => gap_before(Some(*token)),
-    }
-}
-
-/// The white space at the front of these tokens, or the empty piece at this place.
-fn white_of(at: u32, tokens: &[Token]) -> Piece
-    ensures { result ≡ spec.white_of at tokens.now }
-{
-    match tokens {
-        [token, ..] if is_white(token.kind) => token.span,
-        _ => Piece { start: at, end: at },
     }
 }
 
@@ -140,15 +135,25 @@ fn outermost(brackets: &[Bracket]) -> Option<u32>
     }
 }
 
-/// A token before others, inside so many brackets.
-fn lexeme(level: u32, token: Token, behind: &[Token]) -> Lexeme
-    ensures { result ≡ spec.lexeme level token behind.now }
+/// The white space that comes next, or the empty piece at this place.
+fn white_of(at: u32, next: Option<Token>) -> Piece
+    ensures { MatchOption next (result ≡ spec.white_of at []) (λ token. (others : List Token) → result ≡ spec.white_of at (token ∷ others)) }
+{
+    match next {
+        Some(token) if is_white(token.kind) => token.span,
+        _ => Piece { start: at, end: at },
+    }
+}
+
+/// A token before the next one, inside so many brackets.
+fn lexeme(level: u32, token: Token, next: Option<Token>) -> Lexeme
+    ensures { MatchOption next (result ≡ spec.lexeme level token []) (λ behind. (others : List Token) → result ≡ spec.lexeme level token (behind ∷ others)) }
 {
     Lexeme {
         kind: token.kind,
         span: token.span,
-        gap: gap_of(behind),
-        white: white_of(token.span.end, behind),
+        gap: gap_before(next),
+        white: white_of(token.span.end, next),
         level,
     }
 }
@@ -160,26 +165,27 @@ fn is_too_deep(x: &Lexeme) -> bool
     closer_of(x.kind).is_some() && x.level == MAX_DEPTH
 }
 
-/// The tokens that are no white space, where no bracket is one too many or is left open.
-pub(crate) fn lexemes_of(alloc: Global, tokens: &[Token]) -> Result<Vec<Lexeme>, SheetError>
-    ensures { Answers (λ lexemes. lexemes.items) result (steps.lexemes_of tokens.now) }
+/// The tokens that are left and no white space, where no bracket is one too many or is left open.
+fn sorted(alloc: Global, reader: &mut Tokens<'_>) -> Result<Vec<Lexeme>, SheetError>
+    ensures { Answers (λ lexemes. lexemes.items) result (steps.sorted (left reader.old)) }
 {
     let mut lexemes = Vec::new(alloc);
     let mut brackets = Vec::new(alloc);
-    let mut rest = tokens;
-    'tokens: while let [token, behind @ ..] = rest {
+    let mut ahead = next_of(reader)?;
+    'tokens: while let Some(token) = ahead {
+        ahead = next_of(reader)?;
         if !is_white(token.kind) {
-            let x = lexeme(brackets.len() as u32, *token, behind);
+            let x = lexeme(brackets.len() as u32, token, ahead);
             if is_too_deep(&x) {
-                return Err(SheetError::Fault(SheetFault {
+                let fault = SheetFault {
                     kind: FaultKind::TooDeep,
                     at: x.span.start,
-                }));
+                };
+                return Err(SheetError::Fault(fault_behind(reader, fault)));
             }
             lexemes.push(x)?;
-            pass(&mut brackets, *token)?;
+            pass(&mut brackets, token)?;
         }
-        rest = behind;
     }
     match outermost(brackets.as_slice()) {
         Some(at) => Err(SheetError::Fault(SheetFault {
@@ -188,4 +194,14 @@ pub(crate) fn lexemes_of(alloc: Global, tokens: &[Token]) -> Result<Vec<Lexeme>,
         })),
         None => Ok(lexemes),
     }
+}
+
+/// The tokens of a sheet that are no white space, where nothing is wrong with any token, and no bracket is one too
+/// many or is left open.
+pub(crate) fn lexemes_of(alloc: Global, source: &[u8]) -> Result<Vec<Lexeme>, SheetError>
+    requires { length source.now ≤ max_bytes }
+    ensures { Answers (λ lexemes. lexemes.items) result (steps.lexed (steps.tokens_of source.now)) }
+{
+    let mut reader = reader_of(source)?;
+    sorted(alloc, &mut reader)
 }

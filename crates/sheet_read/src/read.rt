@@ -12,7 +12,7 @@ ghost use Rattle.sheet_read.specs.Steps as steps;
 use crate::declarations::declarations;
 use crate::fault::SheetError;
 use crate::items::{is_at_keyword, is_at_rule, next_item};
-use crate::lexing::{lexemes_of, tokens_of};
+use crate::lexing::lexemes_of;
 use crate::selectors::selectors;
 use crate::signs::piece_of;
 use css_model::{
@@ -236,8 +236,7 @@ pub fn read_sheet(alloc: Global, source: &[u8]) -> Result<Sheet, SheetError>
             at: MAX_BYTES,
         }));
     }
-    let tokens = tokens_of(alloc, source)?;
-    let lexemes = lexemes_of(alloc, tokens.as_slice())?;
+    let lexemes = lexemes_of(alloc, source)?;
     let imports = imports_of(source, lexemes.as_slice())?;
     let items = items_of(alloc, source, lexemes.as_slice(), imports)?;
     match too_many_pairs(items.as_slice()) {
