@@ -1,15 +1,17 @@
-ghost use Rattle.std.specs.Prelude.{◌≡◌, ℕ, ◌+◌, ◌<◌, ◌≤◌, ◌↔◌, IsTrue, List, Ok, Err, map, min, neg_ℤ, pos, take, drop, length, option_copied};
+ghost use Rattle.std.specs.Prelude.{◌≡◌, ℕ, ◌+◌, ◌<◌, ◌≤◌, ◌↔◌, IsTrue, List, Ok, Err, Some, map, min, neg_ℤ, pos, take, drop, length, option_copied};
 ghost use Rattle.std.specs.List.{AllPass, prefix_len};
 ghost use Rattle.std.specs.Char.{is_ascii_digit, to_ascii_lowercase};
 ghost use Rattle.css_model.specs.declared.position.AnB.{AnB};
 ghost use Rattle.css_model.specs.Positions.Range.{IsInRange};
 ghost use Rattle.nth_positions.specs.declared.notation.AnbFault.TheVariants.{NotAnB, OutOfRange};
+ghost use Rattle.nth_positions.specs.Messages.{message};
 ghost use Rattle.nth_positions.specs.Read.{Gives};
 ghost use Rattle.css_model.specs.Positions.Notation.{IsNotation, value};
 ghost use Rattle.css_model.specs.Positions.Reading.{past_close, past_blank, past_blanks, digits_of, past_digits, capped, signed, is_minus, past_sign, last_number, offset_of, step_size, numbers_of, past_word, alone, body_of};
 ghost use Rattle.css_model.specs.Lists.{is_empty};
 
 use css_model::AnB;
+use std::fmt;
 use thiserror::Error;
 
 /// The greatest size of a step.
@@ -25,11 +27,20 @@ const CAP: u32 = MAX_OFFSET + 1;
 #[derive(Clone, Copy, Debug, PartialEq, Eq, Error)]
 pub enum AnbFault {
     /// The text is not in the notation.
-    #[error("not of the form An+B, `odd` or `even`")]
     NotAnB,
     /// The text is in the notation, with a step beyond 32 or an offset beyond 1,000 in size.
-    #[error("the step is beyond 32 or the offset beyond 1000")]
     OutOfRange,
+}
+
+impl fmt::Display for AnbFault {
+    ghost output = { λ fault. Some (message fault) };
+
+    fn fmt<W: fmt::Write>(&self, f: &mut fmt::Formatter<W>) -> fmt::Result {
+        f.write_str(match self {
+            AnbFault::NotAnB => "not of the form An+B, `odd` or `even`",
+            AnbFault::OutOfRange => "the step is beyond 32 or the offset beyond 1000",
+        })
+    }
 }
 
 /// Reads the argument of `:nth-child()` or `:nth-last-child()`, without its parentheses (Selectors 3,

@@ -232,7 +232,12 @@ fn bounds_reduce_gaps(rt: HostRuntime) {
             width: 25
         }
     );
-    let coprime = [32, 31, 29, 27].map(|a| AnB { a, b: 0 });
+    let coprime = [
+        AnB { a: 32, b: 0 },
+        AnB { a: 31, b: 0 },
+        AnB { a: 29, b: 0 },
+        AnB { a: 27, b: 0 },
+    ];
     assert_eq!(rt;
         bounds(&coprime),
         Bounds {
