@@ -96,6 +96,7 @@ pub fn run_words<S: Source, O: Sink, E: Sink>(
         (change_of O.written O.faults out.old out.new)
         (change_of E.written E.faults err.old err.new)) }
     ensures no_room { IsErr words → result ≡ Status.NoMemory }
+    ensures unread { IsErr words → input.new ≡ input.old }
     ensures told { Tells result (change_of E.written E.faults err.old err.new) }
     ensures untouched { result ≢ Status.Done → result ≢ Status.WriteFault → out.new ≡ out.old }
 {
