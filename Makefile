@@ -1,5 +1,5 @@
 # make            proves and builds the program, and puts it here as ./cssmin
-# make check      the whole gate: every proof, must-fail edit, test and program
+# make check      the whole gate: every proof, must-fail edit, test and program, and the process tried
 # make install    installs it below PREFIX (/usr/local)
 # make examples   checks that the program gives the outputs beside the examples
 # make bench      measures it, and its reading of tokens, against wc -c on the same files
@@ -20,7 +20,7 @@ cssmin: $(SOURCES)
 	@echo 'Built ./cssmin'
 
 check:
-	$(RT) ci
+	.ci/run
 
 install: cssmin
 	install -D -m 755 cssmin '$(DESTDIR)$(PREFIX)/bin/cssmin'

@@ -3,22 +3,19 @@ use Rattle.std.proofs.Common.{◌≡◌, ◌<◌, Bool, true, false, cond, List,
 use Rattle.std.proofs.lemmas.Bool.{false≢true}
 use Rattle.css_model.specs.declared.fault.FaultKind.TheVariants.{TooLong}
 use Rattle.css_model.specs.declared.fault.SheetFault.{SheetFault}
-use Rattle.css_model.specs.declared.limits.TheConstants.{MAX_BYTES}
+use Rattle.css_model.specs.Sheets.Limits.{max_bytes}
 use Rattle.css_model.specs.declared.sheet.Item.{Item}
 use Rattle.css_model.specs.Sheets.Sheet.{sheet_of}
-use Rattle.sheet_read.specs.declared.fault.SheetError.{SheetError}
-use Rattle.sheet_read.specs.declared.fault.SheetError.TheVariants as errors
-use Rattle.sheet_read.specs.Reading.{Refuses}
-use Rattle.cssmin.specs.Minified.{HasFault, HasNoFault, IsCause, IsMinified}
+use Rattle.minify.specs.Minified.{HasFault, HasNoFault, IsMinified}
 
 by_test : {X : Type 0} → (b : Bool) (x y : X) → b ≡ true → cond b x y ≡ x
 by_test true x y test = refl
 by_test false x y test = absurd (false≢true test)
 
 -- a sheet of more bytes than the limit is too long
-pub too_long : (read : List ℕ) → MAX_BYTES < length read → HasFault read (record { kind = TooLong; at = MAX_BYTES })
+pub too_long : (read : List ℕ) → max_bytes < length read → HasFault read (record { kind = TooLong; at = max_bytes })
 unfolding HasFault
-too_long read long = by_test (nat_lt MAX_BYTES (length read)) _ _ (above MAX_BYTES (length read) long)
+too_long read long = by_test (nat_lt max_bytes (length read)) _ _ (above max_bytes (length read) long)
   where
     above : (limit n : ℕ) → limit < n → nat_lt limit n ≡ true
     above limit n more = grind (arith, more)
@@ -34,9 +31,3 @@ fault_or_none read f fault none = absurd (false≢true (subst (λ (r : Result (L
 pub minified_no_fault : (read text : List ℕ) (f : SheetFault) → IsMinified read text → HasFault read f → ⊥
 unfolding HasFault
 minified_no_fault read text f is fault = let same : ◌≡◌ {A = Result (List Item) SheetFault} (Ok is.old) (Err f) = sym is.old_read ∙ fault in cc
-
--- why a sheet is not read is why no text is made of it
-pub cause : (read : List ℕ) (e : SheetError) → Refuses e (sheet_of read) → IsCause read e
-unfolding HasFault
-cause read (errors.Fault f) refused = refused
-cause read errors.NoMemory refused = tt

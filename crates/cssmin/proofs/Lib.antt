@@ -1,13 +1,5 @@
 mod Faults
-mod Following
-mod Joins
-mod Limits
-mod Minifying
-mod Origin
 mod Outcomes
-mod SelectorSets
-mod Shorter
-mod Spelled
-mod Taken
+mod Reading
 mod Told
-mod Words
+mod OneWord

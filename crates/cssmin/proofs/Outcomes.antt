@@ -1,76 +1,102 @@
--- What a status says, as the clauses of the top call state it.
-use Rattle.std.proofs.Common.{◌≡◌, ◌⊎◌, inl, inr, ℕ, ◌+◌, ◌<◌, ◌≤◌, List, Option, Some, None, IsSomeAnd, length, take, refl, sym, ◌∙◌, ap, subst, arith}
-use Rattle.css_io.specs.Io.{Rose, HasTaken, HasAdded}
-use Rattle.css_model.specs.declared.fault.FaultKind.TheVariants.{TooLong}
+-- What a status says, as the laws of a run state it.
+use Rattle.std.proofs.Common.{◌≡◌, ◌⊎◌, ◌↔◌, inl, inr, ℕ, ◌<◌, List, [], ◌∷◌, Bool, true, false, cond, Option, Some, None, IsSomeAnd, length, take, refl, sym, ◌∙◌, ap, subst}
+use Rattle.std.proofs.lemmas.Bool.{false≢true}
+use Rattle.std.specs.Cmp.Lexicographic.{bytes_decides}
+use Rattle.std.specs.Prelude.{codes, IfSome, IsNone}
+use Rattle.css_model.specs.Lists.{same_text}
 use Rattle.css_model.specs.declared.fault.SheetFault.{SheetFault}
-use Rattle.css_model.specs.declared.limits.TheConstants.{MAX_BYTES}
+use Rattle.minify.specs.Minified.{HasFault, HasNoFault, IsMinified}
+use Rattle.cssmin.specs.Change.{Change, HasFailed, IsAllRead, Adds}
+use Rattle.cssmin.specs.Commands.Min.{IsRefused, Began, MinDoes}
+use Rattle.cssmin.specs.Laws.{IsMin}
+use Rattle.cssmin.specs.Run.{Outcome, Ran}
+use Rattle.cssmin.specs.Words.{command_of}
+use Rattle.cssmin.specs.declared.words.Command.{Command}
+use Rattle.cssmin.specs.declared.words.Command.TheVariants.{Min}
 use Rattle.cssmin.specs.declared.status.Status.{Status}
 use Rattle.cssmin.specs.declared.status.Status.TheVariants.{Done, Usage, SheetRefused, ReadFault, WriteFault, NoMemory}
-use Rattle.cssmin.specs.Minified.{HasFault, HasNoFault, IsMinified}
-use Rattle.cssmin.specs.Run.{IsMin, IsAllRead, IsRefused, Counts, Began, Outcome}
-use Rattle.cssmin.proofs.Faults.{too_long, one_fault, fault_or_none, minified_no_fault}
-
--- one byte past the limit was read
-pub too_long_read : (left left' : Option (List ℕ)) → HasTaken (MAX_BYTES + 1) left left' → IsRefused (record { kind = TooLong; at = MAX_BYTES }) left left'
-too_long_read None left' taken = tt
-too_long_read (Some bytes) left' taken = (too_long bytes (above MAX_BYTES (length bytes) taken.0), taken.1)
-  where
-    above : (limit n : ℕ) → limit + 1 ≤ n → limit < n
-    above limit n more = omega (arith, more)
+use Rattle.cssmin.proofs.Faults.{one_fault, fault_or_none, minified_no_fault}
 
 -- a front of the text was written
-pub began : (text bytes : List ℕ) (left left' written written' : Option (List ℕ)) → bytes ≡ text → (read : List ℕ) × IsAllRead read left left' × IsMinified read text → (n : ℕ) × (n < length bytes) × HasAdded (take n bytes) written written'
-    → Began left left' written written'
-began text bytes left left' written written' same made some =
-    let part = subst (λ (bs : List ℕ). (n : ℕ) × (n < length bs) × HasAdded (take n bs) written written') same some in
+pub began : (text bytes : List ℕ) (input output : Change) → bytes ≡ text → (read : List ℕ) × IsAllRead read input × IsMinified read text → (n : ℕ) × (n < length bytes) × Adds (take n bytes) output
+    → Began input output
+began text bytes input output same made some =
+    let part = subst (λ (bs : List ℕ). (n : ℕ) × (n < length bs) × Adds (take n bs) output) same some in
     record { read = made.0; text = text; count = part.0; all_read = made.1; minified = made.2; part = part.1; added = part.2 }
 
--- the status that is told is that of the run, or there was no memory to tell a fault
-abbrev IsToldStatus : (status told : Status) → Type 0
-IsToldStatus status told = (told ≡ status) ⊎ ((fault : SheetFault) × (status ≡ SheetRefused fault) × (told ≡ NoMemory))
-
-told_or_no_memory : (status told wanted : Status) → IsToldStatus status told → (status ≡ wanted) ⊎ (status ≡ NoMemory) → (told ≡ wanted) ⊎ (told ≡ NoMemory)
-told_or_no_memory status told wanted (inl same) (inl is) = inl (same ∙ is)
-told_or_no_memory status told wanted (inl same) (inr is) = inr (same ∙ is)
-told_or_no_memory status told wanted (inr short) is = inr short.2
-
 -- A sheet with a fault is refused for it, but for want of memory, where no fault of reading came between.
-refuses_it : (status : Status) (words : List (List ℕ)) (left left' : Option (List ℕ)) (input : Counts) (written written' : Option (List ℕ)) (output : Counts) → Outcome status words left left' input written written' output
-    → (fault : SheetFault) → IsMin words → IsSomeAnd left (λ bytes. HasFault bytes fault) → (Rose input.before input.after → ⊥) → (status ≡ SheetRefused fault) ⊎ (status ≡ NoMemory)
-refuses_it status words None left' input written written' output outcome fault min has sure = absurd has
-refuses_it Done words (Some bytes) left' input written written' output outcome fault min has sure =
-    let did = outcome.1 in absurd (minified_no_fault did.read did.text fault did.minified (subst (λ (read : List ℕ). HasFault read fault) did.all_read.0 has))
-refuses_it Usage words (Some bytes) left' input written written' output outcome fault min has sure = absurd (outcome min)
-refuses_it (SheetRefused other) words (Some bytes) left' input written written' output outcome fault min has sure = inl (ap SheetRefused (one_fault bytes other fault outcome.1.0 has))
-refuses_it ReadFault words (Some bytes) left' input written written' output outcome fault min has sure = absurd (sure outcome.1)
-refuses_it WriteFault words (Some bytes) left' input written written' output outcome fault min has sure =
-    let began = outcome.2 in absurd (minified_no_fault began.read began.text fault began.minified (subst (λ (read : List ℕ). HasFault read fault) began.all_read.0 has))
-refuses_it NoMemory words (Some bytes) left' input written written' output outcome fault min has sure = inr refl
+refuses_of : (status : Status) (left left' : Option (List ℕ)) (n n' : ℕ) (output : Change) (fault : SheetFault) → MinDoes status (record { old = left; new = left'; old_faults = n; new_faults = n' }) output
+    → IsSomeAnd left (λ bytes. HasFault bytes fault) → (HasFailed (record { old = left; new = left'; old_faults = n; new_faults = n' }) → ⊥) → (status ≡ SheetRefused fault) ⊎ (status ≡ NoMemory)
+refuses_of status None left' n n' output fault does has sure = absurd has
+refuses_of Done (Some bytes) left' n n' output fault does has sure = absurd (minified_no_fault does.read does.text fault does.minified (subst (λ (read : List ℕ). HasFault read fault) does.all_read.0 has))
+refuses_of Usage (Some bytes) left' n n' output fault does has sure = absurd does
+refuses_of (SheetRefused other) (Some bytes) left' n n' output fault does has sure = inl (ap SheetRefused (one_fault bytes other fault does.0 has))
+refuses_of ReadFault (Some bytes) left' n n' output fault does has sure = absurd (sure does)
+refuses_of WriteFault (Some bytes) left' n n' output fault does has sure =
+    let part = does.1 in absurd (minified_no_fault part.read part.text fault part.minified (subst (λ (read : List ℕ). HasFault read fault) part.all_read.0 has))
+refuses_of NoMemory (Some bytes) left' n n' output fault does has sure = inr refl
+
+pub refuses : (status : Status) (input output : Change) (fault : SheetFault) → MinDoes status input output
+    → IsSomeAnd input.old (λ bytes. HasFault bytes fault) → (HasFailed input → ⊥) → (status ≡ SheetRefused fault) ⊎ (status ≡ NoMemory)
+refuses status input output fault does has sure = refuses_of status input.old input.new input.old_faults input.new_faults output fault does has sure
 
 -- A sheet without a fault is minified, but for want of memory, where no other fault came between.
-does_it : (status : Status) (words : List (List ℕ)) (left left' : Option (List ℕ)) (input : Counts) (written written' : Option (List ℕ)) (output : Counts) → Outcome status words left left' input written written' output
-    → IsMin words → IsSomeAnd left HasNoFault → (Rose input.before input.after → ⊥) → (Rose output.before output.after → ⊥) → (status ≡ Done) ⊎ (status ≡ NoMemory)
-does_it status words None left' input written written' output outcome min has sure safe = absurd has
-does_it Done words (Some bytes) left' input written written' output outcome min has sure safe = inl refl
-does_it Usage words (Some bytes) left' input written written' output outcome min has sure safe = absurd (outcome min)
-does_it (SheetRefused other) words (Some bytes) left' input written written' output outcome min has sure safe = absurd (fault_or_none bytes other outcome.1.0 has)
-does_it ReadFault words (Some bytes) left' input written written' output outcome min has sure safe = absurd (sure outcome.1)
-does_it WriteFault words (Some bytes) left' input written written' output outcome min has sure safe = absurd (safe outcome.1)
-does_it NoMemory words (Some bytes) left' input written written' output outcome min has sure safe = inr refl
+completes_of : (status : Status) (left left' : Option (List ℕ)) (n n' : ℕ) (output : Change) → MinDoes status (record { old = left; new = left'; old_faults = n; new_faults = n' }) output
+    → IsSomeAnd left HasNoFault → (HasFailed (record { old = left; new = left'; old_faults = n; new_faults = n' }) → ⊥) → (HasFailed output → ⊥) → (status ≡ Done) ⊎ (status ≡ NoMemory)
+completes_of status None left' n n' output does has sure safe = absurd has
+completes_of Done (Some bytes) left' n n' output does has sure safe = inl refl
+completes_of Usage (Some bytes) left' n n' output does has sure safe = absurd does
+completes_of (SheetRefused other) (Some bytes) left' n n' output does has sure safe = absurd (fault_or_none bytes other does.0 has)
+completes_of ReadFault (Some bytes) left' n n' output does has sure safe = absurd (sure does)
+completes_of WriteFault (Some bytes) left' n n' output does has sure safe = absurd (safe does.0)
+completes_of NoMemory (Some bytes) left' n n' output does has sure safe = inr refl
 
-pub refuses : (status told : Status) (words : List (List ℕ)) (left left' : Option (List ℕ)) (input : Counts) (written written' : Option (List ℕ)) (output : Counts) → IsToldStatus status told → Outcome status words left left' input written written' output
-    → (fault : SheetFault) → IsMin words → IsSomeAnd left (λ bytes. HasFault bytes fault) → (Rose input.before input.after → ⊥) → (told ≡ SheetRefused fault) ⊎ (told ≡ NoMemory)
-refuses status told words left left' input written written' output same outcome fault min has sure =
-    told_or_no_memory status told (SheetRefused fault) same (refuses_it status words left left' input written written' output outcome fault min has sure)
+pub completes : (status : Status) (input output : Change) → MinDoes status input output
+    → IsSomeAnd input.old HasNoFault → (HasFailed input → ⊥) → (HasFailed output → ⊥) → (status ≡ Done) ⊎ (status ≡ NoMemory)
+completes status input output does has sure safe = completes_of status input.old input.new input.old_faults input.new_faults output does has sure safe
 
-pub does : (status told : Status) (words : List (List ℕ)) (left left' : Option (List ℕ)) (input : Counts) (written written' : Option (List ℕ)) (output : Counts) → IsToldStatus status told → Outcome status words left left' input written written' output
-    → IsMin words → IsSomeAnd left HasNoFault → (Rose input.before input.after → ⊥) → (Rose output.before output.after → ⊥) → (told ≡ Done) ⊎ (told ≡ NoMemory)
-does status told words left left' input written written' output same outcome min has sure safe =
-    told_or_no_memory status told Done same (does_it status words left left' input written written' output outcome min has sure safe)
+-- the words of the command are the one word `min`
+min_is : (words : List (List ℕ)) → command_of words ≡ Some Min → IsMin words
+min_is [] is = absurd cc
+min_is (word ∷ []) is = by_test (same_text word (codes "min")) refl is
+  where
+    by_test : (same : Bool) → same_text word (codes "min") ≡ same → cond same (Some Min) None ≡ Some Min → IsMin (word ∷ [])
+    by_test true test is = ap (λ (w : List ℕ). w ∷ []) ((bytes_decides word (codes "min")).0 test)
+    by_test false test is = absurd cc
+min_is (word ∷ next ∷ words) is = absurd cc
 
--- where writing failed, a front of the text was written
-pub began_so : (status told : Status) (words : List (List ℕ)) (left left' : Option (List ℕ)) (input : Counts) (written written' : Option (List ℕ)) (output : Counts) → IsToldStatus status told → Outcome status words left left' input written written' output
-    → told ≡ WriteFault → Began left left' written written'
-began_so status told words left left' input written written' output (inl same) outcome failed =
-    (subst (λ (s : Status). Outcome s words left left' input written written' output) (sym same ∙ failed) outcome).2
-began_so status told words left left' input written written' output (inr short) outcome failed = absurd (let apart : WriteFault ≡ NoMemory = sym failed ∙ short.2 in cc)
+command_is_min : (words : List (List ℕ)) → IsMin words → command_of words ≡ Some Min
+command_is_min words is = subst (λ (ws : List (List ℕ)). command_of ws ≡ Some Min) (sym is) refl
+
+-- a command did what its word says, where the words are those of one
+by_command : (status : Status) (input output : Change) (command : Option Command) → (IsNone command → status ≡ Usage) → IfSome command (λ c. Outcome c status input output) → (status ≡ Usage → ⊥)
+    → (command ≡ Some Min) × MinDoes status input output
+by_command status input output None usage outcome other = absurd (other (usage refl))
+by_command status input output (Some Min) usage outcome other = (refl, outcome)
+
+pub of_min : (words : List (List ℕ)) (status : Status) (input output err : Change) → Ran words status input output err → (status ≡ Usage → ⊥) → IsMin words × MinDoes status input output
+of_min words status input output err ran other = let did = by_command status input output (command_of words) ran.usage.1 ran.outcome other in (min_is words did.0, did.1)
+
+-- the word `min` did what it says
+pub min_does : (words : List (List ℕ)) (status : Status) (input output err : Change) → Ran words status input output err → IsMin words → MinDoes status input output
+min_does words status input output err ran min = subst (λ (command : Option Command). IfSome command (λ c. Outcome c status input output)) (command_is_min words min) ran.outcome
+
+some_is : IsNone (Some Min) → ⊥
+some_is none = absurd cc
+
+other_words : (status : Status) (command : Option Command) → (IsNone command → status ≡ Usage) → (command ≡ Some Min → ⊥) → status ≡ Usage
+other_words status None usage other = usage refl
+other_words status (Some Min) usage other = absurd (other refl)
+
+pub usage_is : (words : List (List ℕ)) (status : Status) (input output err : Change) → Ran words status input output err → (status ≡ Usage) ↔ (IsMin words → ⊥)
+usage_is words status input output err ran = (
+  λ usage min. some_is (subst (λ (command : Option Command). IsNone command) (command_is_min words min) (ran.usage.0 usage)),
+  λ other. other_words status (command_of words) ran.usage.1 (λ is. other (min_is words is)),
+)
+
+write_fault_apart : (status : Status) → status ≡ WriteFault → status ≡ Usage → ⊥
+write_fault_apart status is usage = absurd (let apart : WriteFault ≡ Usage = sym is ∙ usage in cc)
+
+pub write_fault_is : (words : List (List ℕ)) (status : Status) (input output err : Change) → Ran words status input output err → status ≡ WriteFault → HasFailed output × Began input output
+write_fault_is words status input output err ran is =
+    subst (λ (s : Status). MinDoes s input output) is (of_min words status input output err ran (write_fault_apart status is)).1

@@ -2,12 +2,12 @@
 use Rattle.std.proofs.Common.{inl, inr, ℕ, ◌<◌, List, Option, Result, Ok, Err, length, take, subst, sym, arith}
 use Rattle.std.specs.Prelude.{OnOk, OnErr}
 use Rattle.std.proofs.lemmas.List.{take_all}
-use Rattle.css_io.specs.Io.{Rose, HasAdded}
-use Rattle.cssmin.specs.Run.{Counts, IsTold}
+use Rattle.cssmin.specs.Change.{Change, HasFailed, Adds}
+use Rattle.cssmin.specs.Telling.{IsTold}
 
-pub line_told : {E : Type 0} → (result : Result (Unit {0}) E) (line : List ℕ) (faults : Counts) (written written' : Option (List ℕ))
-    → OnOk result (HasAdded line written written') → OnErr result (Rose faults.before faults.after) → OnErr result ((n : ℕ) × (n < length line) × HasAdded (take n line) written written')
-    → IsTold line faults written written'
-line_told (Ok u) line faults written written' whole rose part =
-    (length line, subst (λ (bytes : List ℕ). HasAdded bytes written written') (sym (take_all (length line) line (omega arith))) whole, inl (omega arith))
-line_told (Err e) line faults written written' whole rose part = (part.0, part.2, inr rose)
+pub line_told : {E : Type 0} → (result : Result (Unit {0}) E) (line : List ℕ) (err : Change)
+    → OnOk result (Adds line err) → OnErr result (HasFailed err) → OnErr result ((n : ℕ) × (n < length line) × Adds (take n line) err)
+    → IsTold line err
+line_told (Ok u) line err whole rose part =
+    (length line, subst (λ (bytes : List ℕ). Adds bytes err) (sym (take_all (length line) line (omega arith))) whole, inl (omega arith))
+line_told (Err e) line err whole rose part = (part.0, part.2, inr rose)

@@ -1,5 +1,7 @@
-pub mod Joining
-pub mod Minified
+pub mod Change
+pub mod Commands
+pub mod Laws
 pub mod Run
-pub mod SelectorSet
 pub mod Status
+pub mod Telling
+pub mod Words

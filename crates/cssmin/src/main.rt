@@ -1,43 +1,25 @@
 //! `cssmin`: a style sheet in fewer bytes, with the same meaning.
 #![tactic(auto)]
 
-mod join;
+mod commands;
 mod laws;
-mod minify;
+mod run;
 mod status;
-mod top;
+mod telling;
+mod words;
 
 use css_io::{StdSink, StdSource};
-use status::Status;
-use std::alloc::AllocError;
+use run::run_words;
 use std::env;
-use std::io::ErrorKind;
 use std::process::ExitCode;
-use top::{run, tell};
-
-/// The words after the program's name. Words that are no UTF-8 are those of no command, so they are
-/// left out.
-fn words_of(rt: &HostRuntime) -> Result<Vec<String>, AllocError> {
-    match env::args(rt) {
-        Ok(words) => words.skip(1).collect(rt.alloc()),
-        Err(error) if error.kind() == ErrorKind::InvalidData => Ok(Vec::new(rt.alloc())),
-        Err(_) => Err(AllocError),
-    }
-}
+use words::words_after_name;
 
 fn main(rt: HostRuntime) -> ExitCode {
+    let words = words_after_name(rt.alloc(), env::args(&rt));
+    let mut input = StdSource::new(rt.stdin());
+    let mut out = StdSink::new(rt.stdout());
     let mut err = StdSink::new(rt.stderr());
-    let status = match words_of(&rt) {
-        Ok(words) => run(
-            rt.alloc(),
-            &words,
-            &mut StdSource::new(rt.stdin()),
-            &mut StdSink::new(rt.stdout()),
-            &mut err,
-        ),
-        Err(AllocError) => tell(rt.alloc(), Status::NoMemory, &mut err),
-    };
-    ExitCode::from(status.number())
+    run_words(rt.alloc(), words, &mut input, &mut out, &mut err).exit_code()
 }
 
 #[cfg(test)]

@@ -1,10 +1,11 @@
-//! How a run ended, and what it tells.
+//! How a run ended.
 
-ghost use Rattle.std.specs.Prelude.{◌≡◌, IfOk, string_bytes};
-ghost use Rattle.cssmin.specs.Status.{message, number_of};
+ghost use Rattle.std.specs.Prelude.{◌≡◌};
+ghost use Rattle.std.specs.Process.{exit_status};
+ghost use Rattle.cssmin.specs.Status.{number_of};
 
 use css_model::SheetFault;
-use std::alloc::{AllocError, Global};
+use std::process::ExitCode;
 
 /// How a run ended.
 #[derive(Clone, Copy, Debug, PartialEq, Eq)]
@@ -24,7 +25,7 @@ pub enum Status {
 }
 
 impl Status {
-    /// The exit status of the program: 0, 2, 3, 4, 5 or 6.
+    /// The number of the status: 0, 2, 3, 4, 5 or 6.
     pub fn number(&self) -> u8
         ensures { result ≡ number_of self.now }
     {
@@ -37,11 +38,11 @@ impl Status {
             Status::NoMemory => 6,
         }
     }
-}
 
-/// The line that names the fault of a sheet.
-pub(crate) fn refusal(alloc: Global, fault: SheetFault) -> Result<String, AllocError>
-    ensures { IfOk result (λ text. string_bytes text ≡ message (Status.SheetRefused fault)) }
-{
-    format!(in alloc; "refused: {fault}\n")
+    /// What the process ends with: the number of the status.
+    pub fn exit_code(&self) -> ExitCode
+        ensures { exit_status result ≡ number_of self.now }
+    {
+        ExitCode::from(self.number())
+    }
 }

@@ -1,7 +1,13 @@
+//! Runs over sources and sinks in memory, with a fault at each call.
+
 use super::*;
+use crate::run::run;
+use crate::status::Status;
 use css_io::{MemSink, MemSource};
 use css_model::{FaultKind, SheetFault};
-use std::alloc::Global;
+use std::alloc::{AllocError, Global};
+use std::io;
+use std::io::ErrorKind;
 use std::process::Abort;
 use std::test::Fail;
 
@@ -101,57 +107,9 @@ fn run_min(alloc: Global, text: &[u8], outside: Outside) -> Result<Ran, AllocErr
 
 #[test]
 fn minifies(rt: HostRuntime) -> Result<(), Fail> {
-    for (text, printed) in [
-        (&b""[..], &b""[..]),
-        (SHEET, PRINTED),
-        (b"a{b:c}p{d:e}a{f:g}", b"a{b:c}p{d:e}a{f:g}"),
-        // An escape takes one white space, so two stand for what is behind it.
-        (b".\\31/**/ b{top:0}", b".\\31  b{top:0}"),
-        // A newline of two bytes becomes one of one byte.
-        (b"a{b:\\\r\nc}", b"a{b:\\\nc}"),
-    ] {
+    for (text, printed) in [(&b""[..], &b""[..]), (SHEET, PRINTED)] {
         let ran = run_min(rt.alloc(), text, Outside::faultless())?;
         ran.assert_is(&rt, Status::Done, printed, b"");
-    }
-    Ok(())
-}
-
-#[test]
-fn joins_neighbours(rt: HostRuntime) -> Result<(), Fail> {
-    for (text, printed) in [
-        (
-            &b".a{top:0}.a{left:0}#b{top:1px}"[..],
-            &b".a{top:0;left:0}#b{top:1px}"[..],
-        ),
-        (b"a{b:c}a{d:e}a{f:g}", b"a{b:c;d:e;f:g}"),
-        (b"a{b:c}a{b:c}", b"a{b:c;b:c}"),
-        (b"a,b{top:0}b,a{left:0}", b"a,b{top:0;left:0}"),
-        (b"a{b:c!important}a{b:d}", b"a{b:c!important;b:d}"),
-        (b"a{b:c}\\61{b:d}", b"a{b:c;b:d}"),
-    ] {
-        let ran = run_min(rt.alloc(), text, Outside::faultless())?;
-        ran.assert_is(&rt, Status::Done, printed, b"");
-    }
-    Ok(())
-}
-
-#[test]
-fn leaves_as_it_stands(rt: HostRuntime) -> Result<(), Fail> {
-    for text in [
-        &b".a{background:red;background:linear-gradient(red,blue)}"[..],
-        b".a{color:red}.c:focus-visible{color:blue}.a{color:green}",
-        b".a{top:0}@media print{.b{top:1px}}.a{top:2px}",
-        b"a{top:0}@import \"x\";a{top:0}",
-        b"a{top:0;&:hover{left:0}}a{left:1px}",
-        // Sets of selectors of which one is repeated, and sets that differ.
-        b"a,a{top:0}a,a{left:0}",
-        b"a,a{top:0}a,b{left:0}",
-        b"a,b{top:0}a,a{left:0}",
-        b"a,b{top:0}a,c{left:0}",
-        b"a,b{top:0}a{left:0}",
-    ] {
-        let ran = run_min(rt.alloc(), text, Outside::faultless())?;
-        ran.assert_is(&rt, Status::Done, text, b"");
     }
     Ok(())
 }
@@ -192,58 +150,6 @@ fn refuses(rt: HostRuntime) -> Result<(), Fail> {
         let ran = run_min(rt.alloc(), text, Outside::faultless())?;
         ran.assert_is(&rt, Status::SheetRefused(fault(kind, at)), b"", told);
     }
-    Ok(())
-}
-
-// A part so often, with a sign between every two.
-fn push_times(text: &mut Vec<u8>, part: &[u8], count: u32, sign: &[u8]) -> Result<(), AllocError> {
-    for i in 0..count {
-        if i > 0 {
-            text.extend_from_slice(sign)?;
-        }
-        text.extend_from_slice(part)?;
-    }
-    Ok(())
-}
-
-#[test]
-fn refuses_what_is_too_deep(rt: HostRuntime) -> Result<(), Fail> {
-    let mut text = b"a{b:".to_vec(rt.alloc())?;
-    push_times(&mut text, b"(", 256, b"")?;
-    let ran = run_min(rt.alloc(), text.as_slice(), Outside::faultless())?;
-    let told = b"refused: TooDeep at 259\n";
-    let deep = fault(FaultKind::TooDeep, 259);
-    ran.assert_is(&rt, Status::SheetRefused(deep), b"", told);
-    Ok(())
-}
-
-#[test]
-fn refuses_too_many_items(rt: HostRuntime) -> Result<(), Fail> {
-    let mut text = Vec::new(rt.alloc());
-    push_times(&mut text, b"@a;", 16_384, b"")?;
-    let mut roomy = Outside::faultless();
-    roomy.room = 50_000;
-    let ran = run_min(rt.alloc(), text.as_slice(), roomy)?;
-    ran.assert_is(&rt, Status::Done, text.as_slice(), b"");
-    text.extend_from_slice(b"@a;")?;
-    let ran = run_min(rt.alloc(), text.as_slice(), roomy)?;
-    let told = b"refused: TooManyItems at 49152\n";
-    let many = fault(FaultKind::TooManyItems, 49_152);
-    ran.assert_is(&rt, Status::SheetRefused(many), b"", told);
-    Ok(())
-}
-
-#[test]
-fn refuses_too_many_pairs(rt: HostRuntime) -> Result<(), Fail> {
-    let mut text = Vec::new(rt.alloc());
-    push_times(&mut text, b"a", 513, b",")?;
-    text.push(b'{')?;
-    push_times(&mut text, b"b:c", 512, b";")?;
-    text.push(b'}')?;
-    let ran = run_min(rt.alloc(), text.as_slice(), Outside::faultless())?;
-    let told = b"refused: TooManyPairs at 0\n";
-    let many = fault(FaultKind::TooManyPairs, 0);
-    ran.assert_is(&rt, Status::SheetRefused(many), b"", told);
     Ok(())
 }
 
@@ -326,15 +232,16 @@ fn a_status_that_cannot_be_told_stays(rt: HostRuntime) -> Result<(), Fail> {
 }
 
 #[test]
-fn each_status_has_its_number(rt: HostRuntime) {
-    for (status, number) in [
-        (Status::Done, 0),
-        (Status::Usage, 2),
-        (Status::SheetRefused(fault(FaultKind::TooDeep, 7)), 3),
-        (Status::ReadFault, 4),
-        (Status::WriteFault, 5),
-        (Status::NoMemory, 6),
-    ] {
-        assert_eq!(rt; status.number(), number);
-    }
+fn hands_in_the_words_behind_the_name(rt: HostRuntime) -> Result<(), Fail> {
+    let name = String::from_str(rt.alloc(), "cssmin")?;
+    let word = String::from_str(rt.alloc(), "min")?;
+    let all = vec![in rt.alloc(); name, word]?;
+    let words = words_after_name(rt.alloc(), Ok(all.into_iter()))?;
+    assert_eq!(rt; words.len(), 1);
+    assert_eq!(rt; words[0].as_str(), "min");
+    let broken = io::Error::from(ErrorKind::InvalidData);
+    assert_eq!(rt; words_after_name(rt.alloc(), Err(broken))?.len(), 0);
+    let short = io::Error::from(ErrorKind::OutOfMemory);
+    assert!(rt; words_after_name(rt.alloc(), Err(short)).is_err());
+    Ok(())
 }

@@ -1,0 +1,169 @@
+#!/usr/bin/env python3
+"""Tries the built program as a process: what no clause can say of `main`.
+
+Usage: .ci/program.py PROGRAM
+
+Each case runs PROGRAM once and compares its exit status, its standard output and its standard error,
+byte for byte; some also compare how much of the input was read. The examples are to give the outputs
+that are stored beside them. Prints each difference, and ends with 1 where there is one.
+"""
+
+import glob
+import os
+import resource
+import subprocess
+import sys
+import tempfile
+
+USAGE = b"usage: cssmin min\n"
+READ_FAULT = b"read fault\n"
+WRITE_FAULT = b"write fault\n"
+NO_MEMORY = b"out of memory\n"
+
+SHEET = b"a { color : red ; }"
+PRINTED = b"a{color:red}"
+
+MAX_BYTES = 1_048_576
+
+
+class Tries:
+    """Cases of one program, and how many of them went wrong."""
+
+    def __init__(self, program):
+        self.program = program
+        self.cases = 0
+        self.wrong = 0
+
+    def is_same(self, name, what, found, wanted):
+        if found == wanted:
+            return
+        self.wrong += 1
+        print(f"{name}: {what} is {found!r:.200}, and is to be {wanted!r:.200}")
+
+    def run(self, words, sheet, before=None, stdout=subprocess.PIPE, stderr=subprocess.PIPE):
+        """One run; `sheet` is the text of the input, or a file to read from."""
+        self.cases += 1
+        given = {"input": sheet} if isinstance(sheet, bytes) else {"stdin": sheet}
+        return subprocess.run(
+            [self.program, *words], stdout=stdout, stderr=stderr, preexec_fn=before, timeout=60, **given
+        )
+
+    def check(self, name, words, sheet, status, out, err, **streams):
+        """A run that is to end so; a stream that is not piped is not compared."""
+        ran = self.run(words, sheet, **streams)
+        self.is_same(name, "the exit status", ran.returncode, status)
+        if ran.stdout is not None:
+            self.is_same(name, "standard output", ran.stdout, out)
+        if ran.stderr is not None:
+            self.is_same(name, "standard error", ran.stderr, err)
+
+    def check_read(self, name, words, text, status, out, err, read):
+        """The same from a file, of which so many bytes are to be read."""
+        with tempfile.TemporaryFile(buffering=0) as sheet:
+            sheet.write(text)
+            sheet.seek(0)
+            self.check(name, words, sheet, status, out, err)
+            self.is_same(name, "what was read", sheet.tell(), read)
+
+
+def close(descriptor):
+    """What closes a standard stream of the program before it starts."""
+    return lambda: os.close(descriptor)
+
+
+def limit_memory(kibibytes):
+    """What leaves the program so much memory for data."""
+    size = kibibytes * 1024
+    return lambda: resource.setrlimit(resource.RLIMIT_DATA, (size, size))
+
+
+def try_words(tries):
+    for name, words in [
+        ("no word", []),
+        ("another word", ["mim"]),
+        ("a word too much", ["min", "min"]),
+        ("a word that is no UTF-8", [b"\xff"]),
+        ("a word that is no UTF-8 behind min", ["min", b"\xff"]),
+        ("a word that is no UTF-8 before min", [b"\xff", "min"]),
+    ]:
+        tries.check_read(name, words, SHEET, 2, b"", USAGE, 0)
+
+
+def try_sheets(tries):
+    tries.check_read("a sheet", ["min"], SHEET, 0, PRINTED, b"", len(SHEET))
+    tries.check_read("an empty sheet", ["min"], b"", 0, b"", b"", 0)
+    broken = b'a{b:"x'
+    tries.check_read("a broken sheet", ["min"], broken, 3, b"", b"refused: EndInside at 4\n", len(broken))
+    long = b"a" * (MAX_BYTES + 2)
+    told = b"refused: TooLong at %d\n" % MAX_BYTES
+    tries.check_read("a sheet that is too long", ["min"], long, 3, b"", told, MAX_BYTES + 1)
+
+
+def try_streams(tries):
+    tries.check("a closed input", ["min"], SHEET, 4, b"", READ_FAULT, before=close(0))
+    folder = os.open("/", os.O_RDONLY)
+    tries.check("a folder as input", ["min"], folder, 4, b"", READ_FAULT)
+    os.close(folder)
+    tries.check("a closed output", ["min"], SHEET, 5, b"", WRITE_FAULT, before=close(1))
+    reader, writer = os.pipe()
+    os.close(reader)
+    tries.check("an output that nobody reads", ["min"], SHEET, 5, b"", WRITE_FAULT, stdout=writer)
+    os.close(writer)
+    with open("/dev/full", "wb") as full:
+        tries.check("a full output", ["min"], SHEET, 5, b"", WRITE_FAULT, stdout=full)
+        tries.check("nothing for a full output", ["min"], b"", 0, b"", b"", stdout=full)
+        tries.check("a full standard error", [], SHEET, 2, b"", USAGE, stderr=full)
+        tries.check("a full standard error, a sheet", ["min"], SHEET, 0, PRINTED, b"", stderr=full)
+    tries.check("a closed standard error", [], SHEET, 2, b"", b"", before=close(2))
+    tries.check("a closed standard error, a sheet", ["min"], SHEET, 0, PRINTED, b"", before=close(2))
+
+
+def try_memory(tries, sheet, printed):
+    """Where memory is short the answer is that it is, and never another text."""
+    short = limit_memory(512)
+    tries.check("no room for the input", ["min"], SHEET, 6, b"", NO_MEMORY, before=short)
+    many = ["x" * 100_000] * 10
+    tries.check("no room for the words", many, SHEET, 6, b"", NO_MEMORY, before=short)
+    tries.check("room for the words", many, SHEET, 2, b"", USAGE)
+    ends = {(0, printed, b""), (6, b"", NO_MEMORY)}
+    seen = set()
+    for kibibytes in range(512, 8192, 64):
+        ran = tries.run(["min"], sheet, before=limit_memory(kibibytes))
+        end = (ran.returncode, ran.stdout, ran.stderr)
+        seen.add(end)
+        if end not in ends:
+            tries.is_same(f"{kibibytes} KiB for data", "the end", end, "done or out of memory")
+    tries.is_same("some of these amounts", "which ends were seen", len(seen & ends), 2)
+
+
+def try_examples(tries):
+    sheets = sorted(set(glob.glob("examples/*.css")) - set(glob.glob("examples/*.min.css")))
+    if not sheets:
+        tries.is_same("examples", "the list of sheets", sheets, "some")
+    for path in sheets:
+        with open(path, "rb") as file:
+            sheet = file.read()
+        with open(path.removesuffix(".css") + ".min.css", "rb") as file:
+            printed = file.read()
+        tries.check(path, ["min"], sheet, 0, printed, b"")
+
+
+def main():
+    if len(sys.argv) != 2:
+        sys.exit(__doc__)
+    program = os.path.abspath(sys.argv[1])
+    os.chdir(os.path.join(os.path.dirname(os.path.abspath(__file__)), ".."))
+    tries = Tries(program)
+    try_words(tries)
+    try_sheets(tries)
+    try_streams(tries)
+    # A sheet that joins, so that each kind of memory is taken.
+    rules = b"".join(b".a%d , #b { top : %dpx ; }\n.a%d,#b{left:0}\n" % (i, i, i) for i in range(500))
+    joined = b"".join(b".a%d,#b{top:%dpx;left:0}" % (i, i) for i in range(500))
+    try_memory(tries, rules, joined)
+    try_examples(tries)
+    print(f"{tries.cases} runs of the program, {tries.wrong} differences")
+    sys.exit(1 if tries.wrong else 0)
+
+
+main()

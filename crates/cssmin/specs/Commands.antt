@@ -1,0 +1,2 @@
+-- What each command does, one module a command.
+pub mod Min
