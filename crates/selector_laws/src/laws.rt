@@ -1,0 +1,17 @@
+//! The laws. They do nothing when they run.
+
+ghost use Rattle.selector_laws.specs.Grammar.{ReadSelectorsAreDerived};
+ghost use Rattle.selector_laws.specs.Limits.{ReadSelectorsKeepTheLimits};
+
+/// Each selector that is read is derived by the grammar of Selectors 3, from the very terms that it was read from.
+pub fn read_selectors_are_derived()
+    ensures { ReadSelectorsAreDerived }
+{}
+
+/// Each selector that is read has at least one compound and at most `MAX_COMPOUNDS`, and a combinator between each
+/// two; each compound has at least one simple selector and at most `MAX_SIMPLES`. At most `MAX_STEPPED` of its
+/// positions have a step of 2 or more in size, each step and offset is in range, and the attribute `id` is tested
+/// for presence and equality alone.
+pub fn read_selectors_keep_the_limits()
+    ensures { ReadSelectorsKeepTheLimits }
+{}

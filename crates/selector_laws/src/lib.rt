@@ -1,0 +1,7 @@
+//! Laws on how a selector text is read: what is read is derived by the grammar, and keeps to the limits. They stand
+//! on definitions, and no function that reads or prints needs them.
+#![tactic(auto)]
+
+mod laws;
+
+pub use laws::{read_selectors_are_derived, read_selectors_keep_the_limits};
