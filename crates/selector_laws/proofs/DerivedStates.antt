@@ -107,26 +107,38 @@ record Grows (rest : List Term) (s : SoFar) : Type 0 where
 and_simple_is : (s : SoFar) (xs done front rest : List Term) (read : Read Simple) → done ≡ front ++ rest → IsFront front s.chain s.links → s.pseudo ≡ None → Grows rest s
     → Holds (TakesSimple xs) read → Holds (Goes done xs) (and_simple s read)
 and_simple_is s xs done front rest (Err reason) parts before pseudo grows taken = tt
-and_simple_is s xs done front rest (Ok read) parts before pseudo grows taken =
-    (taken.0, taken.1, taken.2, taken.3, some_simple taken.0 read.0 taken.4, record {
-      front = front;
-      rest = rest ++ taken.0;
-      parts = ap (λ d. d ++ taken.0) parts ∙ append_assoc front rest taken.0;
-      before = before;
-      current = goes_on (grows.grow taken.0 read.0 taken.4) (sym (last_gap-append rest taken.0 (some_simple taken.0 read.0 taken.4))) pseudo;
-    })
+and_simple_is s xs done front rest (Ok read) parts before pseudo grows taken = (
+  taken.0,
+  taken.1,
+  taken.2,
+  taken.3,
+  some_simple taken.0 read.0 taken.4,
+  record {
+    front = front;
+    rest = rest ++ taken.0;
+    parts = ap (λ d. d ++ taken.0) parts ∙ append_assoc front rest taken.0;
+    before = before;
+    current = goes_on (grows.grow taken.0 read.0 taken.4) (sym (last_gap-append rest taken.0 (some_simple taken.0 read.0 taken.4))) pseudo;
+  },
+)
 
 and_element_is : (s : SoFar) (xs done front rest : List Term) (read : Read Pseudo) → done ≡ front ++ rest → IsFront front s.chain s.links → Grows rest s
     → Holds (TakesElement xs) read → Holds (Goes done xs) (and_element s read)
 and_element_is s xs done front rest (Err reason) parts before grows taken = tt
-and_element_is s xs done front rest (Ok read) parts before grows taken =
-    (taken.0, taken.1, taken.2, taken.3, some_element taken.0 read.0 taken.4, record {
-      front = front;
-      rest = rest ++ taken.0;
-      parts = ap (λ d. d ++ taken.0) parts ∙ append_assoc front rest taken.0;
-      before = before;
-      current = ends read.0 (grows.finish taken.0 read.0 taken.4) refl;
-    })
+and_element_is s xs done front rest (Ok read) parts before grows taken = (
+  taken.0,
+  taken.1,
+  taken.2,
+  taken.3,
+  some_element taken.0 read.0 taken.4,
+  record {
+    front = front;
+    rest = rest ++ taken.0;
+    parts = ap (λ d. d ++ taken.0) parts ∙ append_assoc front rest taken.0;
+    before = before;
+    current = ends read.0 (grows.finish taken.0 read.0 taken.4) refl;
+  },
+)
 
 go_on_is : (s : SoFar) (x : Term) (xs done front rest : List Term) → done ≡ front ++ rest → IsFront front s.chain s.links → s.pseudo ≡ None → Grows rest s
     → Holds (Goes done (x ∷ xs)) (go_on s x xs)
@@ -134,22 +146,28 @@ go_on_is s x xs done front rest parts before pseudo grows =
     let P = Goes done (x ∷ xs) in
     either P (begins_simple x xs) _ _
     (λ h. either P (nat_le max_simples (length s.compound)) _ _ (λ k. tt)
-        (λ k. and_simple_is s (x ∷ xs) done front rest (simple_at s.stepped x xs) parts before pseudo grows (simple_is s.stepped x xs h)))
+    (λ k. and_simple_is s (x ∷ xs) done front rest (simple_at s.stepped x xs) parts before pseudo grows (simple_is s.stepped x xs h)))
     (λ h. either P (is_sign_of colon x.kind) _ _
-        (λ k. and_element_is s (x ∷ xs) done front rest (pseudo_element_at (right_behind x.gap xs)) parts before grows (element_is x x.gap xs refl k))
-        (λ k. tt))
+    (λ k. and_element_is s (x ∷ xs) done front rest (pseudo_element_at (right_behind x.gap xs)) parts before grows (element_is x x.gap xs refl k))
+    (λ k. tt))
 
 and_type_is : (s : SoFar) (x : Term) (xs done : List Term) (read : Result Test Reason) → IsFront done s.chain s.links → s.compound ≡ [] → s.pseudo ≡ None
     → Holds (IsType x) read → Holds (Goes done (x ∷ xs)) (and_type s read)
 and_type_is s x xs done (Err reason) before none pseudo is = tt
-and_type_is s x xs done (Ok test) before none pseudo is =
-    (x ∷ [], xs, refl, refl, omega arith, record {
-      front = done;
-      rest = x ∷ [];
-      parts = refl;
-      before = before;
-      current = goes_on (subst (λ c. IsCompound (x ∷ []) (c ++ (record { negated = false; test = test }) ∷ [])) (sym none) (of_type x test is)) refl pseudo;
-    })
+and_type_is s x xs done (Ok test) before none pseudo is = (
+  x ∷ [],
+  xs,
+  refl,
+  refl,
+  omega arith,
+  record {
+    front = done;
+    rest = x ∷ [];
+    parts = refl;
+    before = before;
+    current = goes_on (subst (λ c. IsCompound (x ∷ []) (c ++ (record { negated = false; test = test }) ∷ [])) (sym none) (of_type x test is)) refl pseudo;
+  },
+)
 
 grows_from_nothing : (s : SoFar) → s.compound ≡ [] → Grows [] s
 grows_from_nothing s none = record {
@@ -163,7 +181,7 @@ begin_is s x xs done before none pseudo =
     either P (not (begins_compound x)) _ _ (λ h. tt)
     (λ h. either P (nat_le max_compounds (length s.chain)) _ _ (λ k. tt)
     (λ k. either P (begins_type x) _ _ (λ l. and_type_is s x xs done (type_at x) before none pseudo (type_is x l))
-        (λ l. go_on_is s x xs done done [] (sym (append-nil done)) before pseudo (grows_from_nothing s none))))
+    (λ l. go_on_is s x xs done done [] (sym (append-nil done)) before pseudo (grows_from_nothing s none))))
 
 grows_on : (rest : List Term) (s : SoFar) → IsCompound rest s.compound → is_white_gap (last_gap rest) ≡ false → Grows rest s
 grows_on rest s compound touches =
@@ -175,18 +193,24 @@ grows_on rest s compound touches =
 
 in_compound_is : (s : SoFar) (o : Option Combinator) (g : Gap) (x : Term) (xs done front rest : List Term) → done ≡ front ++ rest → IsFront front s.chain s.links
     → IsCompound rest s.compound → g ≡ last_gap rest → s.pseudo ≡ None → combinator_of x.kind ≡ o → Holds (Goes done (x ∷ xs)) (in_compound s o g x xs)
-in_compound_is s (Some link) g x xs done front rest parts before compound gaps pseudo is =
-    (x ∷ [], xs, refl, refl, omega arith, record {
-      front = front ++ rest ++ x ∷ [];
-      rest = [];
-      parts = ap (λ d. d ++ x ∷ []) parts ∙ sym (append-nil (front ++ rest ++ x ∷ []));
-      before = by_sign front rest x s.chain s.links s.compound link before compound is;
-      current = begins refl refl pseudo;
-    })
+in_compound_is s (Some link) g x xs done front rest parts before compound gaps pseudo is = (
+  x ∷ [],
+  xs,
+  refl,
+  refl,
+  omega arith,
+  record {
+    front = front ++ rest ++ x ∷ [];
+    rest = [];
+    parts = ap (λ d. d ++ x ∷ []) parts ∙ sym (append-nil (front ++ rest ++ x ∷ []));
+    before = by_sign front rest x s.chain s.links s.compound link before compound is;
+    current = begins refl refl pseudo;
+  },
+)
 in_compound_is s None gap.White x xs done front rest parts before compound gaps pseudo is =
     begin_is (with_link s Inside) x xs done
     (subst (λ d. IsFront d (s.chain ++ s.compound ∷ []) (s.links ++ Inside ∷ [])) (sym parts)
-        (by_white front rest s.chain s.links s.compound before compound (sym (ap is_white_gap gaps))))
+    (by_white front rest s.chain s.links s.compound before compound (sym (ap is_white_gap gaps))))
     refl pseudo
 in_compound_is s None gap.Nothing x xs done front rest parts before compound gaps pseudo is =
     go_on_is s x xs done front rest parts before pseudo (grows_on rest s compound (sym (ap is_white_gap gaps)))
@@ -276,7 +300,7 @@ reading_is s g zero (x ∷ xs) before [] rest parts size stands =
   where
     answered : (read : Read SoFar) → Holds (Goes (before ++ []) (x ∷ xs)) read
         → ((new : SoFar) (n : ℕ) (middle behind : List Term) → xs ≡ middle ++ behind → length middle ≡ n → Stands ((before ++ x ∷ []) ++ middle) (gap_behind x.gap middle) new
-            → Holds (IsSelector ((before ++ x ∷ []) ++ xs)) (read_from new x.gap n xs))
+        → Holds (IsSelector ((before ++ x ∷ []) ++ xs)) (read_from new x.gap n xs))
         → Holds (IsSelector (before ++ x ∷ xs)) (unless_refused read (read_from (state_after s read) x.gap (left_after read) xs))
     answered (Err reason) goes later = tt
     answered (Ok read) goes later = taken goes.0 goes.2 goes.3 goes.4 goes.5
@@ -288,11 +312,11 @@ reading_is s g zero (x ∷ xs) before [] rest parts size stands =
             let head : x ≡ u = cons_head x u xs (us ++ goes.1) p in
             subst (λ d. Holds (IsSelector d) (read_from read.0 x.gap (less_one read.1) xs)) (append_assoc before (x ∷ []) xs)
             (later read.0 (less_one read.1) us goes.1 (cons_tail x u xs (us ++ goes.1) p) (ap less_one q)
-              (one_more before g x u us head (subst (λ d. Stands (d ++ u ∷ us) (last_gap (u ∷ us)) read.0) (append-nil before) st)))
+            (one_more before g x u us head (subst (λ d. Stands (d ++ u ∷ us) (last_gap (u ∷ us)) read.0) (append-nil before) st)))
 
 pub derived : (terms : List Term) (selector : SelectorParts) → selector_of_terms terms ≡ Ok selector → IsSelector terms selector
 unfolding gap_behind
 derived terms selector read =
     subst (Holds (IsSelector terms)) read
     (reading_is nothing_yet gap.Nothing 0 terms [] [] terms refl refl
-      (record { front = []; rest = []; parts = refl; before = at_start; current = begins refl refl refl }))
+    (record { front = []; rest = []; parts = refl; before = at_start; current = begins refl refl refl }))

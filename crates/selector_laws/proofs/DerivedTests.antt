@@ -68,7 +68,7 @@ value_is name op n (x ∷ xs) =
     let test = attribute_test name op (code_points x.name) in
     either (Values name op n (x ∷ xs)) (is_ident x.kind || is_string x.kind) _ _
     (λ h. passed_on (Closes test (n + 1) xs) (Values name op n (x ∷ xs)) (closed_at test (n + 1) xs) (closed_is test (n + 1) xs)
-        (λ r c. (x, c.0, c.1, ap (λ ys. x ∷ ys) c.2, h, c.3, c.4, c.5)))
+    (λ r c. (x, c.0, c.1, ap (λ ys. x ∷ ys) c.2, h, c.3, c.4, c.5)))
     (λ h. tt)
 
 abbrev TakesTest : List Term → Test × ℕ → Type 0
@@ -82,10 +82,15 @@ operator_is bracket name sign op (y ∷ ys) opens names signs =
     let word = lower (code_points name.name) in
     either P (is_delim_of equals_sign y.kind && is_gapless sign.gap) _ _
     (λ h. let both = and_parts (is_delim_of equals_sign y.kind) (is_gapless sign.gap) h in
-        either P (same_text word (codes "id")) _ _ (λ k. tt)
-        (λ k. passed_on (Values word op 4 ys) P (value_at word op 4 ys) (value_is word op 4 ys)
-            (λ r v. (bracket ∷ name ∷ sign ∷ y ∷ v.0 ∷ v.1 ∷ [], v.2, ap (λ zs. bracket ∷ name ∷ sign ∷ y ∷ zs) v.3, sym v.7,
-                of_attribute (matching bracket name sign y v.0 v.1 op refl opens names signs both.0 both.1 k v.4 v.5 v.6)))))
+    either P (same_text word (codes "id")) _ _ (λ k. tt)
+    (λ k. passed_on (Values word op 4 ys) P (value_at word op 4 ys) (value_is word op 4 ys)
+    (λ r v. (
+      bracket ∷ name ∷ sign ∷ y ∷ v.0 ∷ v.1 ∷ [],
+      v.2,
+      ap (λ zs. bracket ∷ name ∷ sign ∷ y ∷ zs) v.3,
+      sym v.7,
+      of_attribute (matching bracket name sign y v.0 v.1 op refl opens names signs both.0 both.1 k v.4 v.5 v.6),
+    ))))
     (λ h. either P (is_delim_of bar sign.kind) _ _ (λ k. tt) (λ k. tt))
 
 some_operator_is : (bracket name sign : Term) (o : Option Op) (xs : List Term) → is_sign_of open_square bracket.kind ≡ true → is_name name ≡ true → op_of sign.kind ≡ o
@@ -102,10 +107,15 @@ match_is bracket name (x ∷ xs) opens names =
     either P (is_sign_of close_square x.kind) _ _
     (λ h. (bracket ∷ name ∷ x ∷ [], xs, refl, refl, of_attribute (present bracket name x refl opens names h refl)))
     (λ h. either P (is_delim_of equals_sign x.kind) _ _
-        (λ k. passed_on (Values word Equal 3 xs) P (value_at word Equal 3 xs) (value_is word Equal 3 xs)
-            (λ r v. (bracket ∷ name ∷ x ∷ v.0 ∷ v.1 ∷ [], v.2, ap (λ zs. bracket ∷ name ∷ x ∷ zs) v.3, sym v.7,
-                of_attribute (equal bracket name x v.0 v.1 refl opens names k v.4 v.5 v.6))))
-        (λ k. some_operator_is bracket name x (op_of x.kind) xs opens names refl))
+    (λ k. passed_on (Values word Equal 3 xs) P (value_at word Equal 3 xs) (value_is word Equal 3 xs)
+    (λ r v. (
+      bracket ∷ name ∷ x ∷ v.0 ∷ v.1 ∷ [],
+      v.2,
+      ap (λ zs. bracket ∷ name ∷ x ∷ zs) v.3,
+      sym v.7,
+      of_attribute (equal bracket name x v.0 v.1 refl opens names k v.4 v.5 v.6),
+    )))
+    (λ k. some_operator_is bracket name x (op_of x.kind) xs opens names refl))
 
 attribute_is : (bracket : Term) (xs : List Term) → is_sign_of open_square bracket.kind ≡ true → Holds (TakesTest (bracket ∷ xs)) (attribute_at xs)
 attribute_is bracket [] opens = tt
@@ -187,8 +197,8 @@ test_is stepped x xs begins =
     (λ h. either P (is_delim_of dot x.kind) _ _ (λ k. class_is x x.gap xs refl k)
     (λ k. either P (is_sign_of open_square x.kind) _ _ (λ l. attribute_is x xs l)
     (λ l. let both = and_parts (is_sign_of colon x.kind) (pseudo_class_follows (right_behind x.gap xs))
-              (last_of (is_id_hash x.kind) (is_delim_of dot x.kind) (is_sign_of open_square x.kind) follows h k l begins) in
-        colon_is stepped x x.gap xs refl both.0 both.1)))
+    (last_of (is_id_hash x.kind) (is_delim_of dot x.kind) (is_sign_of open_square x.kind) follows h k l begins) in
+    colon_is stepped x x.gap xs refl both.0 both.1)))
 
 pub type_is : (x : Term) → begins_type x ≡ true → Holds (IsType x) (type_at x)
 type_is x begins =
@@ -221,11 +231,15 @@ ended_is sign function (Ok read) xs colons touches calls word taken =
     let left : drop read.1 xs ≡ rest = ap (λ n. drop n xs) (sym taken.3) ∙ ap (drop (length front)) taken.2 ∙ drop-append_seam front rest in
     subst (λ ys. Holds P (end_at read.0 read.1 ys)) (sym left)
     (passed_on (Ends read.0 read.1 rest) P (end_at read.0 read.1 rest) (end_is read.0 read.1 rest)
-        (λ r e.
-            let parts : xs ≡ (front ++ e.0 ∷ []) ++ e.1 = taken.2 ∙ ap (λ ys. front ++ ys) e.2 ∙ sym (append_assoc front (e.0 ∷ []) e.1) in
-            let size = length-append front (e.0 ∷ []) in
-            (sign ∷ function ∷ (front ++ e.0 ∷ []), e.1, ap (λ ys. sign ∷ function ∷ ys) parts, omega (arith, size, taken.3, e.5),
-              negation sign function e.0 front read.0 refl colons touches calls word taken.4 e.3 e.4)))
+    (λ r e.
+    let parts : xs ≡ (front ++ e.0 ∷ []) ++ e.1 = taken.2 ∙ ap (λ ys. front ++ ys) e.2 ∙ sym (append_assoc front (e.0 ∷ []) e.1) in
+    let size = length-append front (e.0 ∷ []) in (
+      sign ∷ function ∷ (front ++ e.0 ∷ []),
+      e.1,
+      ap (λ ys. sign ∷ function ∷ ys) parts,
+      omega (arith, size, taken.3, e.5),
+      negation sign function e.0 front read.0 refl colons touches calls word taken.4 e.3 e.4,
+    )))
 
 one_term_is : (x : Term) (xs : List Term) (read : Result Test Reason) → Holds (IsType x) read → Holds (Takes IsNegated (x ∷ xs)) (of_one_term read)
 one_term_is x xs (Err reason) is = tt
@@ -239,11 +253,11 @@ negated_is stepped sign function (x ∷ xs) colons touches calls word =
     either P (begins_type x) _ _
     (λ h. ended_is sign function (of_one_term (type_at x)) (x ∷ xs) colons touches calls word (one_term_is x xs (type_at x) (type_is x h)))
     (λ h. either P (begins_simple x xs && not (is_sign_of colon x.kind && not_follows xs)) _ _
-        (λ k. let both = and_parts (begins_simple x xs) (not (is_sign_of colon x.kind && not_follows xs)) k in
-            ended_is sign function (test_at stepped x xs) (x ∷ xs) colons touches calls word
-            (passed_on (TakesTest (x ∷ xs)) (Takes IsNegated (x ∷ xs)) (test_at stepped x xs) (test_is stepped x xs both.0)
-                (λ r t. (t.0, t.1, t.2, t.3, of_test t.4))))
-        (λ k. either P (is_sign_of colon x.kind) _ _ (λ l. tt) (λ l. tt)))
+    (λ k. let both = and_parts (begins_simple x xs) (not (is_sign_of colon x.kind && not_follows xs)) k in
+    ended_is sign function (test_at stepped x xs) (x ∷ xs) colons touches calls word
+    (passed_on (TakesTest (x ∷ xs)) (Takes IsNegated (x ∷ xs)) (test_at stepped x xs) (test_is stepped x xs both.0)
+    (λ r t. (t.0, t.1, t.2, t.3, of_test t.4))))
+    (λ k. either P (is_sign_of colon x.kind) _ _ (λ l. tt) (λ l. tt)))
 
 colon_apart : (k : TokenKind) → is_sign_of colon k ≡ true → (is_id_hash k ≡ false) × (is_delim_of dot k ≡ false) × (is_sign_of open_square k ≡ false)
 colon_apart (kind.Sign c) h = (refl, refl, grind (arith, nat_tests))
@@ -269,10 +283,10 @@ pub simple_is : (stepped : ℕ) (x : Term) (xs : List Term) → begins_simple x 
 simple_is stepped x xs begins =
     either (TakesSimple (x ∷ xs)) (is_sign_of colon x.kind && not_follows xs) _ _
     (λ h. let both = and_parts (is_sign_of colon x.kind) (not_follows xs) h in
-        let apart = colon_apart x.kind both.0 in
-        let follows = and_parts (is_sign_of colon x.kind) (pseudo_class_follows (right_behind x.gap xs))
-            (last_of (is_id_hash x.kind) (is_delim_of dot x.kind) (is_sign_of open_square x.kind) (is_sign_of colon x.kind && pseudo_class_follows (right_behind x.gap xs)) apart.0 apart.1 apart.2 begins) in
-        not_is stepped x xs both.0 (touches_colon x x.gap xs refl follows.1) both.1)
+    let apart = colon_apart x.kind both.0 in
+    let follows = and_parts (is_sign_of colon x.kind) (pseudo_class_follows (right_behind x.gap xs))
+    (last_of (is_id_hash x.kind) (is_delim_of dot x.kind) (is_sign_of open_square x.kind) (is_sign_of colon x.kind && pseudo_class_follows (right_behind x.gap xs)) apart.0 apart.1 apart.2 begins) in
+    not_is stepped x xs both.0 (touches_colon x x.gap xs refl follows.1) both.1)
     (λ h. plain_is (x ∷ xs) (test_at stepped x xs) (test_is stepped x xs begins))
 
 -- pseudo-elements

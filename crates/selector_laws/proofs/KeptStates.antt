@@ -138,7 +138,7 @@ go_on_keeps : (s : SoFar) (x : Term) (xs : List Term) → Keeps s → length s.c
 go_on_keeps s x xs keeps room ranged =
     either KeepsRead (begins_simple x xs) _ _
     (λ h. either KeepsRead (nat_le max_simples (length s.compound)) _ _ (λ k. tt)
-        (λ k. and_simple_keeps s (simple_at s.stepped x xs) keeps room (below (length s.compound) max_simples k) (simple_fits s.stepped x xs ranged)))
+    (λ k. and_simple_keeps s (simple_at s.stepped x xs) keeps room (below (length s.compound) max_simples k) (simple_fits s.stepped x xs ranged)))
     (λ h. either KeepsRead (is_sign_of colon x.kind) _ _ (λ k. and_element_keeps s (pseudo_element_at (right_behind x.gap xs)) keeps room) (λ k. tt))
 
 begin_keeps : (s : SoFar) (x : Term) (xs : List Term) → Keeps s → s.compound ≡ [] → AllByRecursion HasRange xs → Holds KeepsRead (begin s x xs)
@@ -147,8 +147,8 @@ begin_keeps s x xs keeps none ranged =
     either KeepsRead (not (begins_compound x)) _ _ (λ h. tt)
     (λ h. either KeepsRead (nat_le max_compounds (length s.chain)) _ _ (λ k. tt)
     (λ k. let room = below (length s.chain) max_compounds k in
-        either KeepsRead (begins_type x) _ _ (λ l. and_type_keeps s (type_at x) keeps room (omega (arith, empty)) (type_fits s.stepped x))
-        (λ l. go_on_keeps s x xs keeps room ranged)))
+    either KeepsRead (begins_type x) _ _ (λ l. and_type_keeps s (type_at x) keeps room (omega (arith, empty)) (type_fits s.stepped x))
+    (λ l. go_on_keeps s x xs keeps room ranged)))
 
 in_compound_keeps : (s : SoFar) (o : Option Combinator) (g : Gap) (x : Term) (xs : List Term) → Keeps s → 1 ≤ length s.compound → AllByRecursion HasRange xs → Holds KeepsRead (in_compound s o g x xs)
 in_compound_keeps s (Some link) g x xs keeps some ranged = keeps_link s link keeps some
@@ -184,7 +184,7 @@ finish_keeps s (c ∷ cs) is keeps =
       links = omega (arith, turned, longer, links, keeps.links);
       compounds = all_reverse KeepsCompound whole
           (all_append KeepsCompound s.chain ((c ∷ cs) ∷ []) keeps.chain
-            (record { some = omega arith; few = omega (arith, len, keeps.short); tests = subst (AllByRecursion (λ x. KeepsTest x.test)) is keeps.tests }, tt));
+          (record { some = omega arith; few = omega (arith, len, keeps.short); tests = subst (AllByRecursion (λ x. KeepsTest x.test)) is keeps.tests }, tt));
       stepped = omega (arith, all, more, counts, keeps.counted, keeps.stepped);
     }
 

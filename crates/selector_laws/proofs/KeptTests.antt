@@ -137,7 +137,7 @@ pseudo_class_fits : (stepped : ℕ) (x : Term) → HasRange x → Holds (FitsRea
 pseudo_class_fits stepped x ranged =
     either (FitsRead stepped) (is_ident x.kind) _ _ (λ h. some_plain_fits stepped (row_of x.name plain_pseudo_classes) (plain_fits stepped x.name))
     (λ h. some_function_fits stepped (row_of x.name position_functions) x
-        (row_holds (Makes stepped) x.name position_functions (nth_fits stepped, (nth_last_fits stepped, tt))) ranged)
+    (row_holds (Makes stepped) x.name position_functions (nth_fits stepped, (nth_last_fits stepped, tt))) ranged)
 
 colon_fits : (stepped : ℕ) (xs : List Term) → AllByRecursion HasRange xs → Holds (FitsRead stepped) (behind_colon stepped xs)
 colon_fits stepped [] ranged = tt

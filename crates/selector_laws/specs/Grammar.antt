@@ -35,26 +35,26 @@ last_gap (x ∷ y ∷ ys) = last_gap (y ∷ ys)
 -- an attribute selector: `[name]`, `[name=value]`, or `[name~=value]` and its kin (section 6.3)
 pub data IsAttribute (terms : List Term) (test : Test) : Type 0 where
   present : (bracket name close : Term) → terms ≡ bracket ∷ name ∷ close ∷ [] → is_sign_of open_square bracket.kind ≡ true → is_name name ≡ true
-    → is_sign_of close_square close.kind ≡ true → test ≡ attribute_test (lower (code_points name.name)) Present [] → IsAttribute terms test
+      → is_sign_of close_square close.kind ≡ true → test ≡ attribute_test (lower (code_points name.name)) Present [] → IsAttribute terms test
   equal : (bracket name sign value close : Term) → terms ≡ bracket ∷ name ∷ sign ∷ value ∷ close ∷ [] → is_sign_of open_square bracket.kind ≡ true
-    → is_name name ≡ true → is_delim_of equals_sign sign.kind ≡ true → (is_ident value.kind || is_string value.kind) ≡ true
-    → is_sign_of close_square close.kind ≡ true → test ≡ attribute_test (lower (code_points name.name)) Equal (code_points value.name) → IsAttribute terms test
+      → is_name name ≡ true → is_delim_of equals_sign sign.kind ≡ true → (is_ident value.kind || is_string value.kind) ≡ true
+      → is_sign_of close_square close.kind ≡ true → test ≡ attribute_test (lower (code_points name.name)) Equal (code_points value.name) → IsAttribute terms test
   matching : (bracket name first second value close : Term) (op : Op) → terms ≡ bracket ∷ name ∷ first ∷ second ∷ value ∷ close ∷ []
-    → is_sign_of open_square bracket.kind ≡ true → is_name name ≡ true → op_of first.kind ≡ Some op → is_delim_of equals_sign second.kind ≡ true
-    → is_gapless first.gap ≡ true → same_text (lower (code_points name.name)) (codes "id") ≡ false → (is_ident value.kind || is_string value.kind) ≡ true
-    → is_sign_of close_square close.kind ≡ true → test ≡ attribute_test (lower (code_points name.name)) op (code_points value.name) → IsAttribute terms test
+      → is_sign_of open_square bracket.kind ≡ true → is_name name ≡ true → op_of first.kind ≡ Some op → is_delim_of equals_sign second.kind ≡ true
+      → is_gapless first.gap ≡ true → same_text (lower (code_points name.name)) (codes "id") ≡ false → (is_ident value.kind || is_string value.kind) ≡ true
+      → is_sign_of close_square close.kind ≡ true → test ≡ attribute_test (lower (code_points name.name)) op (code_points value.name) → IsAttribute terms test
 
 -- a hash, a class, an attribute selector or a pseudo-class (sections 6.3 to 6.6)
 pub data IsTest (terms : List Term) (test : Test) : Type 0 where
   id : (x : Term) → terms ≡ x ∷ [] → is_id_hash x.kind ≡ true → test ≡ Id (code_points x.name) → IsTest terms test
   class : (sign x : Term) → terms ≡ sign ∷ x ∷ [] → is_delim_of dot sign.kind ≡ true → is_white_gap sign.gap ≡ false → is_name x ≡ true
-    → test ≡ attribute_test (codes "class") Word (code_points x.name) → IsTest terms test
+      → test ≡ attribute_test (codes "class") Word (code_points x.name) → IsTest terms test
   of_attribute : IsAttribute terms test → IsTest terms test
   pseudo_class : (sign x : Term) → terms ≡ sign ∷ x ∷ [] → is_sign_of colon sign.kind ≡ true → is_white_gap sign.gap ≡ false
-    → is_ident x.kind ≡ true → is_pseudo_element x ≡ false → row_of x.name plain_pseudo_classes ≡ Some test → IsTest terms test
+      → is_ident x.kind ≡ true → is_pseudo_element x ≡ false → row_of x.name plain_pseudo_classes ≡ Some test → IsTest terms test
   position : (sign x : Term) (make : AnB → Test) (argument : AnB) → terms ≡ sign ∷ x ∷ [] → is_sign_of colon sign.kind ≡ true
-    → is_white_gap sign.gap ≡ false → is_function x.kind ≡ true → row_of x.name position_functions ≡ Some make → x.argument ≡ Ok argument
-    → test ≡ make argument → IsTest terms test
+      → is_white_gap sign.gap ≡ false → is_function x.kind ≡ true → row_of x.name position_functions ≡ Some make → x.argument ≡ Ok argument
+      → test ≡ make argument → IsTest terms test
 
 -- a type selector or the universal selector (sections 6.1 and 6.2)
 pub data IsType (x : Term) (test : Test) : Type 0 where
@@ -70,41 +70,41 @@ pub data IsNegated (terms : List Term) (test : Test) : Type 0 where
 pub data IsSimple (terms : List Term) (simple : Simple) : Type 0 where
   plain : (test : Test) → IsTest terms test → simple ≡ record { negated = false; test = test } → IsSimple terms simple
   negation : (sign function close : Term) (inside : List Term) (test : Test) → terms ≡ sign ∷ function ∷ (inside ++ close ∷ [])
-    → is_sign_of colon sign.kind ≡ true → is_white_gap sign.gap ≡ false → is_function function.kind ≡ true → is_word (codes "not") function.name ≡ true
-    → IsNegated inside test → is_sign_of close_round close.kind ≡ true → simple ≡ record { negated = true; test = test } → IsSimple terms simple
+      → is_sign_of colon sign.kind ≡ true → is_white_gap sign.gap ≡ false → is_function function.kind ≡ true → is_word (codes "not") function.name ≡ true
+      → IsNegated inside test → is_sign_of close_round close.kind ≡ true → simple ≡ record { negated = true; test = test } → IsSimple terms simple
 
 -- a sequence of simple selectors, each right behind the one before (section 4)
 pub data IsCompound : List Term → List Simple → Type 0 where
   of_type : (x : Term) (test : Test) → IsType x test → IsCompound (x ∷ []) ((record { negated = false; test = test }) ∷ [])
   of_simple : (terms : List Term) (simple : Simple) → IsSimple terms simple → IsCompound terms (simple ∷ [])
   more : (front rest : List Term) (some : List Simple) (simple : Simple) → IsCompound front some → is_white_gap (last_gap front) ≡ false
-    → IsSimple rest simple → IsCompound (front ++ rest) (some ++ simple ∷ [])
+      → IsSimple rest simple → IsCompound (front ++ rest) (some ++ simple ∷ [])
 
 -- a pseudo-element, behind one colon or two (section 7)
 pub data IsPseudoElement (terms : List Term) (element : Pseudo) : Type 0 where
   one_colon : (sign x : Term) → terms ≡ sign ∷ x ∷ [] → is_sign_of colon sign.kind ≡ true → is_white_gap sign.gap ≡ false → is_ident x.kind ≡ true
-    → row_of x.name pseudo_elements ≡ Some element → IsPseudoElement terms element
+      → row_of x.name pseudo_elements ≡ Some element → IsPseudoElement terms element
   two_colons : (first second x : Term) → terms ≡ first ∷ second ∷ x ∷ [] → is_sign_of colon first.kind ≡ true → is_white_gap first.gap ≡ false
-    → is_sign_of colon second.kind ≡ true → is_white_gap second.gap ≡ false → is_ident x.kind ≡ true
-    → row_of x.name pseudo_elements ≡ Some element → IsPseudoElement terms element
+      → is_sign_of colon second.kind ≡ true → is_white_gap second.gap ≡ false → is_ident x.kind ≡ true
+      → row_of x.name pseudo_elements ≡ Some element → IsPseudoElement terms element
 
 -- the last compound, with the pseudo-element right behind it if there is one; before one alone `*` is not written
 pub data IsLast (terms : List Term) (simples : List Simple) (pseudo : Option Pseudo) : Type 0 where
   plain : IsCompound terms simples → pseudo ≡ None → IsLast terms simples pseudo
   behind : (front rest : List Term) (element : Pseudo) → terms ≡ front ++ rest → IsCompound front simples → is_white_gap (last_gap front) ≡ false
-    → IsPseudoElement rest element → pseudo ≡ Some element → IsLast terms simples pseudo
+      → IsPseudoElement rest element → pseudo ≡ Some element → IsLast terms simples pseudo
   alone : (element : Pseudo) → IsPseudoElement terms element → simples ≡ (record { negated = false; test = Any }) ∷ [] → pseudo ≡ Some element
-    → IsLast terms simples pseudo
+      → IsLast terms simples pseudo
 
 -- compounds, each with the combinator behind it: a sign, or white space alone (section 8)
 pub data IsFront : List Term → List (List Simple) → List Combinator → Type 0 where
   at_start : IsFront [] [] []
   by_sign : (front rest : List Term) (x : Term) (chain : List (List Simple)) (links : List Combinator) (simples : List Simple) (link : Combinator)
-    → IsFront front chain links → IsCompound rest simples → combinator_of x.kind ≡ Some link
-    → IsFront (front ++ rest ++ x ∷ []) (chain ++ simples ∷ []) (links ++ link ∷ [])
+      → IsFront front chain links → IsCompound rest simples → combinator_of x.kind ≡ Some link
+      → IsFront (front ++ rest ++ x ∷ []) (chain ++ simples ∷ []) (links ++ link ∷ [])
   by_white : (front rest : List Term) (chain : List (List Simple)) (links : List Combinator) (simples : List Simple)
-    → IsFront front chain links → IsCompound rest simples → is_white_gap (last_gap rest) ≡ true
-    → IsFront (front ++ rest) (chain ++ simples ∷ []) (links ++ Inside ∷ [])
+      → IsFront front chain links → IsCompound rest simples → is_white_gap (last_gap rest) ≡ true
+      → IsFront (front ++ rest) (chain ++ simples ∷ []) (links ++ Inside ∷ [])
 
 -- a selector: its parts stand from right to left
 pub record IsSelector (terms : List Term) (selector : SelectorParts) : Type 0 where
