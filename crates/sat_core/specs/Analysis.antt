@@ -38,12 +38,15 @@ MarkedWithin seen es k =
 pub record IsResolved (formula : List (List Lit)) (t : Assignment) (seen : List Bool) (at : ℕ) : Type 0 where
   pub place : at < length t.entries
   pub forced : IsForced formula (marked seen (lits t.entries))
-  pub top : (e : Entry) → slice_get t.entries at ≡ Some e → IsTrue (is_marked seen e.lit) × (e.level ≡ t.level)
+  pub top : (e : Entry) → slice_get t.entries at ≡ Some e
+      → IsTrue (is_marked seen e.lit) × (e.level ≡ t.level)
   pub within : MarkedWithin seen t.entries (at + 1)
-  pub others : (j : ℕ) (e : Entry) → j < at → slice_get t.entries j ≡ Some e → IsTrue (is_marked seen e.lit) → e.level < t.level
+  pub others : (j : ℕ) (e : Entry) → j < at → slice_get t.entries j ≡ Some e
+      → IsTrue (is_marked seen e.lit) → e.level < t.level
 
 -- a level that one of the marked entries before a place is of, or 0
 abbrev pub IsBack : List Entry → List Bool → ℕ → ℕ → Type 0
 IsBack es seen at back =
     (back ≡ 0)
-    ⊎ ((j : ℕ) × (j < at) × ((e : Entry) → slice_get es j ≡ Some e → IsTrue (is_marked seen e.lit) × (e.level ≡ back)))
+    ⊎ ((j : ℕ) × (j < at)
+    × ((e : Entry) → slice_get es j ≡ Some e → IsTrue (is_marked seen e.lit) × (e.level ≡ back)))
