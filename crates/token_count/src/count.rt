@@ -1,6 +1,7 @@
 //! The tokens of a style sheet, counted.
 
 ghost use Rattle.std.specs.Prelude.{◌≡◌, ◌≤◌, ◌+◌, ◌<◌, ◌^◌, length, true, None, IfOk, IfErr, Err, Some};
+ghost use Rattle.css_model.specs.Sheets.Limits.{max_bytes};
 ghost use Rattle.css_model.specs.Text.Tokens.{tokens};
 ghost use Rattle.token_count.specs.Counting.{IsCount, IsRefused};
 
@@ -22,7 +23,7 @@ pub enum Refused {
 /// `NotUtf8` comes exactly where the sheet is not UTF-8, and else `Token` where one of them cannot be read.
 /// Takes no memory.
 pub fn token_count(source: &[u8]) -> Result<usize, Refused>
-    requires { length source.now ≤ 1048576 }
+    requires { length source.now ≤ max_bytes }
     ensures counts { IfOk result (IsCount source.now) }
     ensures refuses { IfErr result (IsRefused source.now) }
 {
