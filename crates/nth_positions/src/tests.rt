@@ -232,6 +232,10 @@ fn bounds_reduce_gaps(rt: HostRuntime) {
             width: 25
         }
     );
+}
+
+#[test]
+fn four_steps_without_a_common_factor_have_the_longest_period(rt: HostRuntime) {
     let coprime = [
         AnB { a: 32, b: 0 },
         AnB { a: 31, b: 0 },

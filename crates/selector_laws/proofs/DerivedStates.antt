@@ -1,7 +1,6 @@
 -- What is read so far is derived by the grammar from the terms so far, and so is the selector at the end.
-use Rattle.std.proofs.Common.{◌≡◌, ◌≤◌, ◌+◌, ℕ, zero, suc, Bool, true, false, cond, not, Option, Some, None, Result, Ok, Err, List, [], ◌∷◌, ◌++◌, length, refl, sym, ap, ◌∙◌, subst, append_assoc, length-append, arith}
+use Rattle.std.proofs.Common.{◌≡◌, ◌≤◌, ℕ, zero, suc, false, not, Option, Some, None, Result, Ok, Err, List, [], ◌∷◌, ◌++◌, length, refl, sym, ap, ◌∙◌, subst, append_assoc, length-append, arith}
 use Rattle.std.specs.Prelude.{nat_le}
-use Rattle.std.proofs.lemmas.Bool.{false≢true}
 use Rattle.std.proofs.lemmas.List.{append-nil}
 use Rattle.css_model.specs.declared.reason.Reason.{Reason}
 use Rattle.css_model.specs.declared.selector.Combinator.{Combinator}
@@ -12,7 +11,7 @@ use Rattle.css_model.specs.declared.selector.Test.{Test}
 use Rattle.css_model.specs.declared.token.Gap.{Gap}
 use Rattle.css_model.specs.declared.token.Gap.TheVariants as gap
 use Rattle.css_model.specs.Documents.SelectorParts.{SelectorParts}
-use Rattle.css_model.specs.Selectors.Compounds.{SoFar, and_element, and_simple, and_type, begin, begins_compound, by_compound, go_on, in_compound, nothing_yet, or_universal, step, with_element, with_link, with_simple}
+use Rattle.css_model.specs.Selectors.Compounds.{SoFar, and_element, and_simple, and_type, begin, begins_compound, by_compound, go_on, in_compound, nothing_yet, or_universal, step, with_link}
 use Rattle.css_model.specs.Selectors.Negations.{simple_at}
 use Rattle.css_model.specs.Selectors.PseudoElements.{pseudo_element_at}
 use Rattle.css_model.specs.Selectors.Reading.{finish, left_after, read_from, selector_of_terms, state_after, unless_refused}
@@ -34,7 +33,7 @@ use Rattle.selector_laws.specs.Grammar.IsPseudoElement.{one_colon, two_colons}
 use Rattle.selector_laws.specs.Grammar.IsSimple.{plain, negation}
 use Rattle.selector_laws.specs.Grammar.IsTest.{id, class, of_attribute, pseudo_class, position}
 use Rattle.selector_laws.proofs.Answered.{Holds, either}
-use Rattle.selector_laws.proofs.DerivedTests.{Takes, TakesElement, TakesSimple, element_is, simple_is, type_is}
+use Rattle.selector_laws.proofs.DerivedTests.{TakesElement, TakesSimple, element_is, simple_is, type_is}
 
 cons_head : (x y : Term) (xs ys : List Term) → x ∷ xs ≡ y ∷ ys → x ≡ y
 cons_head x y xs ys e = cc

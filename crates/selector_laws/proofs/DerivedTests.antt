@@ -8,7 +8,7 @@ use Rattle.css_model.specs.declared.position.AnB.{AnB}
 use Rattle.css_model.specs.declared.reason.Reason.{Reason}
 use Rattle.css_model.specs.declared.reason.Reason.TheVariants.{TooManyStepped}
 use Rattle.css_model.specs.declared.selector.Op.{Op}
-use Rattle.css_model.specs.declared.selector.Op.TheVariants.{Equal, Present}
+use Rattle.css_model.specs.declared.selector.Op.TheVariants.{Equal}
 use Rattle.css_model.specs.declared.selector.Pseudo.{Pseudo}
 use Rattle.css_model.specs.declared.selector.Simple.{Simple}
 use Rattle.css_model.specs.declared.selector.Test.{Test}
@@ -33,7 +33,7 @@ use Rattle.css_model.specs.Text.Characters.{close_round, close_square, colon, do
 use Rattle.css_model.specs.Text.Kept.{is_white_gap}
 use Rattle.css_model.specs.Text.Lexemes.{is_delim_of, is_ident, is_sign_of}
 use Rattle.css_model.specs.Text.Names.{code_points, lower}
-use Rattle.selector_laws.specs.Grammar.{IsAttribute, IsNegated, IsPseudoElement, IsSimple, IsTest, IsType}
+use Rattle.selector_laws.specs.Grammar.{IsNegated, IsPseudoElement, IsSimple, IsTest, IsType}
 use Rattle.selector_laws.specs.Grammar.IsAttribute.{present, equal, matching}
 use Rattle.selector_laws.specs.Grammar.IsNegated.{of_type, of_test}
 use Rattle.selector_laws.specs.Grammar.IsPseudoElement.{one_colon, two_colons}

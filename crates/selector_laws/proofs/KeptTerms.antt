@@ -1,6 +1,5 @@
 -- The argument of each term of a text is in range, so each selector that is read keeps to the limits.
-use Rattle.std.proofs.Common.{◌≡◌, ◌≤◌, ◌&&◌, ℕ, zero, suc, Bool, true, false, cond, Option, Some, None, Result, Ok, Err, List, [], ◌∷◌, map, refl, subst, arith}
-use Rattle.std.specs.Prelude.{nat_le, unsigned_abs}
+use Rattle.std.proofs.Common.{◌≡◌, ℕ, zero, suc, true, Option, Some, None, Ok, List, [], ◌∷◌, map, subst, arith}
 use Rattle.std.specs.List.{AllByRecursion, before_first, list_any}
 use Rattle.std.proofs.lemmas.Bool.Decides.{nat_tests}
 use Rattle.css_model.specs.declared.position.AnB.{AnB}
@@ -12,8 +11,8 @@ use Rattle.css_model.specs.Documents.SelectorParts.{SelectorParts}
 use Rattle.css_model.specs.Positions.Range.{IsInRange, is_in_range}
 use Rattle.css_model.specs.Selectors.Arguments.{against_argument, argument_of, argument_text, closes_round, in_range_or, is_position_function, notation_of}
 use Rattle.css_model.specs.Selectors.Compounds.{nothing_yet}
-use Rattle.css_model.specs.Selectors.Reading.{selector_of_lexemes, selector_of_terms}
-use Rattle.css_model.specs.Selectors.Terms.{Term, argument_of_term, depth_behind_term, more_of_term, terms, terms_from}
+use Rattle.css_model.specs.Selectors.Reading.{selector_of_lexemes}
+use Rattle.css_model.specs.Selectors.Terms.{argument_of_term, depth_behind_term, more_of_term, terms, terms_from}
 use Rattle.css_model.specs.Selectors.Tokens.{SelectorToken, selector_token}
 use Rattle.css_model.specs.Text.Kept.{solid}
 use Rattle.selector_laws.specs.Limits.{KeepsLimits}

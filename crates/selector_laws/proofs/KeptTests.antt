@@ -1,5 +1,5 @@
 -- Each test that is read keeps to the limits, and is not one stepped position too many.
-use Rattle.std.proofs.Common.{◌≡◌, ◌≤◌, ◌<◌, ◌&&◌, ◌||◌, ◌+◌, ℕ, Bool, true, false, cond, not, Option, Some, None, Result, Ok, Err, List, [], ◌∷◌, length, drop, refl, sym, ap, ◌∙◌, subst, inl, inr, ◌⊎◌, arith, lit≤, codes, pos}
+use Rattle.std.proofs.Common.{◌≡◌, ◌<◌, ◌&&◌, ◌||◌, ◌+◌, ℕ, Bool, true, false, not, Option, Some, None, Result, Ok, Err, List, [], ◌∷◌, length, drop, refl, ap, subst, inl, inr, ◌⊎◌, arith, lit≤, codes}
 use Rattle.std.specs.Prelude.{nat_le}
 use Rattle.std.specs.List.{AllByRecursion}
 use Rattle.std.proofs.lemmas.Bool.Decides.{nat_tests}
@@ -12,7 +12,7 @@ use Rattle.css_model.specs.declared.selector.Simple.{Simple}
 use Rattle.css_model.specs.declared.selector.Test.{Test}
 use Rattle.css_model.specs.declared.selector.Test.TheVariants.{Nth, NthLast}
 use Rattle.css_model.specs.Lists.{same_text}
-use Rattle.css_model.specs.Positions.Range.{IsInRange, is_in_range, is_stepped}
+use Rattle.css_model.specs.Positions.Range.{IsInRange, is_stepped}
 use Rattle.css_model.specs.Selectors.Attributes.{attribute_at, attribute_test, closed_at, match_at, operator_at, operator_or_none, value_at}
 use Rattle.css_model.specs.Selectors.Classes.{class_at, is_name}
 use Rattle.css_model.specs.Selectors.Compounds.{is_stepped_test}

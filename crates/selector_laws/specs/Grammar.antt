@@ -1,6 +1,6 @@
 -- The grammar of selectors (Selectors 3, section 10.1), as what terms derive: without an order in which they are
 -- read, and without a limit.
-use Rattle.std.specs.Prelude.{ℕ, ◌≡◌, ◌||◌, true, false, reverse, List, [], ◌∷◌, ◌++◌, Option, Some, None, Ok, codes}
+use Rattle.std.specs.Prelude.{◌≡◌, ◌||◌, true, false, reverse, List, [], ◌∷◌, ◌++◌, Option, Some, None, Ok, codes}
 use Rattle.css_model.specs.declared.position.AnB.{AnB}
 use Rattle.css_model.specs.declared.selector.Combinator.{Combinator}
 use Rattle.css_model.specs.declared.selector.Combinator.TheVariants.{Inside}

@@ -1,7 +1,6 @@
 -- What each selector that is read keeps to.
-use Rattle.std.specs.Prelude.{ℕ, ◌≡◌, ◌≤◌, ◌+◌, ◌⊎◌, List, [], ◌∷◌, length, Ok, codes}
+use Rattle.std.specs.Prelude.{ℕ, ◌≡◌, ◌≤◌, ◌+◌, ◌⊎◌, List, length, Ok, codes}
 use Rattle.std.specs.List.{AllByRecursion, count_by, sum_by}
-use Rattle.css_model.specs.declared.selector.Op.{Op}
 use Rattle.css_model.specs.declared.selector.Op.TheVariants.{Present, Equal}
 use Rattle.css_model.specs.declared.selector.Simple.{Simple}
 use Rattle.css_model.specs.declared.selector.Test.{Test}
