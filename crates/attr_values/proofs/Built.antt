@@ -13,7 +13,7 @@ use Rattle.attr_values.specs.Asked.{PassesOne, PassesAsAsked, asked, refused, is
 use Rattle.attr_values.specs.Separators.{IsUnused, IsFreeSpace}
 use Rattle.attr_values.specs.Value.{start_of, starts, longest, once, followed, words_then, built}
 use Rattle.attr_values.proofs.Inside.{alone-part, part_back, word_back, parts_followed, words_stand, last_there, part_behind, end_splits, begin_splits, holds_separator}
-use Rattle.attr_values.proofs.Tests.{words_pass, parts_pass, suffixes_pass, starts_pass, begins_trans, ends_trans, longest_begins, longest_ends, once_All, once_back}
+use Rattle.attr_values.proofs.AskedTests.{words_pass, parts_pass, suffixes_pass, starts_pass, begins_trans, ends_trans, longest_begins, longest_ends, once_All, once_back}
 
 -- one test, asked to hold or not
 rebuild_one : (s j : List ℕ) (op : Op) (v : List ℕ) (b : Bool) (es xs ps ss ws : List (List ℕ)) → MatchBool b (Passes op v s) (Passes op v s → ⊥) →

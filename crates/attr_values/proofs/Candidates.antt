@@ -16,7 +16,7 @@ use Rattle.attr_values.specs.Asked.{PassesOne, PassesAsAsked, passes_one, passes
 use Rattle.attr_values.specs.Separators.{IsUnused, IsFreeSpace}
 use Rattle.attr_values.specs.Value.{once, built, spaced, first_passing, without_equal, first_or, candidate}
 use Rattle.attr_values.proofs.WordPieces.{Alone, ends_white, ends-append, alone-stands, stands-alone, alone_splits, alone_nil, alone_whole}
-use Rattle.attr_values.proofs.Tests.{words_pass, once_All, once_back}
+use Rattle.attr_values.proofs.AskedTests.{words_pass, once_All, once_back}
 use Rattle.attr_values.proofs.Built.{built_passes}
 
 -- the test that computes

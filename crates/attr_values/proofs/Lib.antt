@@ -1,3 +1,4 @@
+mod AskedTests
 mod Built
 mod Candidates
 mod Decisions
@@ -9,6 +10,5 @@ mod Marks
 mod Pieces
 mod Separated
 mod Steps
-mod Tests
 mod Unused
 mod WordPieces
