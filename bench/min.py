@@ -17,8 +17,9 @@ from timing import one_run
 
 ROUNDS = 15
 MIB = 1 << 20
-# The most items that a sheet may have.
+# The most items, and the most pairs of a selector and a declaration, that a sheet may have.
 ITEMS = 16_384
+PAIRS = 262_144
 
 
 def measure(program, name, path):
@@ -59,6 +60,7 @@ MADE = {
     "rules that differ": filled(lambda n: f".c{n} {{\n  color: red;\n  margin: 0 auto;\n  top: {n}px;\n}}\n", ITEMS),
     "rules that all join": filled(lambda n: f"a{{{DECLARATIONS}}}", ITEMS),
     "two orders": two_orders(),
+    "many selectors": ",".join("a" * PAIRS) + "{b:c}",
     "one rule": "a{" + filled(lambda n: "b:c;", MIB // 4 - 1) + "}",
     "one kept at-rule": "@media print{" + filled(lambda n: "a:hover { b : c }\n", MIB // 18 - 1) + "}",
     "white space": " " * MIB,
