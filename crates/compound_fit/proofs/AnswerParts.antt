@@ -1,7 +1,8 @@
 -- The attributes that are given, from the answers for each name.
-use Rattle.std.proofs.Common.{◌≡◌, ◌≢◌, ◌⊎◌, ℕ, Bool, true, false, ◌||◌, cond, List, [], ◌∷◌, ◌++◌, map, Option, Some, None, refl, sym, ap, subst, inl, inr, ◌∙◌}
+use Rattle.std.proofs.Common.{◌≡◌, ◌≢◌, ◌⊎◌, ℕ, Bool, true, false, ◌||◌, cond, suc, ◌+◌, ◌<◌, length, take, drop, drop-cons, get_or, append_assoc, arith, List, [], ◌∷◌, ◌++◌, map, Option, Some, None, refl, sym, ap, subst, inl, inr, ◌∙◌}
 use Rattle.std.proofs.lemmas.Bool.{false≢true, true≢false, or_parts, or_cases}
-use Rattle.std.proofs.lemmas.List.Elements.{All-head, All-tail, All-nil, All-cons}
+use Rattle.std.proofs.lemmas.List.{map-append}
+use Rattle.std.proofs.lemmas.List.Elements.{All-append, All-head, All-tail, All-nil, All-cons}
 use Rattle.std.specs.Prelude.{codes}
 use Rattle.std.specs.Bool.{MatchBool}
 use Rattle.std.specs.Cmp.Lexicographic.{slice_cmp, bytes_decides, texts_ties}
@@ -10,13 +11,15 @@ use Rattle.std.specs.Ordering.{is_eq, nat_cmp}
 use Rattle.std.specs.List.{All, AllByRecursion, list_any}
 use Rattle.std.specs.List.Sorted.{IsStrictlySortedBy}
 use Rattle.css_model.specs.declared.selector.AttrTest.{AttrTest}
+use Rattle.css_model.specs.Documents.Document.{IsText}
 use Rattle.css_model.specs.Lists.{same_text}
 use Rattle.attr_values.specs.declared.solve.Fits.{Fits}
 use Rattle.attr_values.specs.declared.solve.Fits.TheVariants.{Absent, Value, Nothing}
 use Rattle.attr_values.specs.Asked.{PassesAsAsked, is_asked}
 use Rattle.attr_values.specs.Separators.{spaces_taken}
 use Rattle.attr_values.specs.Solved.{Solves}
-use Rattle.compound_fit.specs.Answers.{AreAnswers}
+use Rattle.list_facts.proofs.SliceRange.{take_parts}
+use Rattle.compound_fit.specs.Answers.{AreAnswers, AreTexts}
 use Rattle.compound_fit.specs.Attributes.{AttributeFits, given, given_one, has_nothing, is_nothing, tests_of, value_of}
 use Rattle.compound_fit.specs.Fitting.{AreSolved, SolvesName, SpacesAreLeft, as_answer}
 use Rattle.compound_fit.specs.FreeNames.{is_among}
@@ -193,3 +196,45 @@ none_given T (a ∷ answers) solved nothing value fits =
     cases Nothing here e later = nothing_fits a.0 (value a.0) (T a.0) here (fits a.0)
     cases Absent here e later = later e value fits
     cases (Value v) here e later = later e value fits
+
+-- one answer more
+given_then : (name : List ℕ) (f : Fits) (rest : List (List ℕ × List ℕ)) → given_one name f rest ≡ given_one name f [] ++ rest
+given_then name Absent rest = refl
+given_then name Nothing rest = refl
+given_then name (Value v) rest = refl
+
+pub next_answer : (answers : List (List ℕ × Fits)) (i : ℕ) (a : List ℕ × Fits) → i < length answers → a ≡ get_or answers i a → drop i answers ≡ a ∷ drop (i + 1) answers
+next_answer answers i a lt is =
+    drop-cons answers i a lt ∙ ap (λ (x : List ℕ × Fits). x ∷ drop (suc i) answers) (sym is) ∙ ap (λ (n : ℕ). a ∷ drop n answers) (let e : suc i ≡ i + 1 = omega arith in e)
+
+pub pairs_more : (answers rest : List (List ℕ × Fits)) (a : List ℕ × Fits) (i : ℕ) (old new : List (List ℕ × List ℕ)) → drop i answers ≡ a ∷ rest → new ≡ old ++ given_one a.0 a.1 [] →
+    old ++ given (drop i answers) ≡ given answers → new ++ given rest ≡ given answers
+pairs_more answers rest a i old new next e h =
+    ap (λ (t : List (List ℕ × List ℕ)). t ++ given rest) e ∙ append_assoc old (given_one a.0 a.1 []) (given rest) ∙ ap (λ (t : List (List ℕ × List ℕ)). old ++ t) (sym (given_then a.0 a.1 (given rest))) ∙
+    ap (λ (t : List (List ℕ × Fits)). old ++ given t) (sym next) ∙ h
+
+pub nothing_more : (answers rest : List (List ℕ × Fits)) (a : List ℕ × Fits) (i : ℕ) → drop i answers ≡ a ∷ rest → false ≡ is_nothing a.1 → has_nothing (drop i answers) ≡ has_nothing answers → has_nothing rest ≡ has_nothing answers
+nothing_more answers rest a i next some h = ap (λ (b : Bool). b || has_nothing rest) some ∙ ap has_nothing (sym next) ∙ h
+
+pub texts_more : (old more new : List (List ℕ × List ℕ)) → new ≡ old ++ more → AreTexts old → AreTexts more → AreTexts new
+texts_more old more new e h k = subst AreTexts (sym e) (All-append (λ a. IsText a.0 × IsText a.1) old more h k)
+
+-- one name more
+pub names_more : (all : List (List ℕ)) (i : ℕ) (n : List ℕ) (f : Fits) (old new : List (List ℕ × Fits)) → i < length all → n ≡ get_or all i n → new ≡ old ++ (n, f) ∷ [] →
+    map (λ a. a.0) old ≡ take i all → map (λ a. a.0) new ≡ take (i + 1) all
+names_more all i n f old new lt is e h =
+    ap (map (λ (a : List ℕ × Fits). a.0)) e ∙ map-append (λ (a : List ℕ × Fits). a.0) old ((n, f) ∷ []) ∙ ap (λ (t : List (List ℕ)). t ++ n ∷ []) h ∙
+    sym (take_parts i 1 all ∙ ap (λ (t : List (List ℕ)). take i all ++ take 1 t) (drop-cons all i n lt ∙ ap (λ (m : List ℕ). m ∷ drop (suc i) all) (sym is)))
+
+pub solved_more : (tests : List (AttrTest × Bool)) (n : List ℕ) (f : Fits) (old new : List (List ℕ × Fits)) → new ≡ old ++ (n, f) ∷ [] →
+    All (λ a. SolvesName a.0 a.1 (tests_of a.0 tests)) old → SolvesName n f (tests_of n tests) → All (λ a. SolvesName a.0 a.1 (tests_of a.0 tests)) new
+solved_more tests n f old new e h here =
+    subst (All (λ a. SolvesName a.0 a.1 (tests_of a.0 tests))) (sym e)
+    (All-append (λ a. SolvesName a.0 a.1 (tests_of a.0 tests)) old ((n, f) ∷ []) h
+    (All-cons (λ a. SolvesName a.0 a.1 (tests_of a.0 tests)) (n, f) [] here (All-nil (λ a. SolvesName a.0 a.1 (tests_of a.0 tests)))))
+
+pub solved_here : (n id : List ℕ) (f : Fits) (b : Bool) (group tests : List (AttrTest × Bool)) → id ≡ codes "id" → b ≡ same_text n id → group ≡ tests →
+    MatchBool b (SolvesId f group) ((spaces_taken group ≡ false) × Solves f group) → SolvesName n f tests
+solved_here n id f b group tests named is same h =
+    subst (λ (b : Bool). MatchBool b (SolvesId f tests) ((spaces_taken tests ≡ false) × Solves f tests)) (is ∙ ap (same_text n) named)
+    (subst (λ (ts : List (AttrTest × Bool)). MatchBool b (SolvesId f ts) ((spaces_taken ts ≡ false) × Solves f ts)) same h)

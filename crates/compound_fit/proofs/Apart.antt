@@ -53,7 +53,7 @@ all_hold e (t ∷ tests) h = All-cons (Holds e) t tests first (all_hold e tests 
     first : Holds e t
     first =
         (fits_first (attribute_value e t.0.name) t.0 t.1 (tests_of t.0.name tests)
-          (subst (λ (b : Bool). AttributeFits (attribute_value e t.0.name) (cond b (t ∷ tests_of t.0.name tests) (tests_of t.0.name tests))) ((bytes_decides t.0.name t.0.name).1 refl) (h t.0.name))).0
+        (subst (λ (b : Bool). AttributeFits (attribute_value e t.0.name) (cond b (t ∷ tests_of t.0.name tests) (tests_of t.0.name tests))) ((bytes_decides t.0.name t.0.name).1 refl) (h t.0.name))).0
 
     rest : (name : List ℕ) (b : Bool) → AttributeFits (attribute_value e name) (cond b (t ∷ tests_of name tests) (tests_of name tests)) → AttributeFits (attribute_value e name) (tests_of name tests)
     rest name true fits = (fits_first (attribute_value e name) t.0 t.1 (tests_of name tests) fits).1

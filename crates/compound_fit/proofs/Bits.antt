@@ -36,7 +36,7 @@ bit_is (b ∷ bs) (suc k) = ap (λ (n : ℕ). n == 1) (bit_at-suc (2 * number_of
 
 pub flags_are : (simples : List Simple) (number : ℕ) →
     number ≡ number_of (is_flag_asked Link simples ∷ is_flag_asked Visited simples ∷ is_flag_asked Hover simples ∷ is_flag_asked Active simples ∷ is_flag_asked Focus simples ∷ is_flag_asked Target simples ∷
-      is_flag_asked Enabled simples ∷ is_flag_asked Disabled simples ∷ is_flag_asked Checked simples ∷ []) →
+    is_flag_asked Enabled simples ∷ is_flag_asked Disabled simples ∷ is_flag_asked Checked simples ∷ []) →
     (flag : Flag) → flags_of number flag ≡ is_flag_asked flag simples
 flags_are simples number e flag = at flag
   where

@@ -113,11 +113,11 @@ all_pass whole apart [] asked refused = All-nil (PassesFlag (asked_flags whole))
 all_pass whole apart (s ∷ rest) asked refused =
     All-cons (PassesFlag (asked_flags whole)) s rest
     (one_passes whole apart s.test s.negated
-      (λ flag e. asked flag (or_left (not s.negated && is_state flag s.test) (is_flag_asked flag rest) e))
-      (λ flag e. refused flag (or_left (s.negated && is_state flag s.test) (is_flag_refused flag rest) e)))
+    (λ flag e. asked flag (or_left (not s.negated && is_state flag s.test) (is_flag_asked flag rest) e))
+    (λ flag e. refused flag (or_left (s.negated && is_state flag s.test) (is_flag_refused flag rest) e)))
     (all_pass whole apart rest
-      (λ flag e. asked flag (or_right (not s.negated && is_state flag s.test) (is_flag_asked flag rest) e))
-      (λ flag e. refused flag (or_right (s.negated && is_state flag s.test) (is_flag_refused flag rest) e)))
+    (λ flag e. asked flag (or_right (not s.negated && is_state flag s.test) (is_flag_asked flag rest) e))
+    (λ flag e. refused flag (or_right (s.negated && is_state flag s.test) (is_flag_refused flag rest) e)))
 
 two : (a b : Bool) → (a && b) ≡ false → a ≡ true → b ≡ true → ⊥
 two a b e p q = true≢false (sym (and_from a b p q) ∙ e)
@@ -154,9 +154,10 @@ decided_false simples e =
     let p6 = or_parts (clashes_at Enabled simples) _ p5.1 in
     let p7 = or_parts (clashes_at Disabled simples) _ p6.1 in
     let p8 = or_parts (clashes_at Checked simples) _ p7.1 in
-    let last = or_parts (is_flag_asked Link simples && is_flag_asked Visited simples) (is_flag_asked Enabled simples && is_flag_asked Disabled simples) p8.1 in
-    ((two (is_flag_asked Link simples) (is_flag_asked Visited simples) last.0, two (is_flag_asked Enabled simples) (is_flag_asked Disabled simples) last.1),
-      all_pass simples (apart p0.0 p1.0 p2.0 p3.0 p4.0 p5.0 p6.0 p7.0 p8.0) simples (λ flag e. e) (λ flag e. e))
+    let last = or_parts (is_flag_asked Link simples && is_flag_asked Visited simples) (is_flag_asked Enabled simples && is_flag_asked Disabled simples) p8.1 in (
+      (two (is_flag_asked Link simples) (is_flag_asked Visited simples) last.0, two (is_flag_asked Enabled simples) (is_flag_asked Disabled simples) last.1),
+      all_pass simples (apart p0.0 p1.0 p2.0 p3.0 p4.0 p5.0 p6.0 p7.0 p8.0) simples (λ flag e. e) (λ flag e. e),
+    )
   where
     apart : clashes_at Link simples ≡ false → clashes_at Visited simples ≡ false → clashes_at Hover simples ≡ false → clashes_at Active simples ≡ false → clashes_at Focus simples ≡ false →
         clashes_at Target simples ≡ false → clashes_at Enabled simples ≡ false → clashes_at Disabled simples ≡ false → clashes_at Checked simples ≡ false →

@@ -3,7 +3,8 @@ use Rattle.std.proofs.Common.{◌≡◌, ◌⊎◌, ℕ, zero, suc, ◌<◌, ◌
 use Rattle.std.specs.List.{filter, list_any}
 use Rattle.std.specs.Cmp.Lexicographic.{bytes_decides}
 use Rattle.std.proofs.lemmas.Bool.{false≢true, true≢false}
-use Rattle.std.specs.Prelude.{◌==◌, decimal, codes, ◌++◌}
+use Rattle.std.specs.Prelude.{◌==◌, decimal, codes, ◌++◌, nat_le}
+use Rattle.std.proofs.lemmas.Bool.Decides.{leb_tells}
 use Rattle.std.proofs.lemmas.Fmt.{decimal_injective, decimal_nonempty}
 use Rattle.std.proofs.lemmas.Bool.{eqb-true, eq-eqb}
 use Rattle.css_model.specs.Lists.{same_text}
@@ -103,3 +104,18 @@ free_names_differ j k small_j small_k e = cases (j == 0) refl (k == 0) refl e
 pub some_name_is_free : SomeNameIsFree
 some_name_is_free refused small =
     find_free free_name (length refused) (λ j k j_low k_low e. free_names_differ j k (omega arith) (omega arith) e) (length refused) (omega arith) refused (omega arith)
+
+-- what the search for a free name would have to find at its end
+pub none_free : (refused : List (List ℕ)) (n : ℕ) → length refused < 2 ^ 64 → length refused ≤ n → ((k : ℕ) → k < n → is_among refused (free_name k) ≡ true) → is_among refused (free_name n) ≡ true → ⊥
+none_free refused n small last before here = at (some_name_is_free refused small)
+  where
+    at : (k : ℕ) × (k ≤ length refused) × (is_among refused (free_name k) ≡ false) → ⊥
+    at free = cases (leb_tells n free.0)
+      where
+        cases : ((nat_le n free.0 ≡ true) × (n ≤ free.0)) ⊎ ((nat_le n free.0 ≡ false) × (free.0 < n)) → ⊥
+        cases (inr below) = true≢false (sym (before free.0 below.1) ∙ free.2)
+        cases (inl above) = true≢false (sym here ∙ ap (λ (k : ℕ). is_among refused (free_name k)) (let low = free.1 in let high = above.1 in let e : n ≡ free.0 = omega arith in e) ∙ free.2)
+
+pub is_taken : (b : Bool) → false ≡ not b → b ≡ true
+is_taken true e = refl
+is_taken false e = absurd (false≢true e)

@@ -52,9 +52,12 @@ pub enough_left : EnoughLeft
 enough_left tests few =
     let names = map (λ c. c ∷ []) (wide_of tests) in
     let free = find_free (λ k. (0x10000 + k) ∷ []) (length names) (λ j k low high. same j k) (length names) (omega arith) names (omega arith) in
-    let small : free.0 ≤ 0xFFFFF = within free.0 free.1 in
-    (0x10000 + free.0, is_scalar (0x10000 + free.0) (omega arith) (omega (arith, small)), omega arith,
-      each_value (0x10000 + free.0) tests (all_wide (0x10000 + free.0) (omega arith) (flat_map (λ t. t.0.value) tests) (free_codes (0x10000 + free.0) (wide_of tests) free.2)))
+    let small : free.0 ≤ 0xFFFFF = within free.0 free.1 in (
+      0x10000 + free.0,
+      is_scalar (0x10000 + free.0) (omega arith) (omega (arith, small)),
+      omega arith,
+      each_value (0x10000 + free.0) tests (all_wide (0x10000 + free.0) (omega arith) (flat_map (λ t. t.0.value) tests) (free_codes (0x10000 + free.0) (wide_of tests) free.2)),
+    )
   where
     same : (j k : ℕ) → (0x10000 + j) ∷ [] ≡ (0x10000 + k) ∷ [] → j ≡ k
     same j k e = let h : 0x10000 + j ≡ 0x10000 + k = cc in omega (arith, h)

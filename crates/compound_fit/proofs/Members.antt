@@ -1,7 +1,8 @@
 -- Texts among others.
-use Rattle.std.proofs.Common.{◌≡◌, ◌≢◌, ◌⊎◌, ℕ, Bool, true, false, ◌||◌, List, [], ◌∷◌, refl, sym, ap, inl, inr, ◌∙◌}
+use Rattle.std.proofs.Common.{◌≡◌, ◌≢◌, ◌⊎◌, ℕ, Bool, true, false, ◌||◌, List, [], ◌∷◌, Option, Some, None, subst, refl, sym, ap, inl, inr, ◌∙◌}
 use Rattle.std.proofs.lemmas.Bool.{false≢true, true≢false, or_parts, or_from}
 use Rattle.std.proofs.lemmas.List.Elements.{All-head, All-tail, All-nil, All-cons}
+use Rattle.std.specs.Prelude.{MatchOption}
 use Rattle.std.specs.Cmp.Lexicographic.{bytes_decides}
 use Rattle.std.specs.List.{All, Contains, list_any}
 use Rattle.css_model.specs.Lists.{same_text}
@@ -34,3 +35,10 @@ contained_differs (x ∷ texts) v r none has =
     cases : (same_text x v ≡ false) × (is_among texts v ≡ false) → (Contains texts r → r ≢ v) → (x ≡ r) ⊎ Contains texts r → r ≢ v
     cases both later (inl e) = λ same. true≢false (sym ((bytes_decides x v).1 (e ∙ same)) ∙ both.0)
     cases both later (inr c) = later c
+
+-- what is known of a value that may be missing
+pub match_none : {A : Type 0} (P : Type 0) (Q : A → Type 0) (o : Option A) → o ≡ None → MatchOption o P Q → P
+match_none P Q o e h = subst (λ p. MatchOption p P Q) e h
+
+pub match_some : {A : Type 0} (P : Type 0) (Q : A → Type 0) (o : Option A) (a : A) → o ≡ Some a → MatchOption o P Q → Q a
+match_some P Q o a e h = subst (λ p. MatchOption p P Q) e h

@@ -32,8 +32,8 @@ pub names_are : (tests : List (AttrTest × Bool)) (all sorted names : List (List
 names_are tests all sorted names is moved ascend kept = record {
   ascending = subst (IsStrictlySortedBy (slice_cmp nat_cmp)) (sym kept) (IsStrictlySortedBy-dedup nat_list_cmp_total texts_ties sorted ascend);
   all =
-    subst (λ (xs : List (List ℕ)). All (λ t. Contains xs t.0.name) tests) (sym kept)
-    (All-weaker (λ t. Contains (names_of tests) t.0.name) (λ t. Contains (dedup (pointwise nat_eq) sorted) t.0.name)
+      subst (λ (xs : List (List ℕ)). All (λ t. Contains xs t.0.name) tests) (sym kept)
+      (All-weaker (λ t. Contains (names_of tests) t.0.name) (λ t. Contains (dedup (pointwise nat_eq) sorted) t.0.name)
       (λ t has. Contains-dedup nat_list_eq_equiv (λ x y e. (bytes_decides x y).0 e) sorted t.0.name
-        (Contains-permutation all sorted t.0.name moved (subst (λ (xs : List (List ℕ)). Contains xs t.0.name) (sym is) has))) tests (all_named tests));
+      (Contains-permutation all sorted t.0.name moved (subst (λ (xs : List (List ℕ)). Contains xs t.0.name) (sym is) has))) tests (all_named tests));
 }

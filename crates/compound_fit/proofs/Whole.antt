@@ -29,9 +29,9 @@ not_less : (n m : List ℕ) → slice_cmp nat_cmp n m ≡ Less → n ≢ m
 not_less n m less same =
     true≢false (sym (same_itself n) ∙ texts_ties n n ∙ ap (λ (t : List ℕ). is_eq (slice_cmp nat_cmp n t)) same ∙ ap is_eq less)
 
-differs : (n : List ℕ) (pairs : List (List ℕ × List ℕ)) → AllByRecursion (λ m. slice_cmp nat_cmp n m ≡ Less) (map (λ p. p.0) pairs) → All (λ a. n ≢ a.name) (map (λ p. record { name = p.0; value = p.1 }) pairs)
-differs n [] less = All-nil (λ a. n ≢ a.name)
-differs n (p ∷ pairs) less = All-cons (λ a. n ≢ a.name) (record { name = p.0; value = p.1 }) (map (λ p. record { name = p.0; value = p.1 }) pairs) (not_less n p.0 less.0) (differs n pairs less.1)
+differs : (n : List ℕ) (pairs : List (List ℕ × List ℕ)) → AllByRecursion (λ m. slice_cmp nat_cmp n m ≡ Less) (map (λ p. p.0) pairs) → All (λ (a : Attribute). n ≢ a.name) (map (λ p. record { name = p.0; value = p.1 }) pairs)
+differs n [] less = All-nil (λ (a : Attribute). n ≢ a.name)
+differs n (p ∷ pairs) less = All-cons (λ (a : Attribute). n ≢ a.name) (record { name = p.0; value = p.1 }) (map (λ p. record { name = p.0; value = p.1 }) pairs) (not_less n p.0 less.0) (differs n pairs less.1)
 
 names_differ : (pairs : List (List ℕ × List ℕ)) → IsStrictlySortedBy (slice_cmp nat_cmp) (map (λ p. p.0) pairs) → AllPairs (λ (a b : Attribute). a.name ≢ b.name) (map (λ p. record { name = p.0; value = p.1 }) pairs)
 unfolding IsStrictlySortedBy
@@ -43,11 +43,11 @@ pub features_are : (f : FeatureParts) (simples : List Simple) → SolvesKind (So
     FlagsDecided false simples → ((flag : Flag) → flags_of f.flags flag ≡ is_flag_asked flag simples) → f.flags < 2 ^ 9 → f.text ≡ false → AreFeatures f simples
 features_are f simples kind kind_text attributes texts decided flags few text = record {
   suits =
-    (parts_apart (element_of f) simples).1 (
-      kind.0,
-      subst (λ (fs : Flag → Bool). All (PassesFlag fs) simples) (sym same) decided.1,
-      λ name. answer_fits name (value_of f.attrs name) (tests_of name (attribute_tests simples)) (attributes.each name),
-    );
+      (parts_apart (element_of f) simples).1 (
+        kind.0,
+        subst (λ (fs : Flag → Bool). All (PassesFlag fs) simples) (sym same) decided.1,
+        λ name. answer_fits name (value_of f.attrs name) (tests_of name (attribute_tests simples)) (attributes.each name),
+      );
   legal = record {
     kind = kind_text;
     attributes = All-map (λ (a : Attribute). IsText a.name × IsText a.value) (λ p. record { name = p.0; value = p.1 }) f.attrs texts;

@@ -27,7 +27,7 @@ clashes_at flag simples = is_flag_asked flag simples && is_flag_refused flag sim
 abbrev pub flags_clash : List Simple → Bool
 flags_clash simples =
     clashes_at Link simples || (clashes_at Visited simples || (clashes_at Hover simples || (clashes_at Active simples || (clashes_at Focus simples || (clashes_at Target simples || (clashes_at Enabled simples || (clashes_at Disabled simples || (clashes_at Checked simples ||
-      (is_flag_asked Link simples && is_flag_asked Visited simples || is_flag_asked Enabled simples && is_flag_asked Disabled simples)))))))))
+    (is_flag_asked Link simples && is_flag_asked Visited simples || is_flag_asked Enabled simples && is_flag_asked Disabled simples)))))))))
 
 -- the flags that are asked for
 abbrev pub asked_flags : List Simple → Flag → Bool

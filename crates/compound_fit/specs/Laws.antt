@@ -1,5 +1,5 @@
 -- The laws of fitting.
-use Rattle.std.specs.Prelude.{◌≡◌, ◌↔◌, ℕ, ◌≤◌, ◌<◌, nat_le, Bool, List, length, false}
+use Rattle.std.specs.Prelude.{◌≡◌, ◌↔◌, ℕ, ◌≤◌, ◌<◌, ◌^◌, nat_le, Bool, List, length, false}
 use Rattle.std.specs.List.{All, filter, flat_map}
 use Rattle.css_model.specs.declared.selector.AttrTest.{AttrTest}
 use Rattle.css_model.specs.declared.selector.Simple.{Simple}
@@ -25,4 +25,4 @@ EnoughLeft = (tests : List (AttrTest × Bool)) → length (wide_of tests) ≤ 0x
 
 -- Among more names than are refused one is free.
 abbrev pub SomeNameIsFree : Type 0
-SomeNameIsFree = (refused : List (List ℕ)) → length refused < 0x8000000000000000 → (k : ℕ) × (k ≤ length refused) × (is_among refused (free_name k) ≡ false)
+SomeNameIsFree = (refused : List (List ℕ)) → length refused < 2 ^ 64 → (k : ℕ) × (k ≤ length refused) × (is_among refused (free_name k) ≡ false)

@@ -36,7 +36,8 @@ impl fmt::Display for FitError {
 
     fn fmt<W: fmt::Write>(&self, f: &mut fmt::Formatter<W>) -> fmt::Result {
         f.write_str(match self {
-            FitError::SpacesTaken => "no white space is left to stand beside a word of an attribute",
+            FitError::SpacesTaken =>
+                "no white space is left to stand beside a word of an attribute",
             FitError::NoMemory => "out of memory",
         })
     }

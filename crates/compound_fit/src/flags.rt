@@ -49,14 +49,18 @@ fn clashes_at(simples: &[Simple], flag: Flag) -> bool
 fn is_flag_asked(simples: &[Simple], flag: Flag) -> bool
     ensures { result ≡ is_flag_asked flag simples.now }
 {
-    simples.iter().any(|simple| !simple.negated && is_state(&simple.test, flag))
+    simples
+        .iter()
+        .any(|simple| !simple.negated && is_state(&simple.test, flag))
 }
 
 /// Whether a flag is refused.
 fn is_flag_refused(simples: &[Simple], flag: Flag) -> bool
     ensures { result ≡ is_flag_refused flag simples.now }
 {
-    simples.iter().any(|simple| simple.negated && is_state(&simple.test, flag))
+    simples
+        .iter()
+        .any(|simple| simple.negated && is_state(&simple.test, flag))
 }
 
 /// Whether a test asks for a flag.

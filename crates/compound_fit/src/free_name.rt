@@ -1,7 +1,7 @@
 //! Names that no test refuses: `x`, `x1`, `x2` and so on.
 
-ghost use Rattle.std.specs.Prelude.{◌≡◌, ◌++◌, IfOk, OnOk, decimal};
-ghost use Rattle.compound_fit.specs.FreeNames.{IsFirstFree, free_name};
+ghost use Rattle.std.specs.Prelude.{◌≡◌, ◌++◌, not, IfOk, OnOk, decimal};
+ghost use Rattle.compound_fit.specs.FreeNames.{IsFirstFree, free_name, is_among};
 
 use css_model::Text;
 use itoa::Buffer;
@@ -13,11 +13,18 @@ pub(crate) fn first_free(alloc: Global, refused: &[Text]) -> Result<Text, AllocE
 {
     for number in 0..=refused.len() {
         let name = free_name(alloc, number)?;
-        if !refused.contains(&name) {
+        if is_free(refused, &name) {
             return Ok(name);
         }
     }
     unreachable!()
+}
+
+/// Whether a name is not refused.
+fn is_free(refused: &[Text], name: &Text) -> bool
+    ensures { result ≡ not (is_among refused.now name.now) }
+{
+    !refused.contains(name)
 }
 
 /// The name of a number.
