@@ -1,0 +1,12 @@
+mod AnswerParts
+mod Apart
+mod Bits
+mod ByParts
+mod FlagParts
+mod FreeNames
+mod IdParts
+mod KindParts
+mod Left
+mod Members
+mod NameParts
+mod Whole

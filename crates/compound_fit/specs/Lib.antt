@@ -1,0 +1,10 @@
+pub mod Answers
+pub mod Attributes
+pub mod Fitting
+pub mod Flags
+pub mod FreeNames
+pub mod Ids
+pub mod Kinds
+pub mod Laws
+pub mod Messages
+pub mod Parts

@@ -1,0 +1,156 @@
+//! Features of an element that passes compounds.
+
+ghost use Rattle.std.specs.Prelude.{◌≡◌, ◌<◌, ◌^◌, ◌++◌, ℕ, List, false, IfOk, OnOk, option_copied};
+ghost use Rattle.css_model.specs.declared.selector.Flag.{Flag};
+ghost use Rattle.css_model.specs.Documents.Document.{IsText};
+ghost use Rattle.css_model.specs.Documents.Features.{flags_of};
+ghost use Rattle.attr_values.specs.Separators.{HasUnused};
+ghost use Rattle.compound_fit.specs.Attributes.{attribute_tests, tests_of};
+ghost use Rattle.compound_fit.specs.Fitting.{IsFit, simples_of};
+ghost use Rattle.compound_fit.specs.Flags.{is_flag_asked};
+ghost use Rattle.compound_fit.specs.Ids.{HasPlainIds};
+
+use crate::answers::{answers, attributes};
+use crate::attributes::attribute_tests;
+use crate::flags::{flags, flags_clash};
+use crate::kind::kind;
+use css_model::{Compound, Features, Simple, Text};
+use std::alloc::{AllocError, Global};
+use std::fmt;
+use thiserror::Error;
+
+/// Why there are no features to tell of.
+#[derive(Clone, Copy, Debug, PartialEq, Eq, Error)]
+pub enum FitError {
+    /// A word of an attribute is asked for, and each white space that could stand beside it is refused.
+    SpacesTaken,
+    /// There is not enough memory.
+    NoMemory,
+}
+
+impl fmt::Display for FitError {
+    ghost use Rattle.std.specs.Prelude.{Some};
+    ghost use Rattle.compound_fit.specs.Messages.{fit_error};
+
+    ghost output = { λ error. Some (fit_error error) };
+
+    fn fmt<W: fmt::Write>(&self, f: &mut fmt::Formatter<W>) -> fmt::Result {
+        f.write_str(match self {
+            FitError::SpacesTaken =>
+                "no white space is left to stand beside a word of an attribute",
+            FitError::NoMemory => "out of memory",
+        })
+    }
+}
+
+impl From<AllocError> for FitError {
+    ghost use Rattle.compound_fit.specs.declared.compound.FitError.TheVariants.{NoMemory};
+
+    ghost from_gives = { λ _ e. e ≡ NoMemory };
+
+    fn from(_: AllocError) -> FitError {
+        FitError::NoMemory
+    }
+}
+
+/// The features of an element that passes each simple selector of a compound, and of a second one if
+/// there is one, other than those of its place among its siblings, of being the root and of what stands
+/// in it (Selectors 3, sections 6.1 to 6.6.4). The attribute `id` may be tested for presence and for
+/// equality alone, and for each attribute some code point from `a` on has to stand in the value of none
+/// of its tests.
+///
+/// `None` exactly where no legal element passes. Otherwise the type is the one that is asked for, or the
+/// first of `x`, `x1`, `x2` and so on that is not refused; the flags are those that are asked for; each
+/// attribute has the value that `solve_value` gives for its tests, and stays away where it gives none.
+/// The attribute `id` has the value that is asked for; where any will do it is empty, or where the empty
+/// one is refused the first of those names that is not. The features have no text.
+///
+/// `SpacesTaken` comes before all of this, exactly where `solve_value` gives it for an attribute other
+/// than `id`.
+pub fn fit(alloc: Global, x: &Compound, y: Option<&Compound>) -> Result<Option<Features>, FitError>
+    requires ids { HasPlainIds (x.now ++ simples_of (option_copied y)) }
+    requires unused { (name : List ℕ)
+        → HasUnused (tests_of name (attribute_tests (x.now ++ simples_of (option_copied y)))) }
+    ensures { IsFit result (x.now ++ simples_of (option_copied y.entry)) }
+{
+    match y {
+        Some(y) => fit_both(alloc, x.simples.as_slice(), y.simples.as_slice()),
+        None => fit_both(alloc, x.simples.as_slice(), &[]),
+    }
+}
+
+/// The same for simple selectors.
+pub(crate) fn fit_both(
+    alloc: Global,
+    x: &[Simple],
+    y: &[Simple],
+) -> Result<Option<Features>, FitError>
+    requires ids { HasPlainIds (x.now ++ y.now) }
+    requires unused { (name : List ℕ) → HasUnused (tests_of name (attribute_tests (x.now ++ y.now))) }
+    ensures { IsFit result (x.now ++ y.now) }
+{
+    let simples = joined(alloc, x, y)?;
+    fit_all(alloc, simples.as_slice())
+}
+
+/// The simple selectors of both.
+fn joined(alloc: Global, x: &[Simple], y: &[Simple]) -> Result<Vec<Simple>, AllocError>
+    ensures { IfOk result (λ simples. simples.items ≡ x.now ++ y.now) }
+{
+    let mut simples = Vec::with_capacity(alloc, x.len())?;
+    push_copies(&mut simples, x)?;
+    push_copies(&mut simples, y)?;
+    Ok(simples)
+}
+
+/// Appends copies of simple selectors.
+fn push_copies(simples: &mut Vec<Simple>, more: &[Simple]) -> Result<(), AllocError>
+    ensures { OnOk result (simples.new.items ≡ simples.old.items ++ more.now) }
+{
+    for simple in more {
+        let copy = simple.copy()?;
+        simples.push(copy)?;
+    }
+    Ok(())
+}
+
+/// The same for the simple selectors of both together.
+fn fit_all(alloc: Global, simples: &[Simple]) -> Result<Option<Features>, FitError>
+    requires ids { HasPlainIds simples.now }
+    requires unused { (name : List ℕ) → HasUnused (tests_of name (attribute_tests simples.now)) }
+    ensures { IsFit result simples.now }
+{
+    let tests = attribute_tests(alloc, simples)?;
+    let answers = match answers(alloc, tests.as_slice()) {
+        Ok(answers) => answers,
+        Err(e) => return Err(e),
+    };
+    let attrs = match attributes(alloc, answers.as_slice())? {
+        Some(attrs) => attrs,
+        None => return Ok(None),
+    };
+    let kind = match kind(alloc, simples)? {
+        Some(kind) => kind,
+        None => return Ok(None),
+    };
+    if flags_clash(simples) {
+        return Ok(None);
+    }
+    Ok(Some(features(kind, attrs, simples)))
+}
+
+/// The features of this type and these attributes, with the flags that are asked for.
+fn features(kind: Text, attrs: Vec<(Text, Text)>, simples: &[Simple]) -> Features
+    ensures parts { (result.kind ≡ kind) × (result.attrs ≡ attrs.items) × (result.text ≡ false) }
+    ensures flags { (flag : Flag) → flags_of result.flags flag ≡ is_flag_asked flag simples.now }
+    ensures few { result.flags < 2 ^ 9 }
+    ensures text { IsText kind }
+{
+    let _kind = kind.codes();
+    Features {
+        kind,
+        attrs,
+        flags: flags(simples),
+        text: false,
+    }
+}

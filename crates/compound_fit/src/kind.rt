@@ -1,0 +1,113 @@
+//! The type of an element that compounds ask for (Selectors 3, sections 6.1 and 6.2).
+
+ghost use Rattle.std.specs.Prelude.{◌≡◌, ◌++◌, [], Some, None, IfOk, OnOk, MatchOption};
+ghost use Rattle.css_model.specs.Documents.Document.{IsText};
+ghost use Rattle.attr_values.specs.Value.{head_of};
+ghost use Rattle.compound_fit.specs.Kinds.{
+  IsTriedKind,
+  SolvesKind,
+  asked_kinds,
+  kind_holds,
+  named_kind,
+  passes_kind,
+  passes_kinds,
+  refused_kinds,
+};
+
+use crate::free_name::first_free;
+use css_model::{Simple, Test, Text};
+use std::alloc::{AllocError, Global};
+
+/// The type of an element that passes, if there is one: that which is asked for, or a free name.
+pub(crate) fn kind(alloc: Global, simples: &[Simple]) -> Result<Option<Text>, AllocError>
+    ensures { IfOk result (λ kind. SolvesKind kind simples.now) }
+{
+    let kind = tried_kind(alloc, simples)?;
+    if passes_kinds(simples, kind.codes()) {
+        Ok(Some(kind))
+    } else {
+        Ok(None)
+    }
+}
+
+/// The first type that is asked for, or the first free name.
+fn tried_kind(alloc: Global, simples: &[Simple]) -> Result<Text, AllocError>
+    ensures { IfOk result (λ kind. IsTriedKind kind simples.now) }
+{
+    match asked_kind(simples) {
+        Some(kind) => {
+            let kind = kind.copy()?;
+            Ok(kind)
+        }
+        None => {
+            let refused = refused_kinds(alloc, simples)?;
+            let kind = first_free(alloc, refused.as_slice())?;
+            Ok(kind)
+        }
+    }
+}
+
+/// The first type that is asked for.
+fn asked_kind(simples: &[Simple]) -> Option<&Text>
+    ensures { MatchOption result (head_of (asked_kinds simples.now) ≡ None)
+        (λ kind. head_of (asked_kinds simples.now) ≡ Some kind.now) }
+{
+    for simple in simples {
+        if !simple.negated {
+            if let Test::Kind(kind) = &simple.test {
+                return Some(kind);
+            }
+        }
+    }
+    None
+}
+
+/// The types that are refused.
+fn refused_kinds(alloc: Global, simples: &[Simple]) -> Result<Vec<Text>, AllocError>
+    ensures { IfOk result (λ kinds. kinds.items ≡ refused_kinds simples.now) }
+{
+    let mut kinds = Vec::new(alloc);
+    for simple in simples {
+        if simple.negated {
+            push_kind(&mut kinds, &simple.test)?;
+        }
+    }
+    Ok(kinds)
+}
+
+/// Appends the type that a test names, if it names one.
+fn push_kind(kinds: &mut Vec<Text>, test: &Test) -> Result<(), AllocError>
+    ensures { OnOk result (kinds.new.items ≡ kinds.old.items ++ named_kind test.now []) }
+{
+    match test {
+        Test::Kind(kind) => {
+            let copy = kind.copy()?;
+            kinds.push(copy)?;
+            Ok(())
+        }
+        _ => Ok(()),
+    }
+}
+
+/// Whether a type passes each test of the type.
+fn passes_kinds(simples: &[Simple], kind: &[char]) -> bool
+    ensures { result ≡ passes_kinds kind.now simples.now }
+{
+    for simple in simples {
+        if !passes_kind(simple, kind) {
+            return false;
+        }
+    }
+    true
+}
+
+/// Whether a type passes a simple selector, as far as that tests the type.
+fn passes_kind(simple: &Simple, kind: &[char]) -> bool
+    ensures { result ≡ passes_kind kind.now simple.now }
+{
+    match &simple.test {
+        Test::Any => !simple.negated,
+        Test::Kind(name) => (kind == name.codes()) != simple.negated,
+        _ => true,
+    }
+}

@@ -1,0 +1,14 @@
+//! The features of an element that passes one or two compounds, apart from its place and what stands in it.
+#![tactic(auto)]
+
+mod answers;
+mod attributes;
+mod compound;
+mod flags;
+mod free_name;
+mod id;
+mod kind;
+mod laws;
+
+pub use compound::{FitError, fit};
+pub use laws::{enough_code_points_are_left, parts_are_apart};
