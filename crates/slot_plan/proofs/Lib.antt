@@ -1,0 +1,2 @@
+mod GatheredParts
+mod SteppedParts
