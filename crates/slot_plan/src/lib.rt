@@ -9,3 +9,6 @@ mod stepped;
 
 pub use plan::{PairPlan, PlanError};
 pub use shape::{Shape, SlotStep};
+
+#[cfg(test)]
+mod tests;
