@@ -1,0 +1,5 @@
+pub mod Alike
+pub mod AskedParts
+pub mod FewSlots
+pub mod Pumping
+pub mod SmallShapes

@@ -1,0 +1,7 @@
+mod Elements
+mod Gaps
+mod Lists
+mod Shaping
+mod Slots
+mod Visits
+pub mod ForCallers

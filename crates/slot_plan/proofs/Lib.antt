@@ -1,0 +1,4 @@
+mod AskingSelectors
+mod GatheredParts
+mod ShapeExamples
+mod SteppedParts
