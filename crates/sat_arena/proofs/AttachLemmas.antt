@@ -6,7 +6,7 @@ use Rattle.std.proofs.lemmas.List.{get_or-replicate, length-replicate, get_or-se
 use Rattle.std.proofs.lemmas.List.Elements.{Contains-append_left, Contains-push, Contains-push_cases}
 use Rattle.cnf.specs.declared.lit.Lit.{Lit}
 use Rattle.cnf.specs.Lits.{is_below, are_below}
-use Rattle.sat_arena.specs.Arena.{WatchedClause, indexes, watch_list, first_watch, first_unlike, second_watch, new_clause, with_new, IsArena}
+use Rattle.sat_arena.specs.Arena.{WatchedClause, indexes, watch_list, last_or, last_unlike_or, last_watch, next_watch, new_clause, with_new, IsArena}
 use Rattle.sat_arena.specs.Links.{Linked, link, firsts_after_attach, link_of_new}
 use Rattle.sat_arena.specs.Words.{lits_in, clause_in, list_from, watched_clauses, AreInOrder, IsNumberIn, IsClause, Watches, IsList, IsArenaInside, clause_words}
 use Rattle.sat_arena.proofs.Members.{contains-none, contains-here, contains-there, contains-cases, distinct-none, distinct-more}
@@ -55,38 +55,51 @@ front-clause vars words p d b q =
 
 -- ---- the new clause's words
 
--- the first literal that is different from one: there is none, or it stands among them
-unlike-cases : (one : Lit) (ls : List Lit) → ((first_unlike one ls ≡ one) × ((k : ℕ) (d : Lit) → k < length ls → (get_or ls k d).0 ≡ one.0)) ⊎ ((one.0 ≡ (first_unlike one ls).0 → ⊥) × ((k : ℕ) × (k < length ls) × ((d : Lit) → get_or ls k d ≡ first_unlike one ls)))
-unlike-cases one [] = inl (refl, λ k d b. absurd (omega arith))
-unlike-cases one (l ∷ ls) =
+-- the last literal that is different from one: there is none, or it stands among them
+unlike-cases : (one other : Lit) (ls : List Lit) → ((last_unlike_or one other ls ≡ other) × ((k : ℕ) (d : Lit) → k < length ls → (get_or ls k d).0 ≡ one.0)) ⊎ ((one.0 ≡ (last_unlike_or one other ls).0 → ⊥) × ((k : ℕ) × (k < length ls) × ((d : Lit) → get_or ls k d ≡ last_unlike_or one other ls)))
+unlike-cases one other [] = inl (refl, λ k d b. absurd (omega arith))
+unlike-cases one other (l ∷ ls) =
     elim (cases_eq l.0 one.0) [
       | inl e ↦
-          let is : first_unlike one (l ∷ ls) ≡ first_unlike one ls = cond-true (eqb l.0 one.0) (first_unlike one ls) l (eq-eqb _ _ e) in
-          elim (unlike-cases one ls) [
+          let is : last_unlike_or one other (l ∷ ls) ≡ last_unlike_or one other ls = ap (λ x. last_unlike_or one x ls) (cond-true (eqb l.0 one.0) other l (eq-eqb _ _ e)) in
+          elim (unlike-cases one other ls) [
             | inl h ↦ inl (is ∙ h.0, λ k d b. first_or k d b e h.1)
             | inr h ↦ inr (λ q. h.0 (q ∙ ap (λ (x : Lit). x.0) is), (suc h.1.0, omega (arith, h.1.1), λ d. h.1.2 d ∙ sym is))
           ]
       | inr ne ↦
-          let is : first_unlike one (l ∷ ls) ≡ l = cond-false (eqb l.0 one.0) (first_unlike one ls) l (ne_eqb _ _ ne) in
-          inr (λ q. ne (sym (q ∙ ap (λ (x : Lit). x.0) is)), (0, omega arith, λ d. sym is))
+          let is : last_unlike_or one other (l ∷ ls) ≡ last_unlike_or one l ls = ap (λ x. last_unlike_or one x ls) (cond-false (eqb l.0 one.0) other l (ne_eqb _ _ ne)) in
+          elim (unlike-cases one l ls) [
+            | inl h ↦ inr (λ q. ne (sym (q ∙ ap (λ (x : Lit). x.0) (is ∙ h.0))), (0, omega arith, λ d. sym (is ∙ h.0)))
+            | inr h ↦ inr (λ q. h.0 (q ∙ ap (λ (x : Lit). x.0) is), (suc h.1.0, omega (arith, h.1.1), λ d. h.1.2 d ∙ sym is))
+          ]
     ]
   where
     first_or : (k : ℕ) (d : Lit) → k < length (l ∷ ls) → l.0 ≡ one.0 → ((j : ℕ) (d : Lit) → j < length ls → (get_or ls j d).0 ≡ one.0) → (get_or (l ∷ ls) k d).0 ≡ one.0
     first_or zero d b e h = e
     first_or (suc k) d b e h = h k d (omega arith)
 
+-- the last literal stands among them
+last-at : (other l : Lit) (ls : List Lit) → (k : ℕ) × (k < length (l ∷ ls)) × ((d : Lit) → get_or (l ∷ ls) k d ≡ last_or other (l ∷ ls))
+last-at other l [] = (0, omega arith, λ d. refl)
+last-at other l (m ∷ ms) = let rest = last-at l m ms in let b = rest.1 in (suc rest.0, omega arith, rest.2)
+
+last-there : (ls : List Lit) → 0 < length ls → (k : ℕ) × (k < length ls) × ((d : Lit) → get_or ls k d ≡ last_watch ls)
+last-there [] b = absurd (omega arith)
+last-there (l ∷ ls) b = last-at (record { 0 = 0 }) l ls
+
 below-at : (vars : ℕ) (ls : List Lit) (k : ℕ) (d : Lit) → IsTrue (are_below vars ls) → k < length ls → IsTrue (is_below vars (get_or ls k d))
 below-at vars [] k d h b = absurd (omega arith)
 below-at vars (l ∷ ls) zero d h b = (and_parts (is_below vars l) (are_below vars ls) h).0
 below-at vars (l ∷ ls) (suc k) d h b = below-at vars ls k d (and_parts (is_below vars l) (are_below vars ls) h).1 (omega arith)
 
-first-at : (ls : List Lit) (d : Lit) → 0 < length ls → get_or ls 0 d ≡ first_watch ls
-first-at [] d b = absurd (omega arith)
-first-at (l ∷ ls) d b = refl
-
-first-small : (vars : ℕ) (ls : List Lit) → vars ≤ 2 ^ 30 → IsTrue (are_below vars ls) → (first_watch ls).0 < 2 ^ 32
-first-small vars [] s h = omega arith
-first-small vars (l ∷ ls) s h = let w = below-number vars l (and_parts (is_below vars l) (are_below vars ls) h).0 in omega arith
+last-small : (vars : ℕ) (ls : List Lit) → vars ≤ 2 ^ 30 → IsTrue (are_below vars ls) → (last_watch ls).0 < 2 ^ 32
+last-small vars [] s h = omega arith
+last-small vars (l ∷ ls) s h =
+    let at = last-at (record { 0 = 0 }) l ls in
+    let d : Lit = record { 0 = 0 } in
+    let w = below-number vars (get_or (l ∷ ls) at.0 d) (below-at vars (l ∷ ls) at.0 d h at.1) in
+    let e = ap (λ (x : Lit). x.0) (at.2 d) in
+    omega (arith, w, e, s)
 
 get_or-after_five : (a b c d e : ℕ) (xs : List ℕ) (k : ℕ) → get_or (a ∷ b ∷ c ∷ d ∷ e ∷ xs) (5 + k) 0 ≡ get_or xs k 0
 get_or-after_five a b c d e xs k = get_or-append-add (a ∷ b ∷ c ∷ d ∷ e ∷ []) xs k 0
@@ -124,15 +137,15 @@ pub record IsNew (vars : ℕ) (words p : List ℕ) (one other : ℕ) : Type 0 wh
   pub one_is : get_or (words ++ p) (length words) 0 ≡ one
   pub other_is : get_or (words ++ p) (length words + 2) 0 ≡ other
 
-is-new : (vars : ℕ) (words p : List ℕ) (ls : List Lit) (a b : ℕ) → vars ≤ 2 ^ 30 → IsTrue (are_below vars ls) → Holds words p ls (first_watch ls).0 a (second_watch ls).0 b → IsNew vars words p (first_watch ls).0 (second_watch ls).0
+is-new : (vars : ℕ) (words p : List ℕ) (ls : List Lit) (a b : ℕ) → vars ≤ 2 ^ 30 → IsTrue (are_below vars ls) → Holds words p ls (last_watch ls).0 a (next_watch ls).0 b → IsNew vars words p (last_watch ls).0 (next_watch ls).0
 is-new vars words p ls a b s h q =
     let n = length words in
-    let one = first_watch ls in
-    let other = second_watch ls in
+    let one = last_watch ls in
+    let other = next_watch ls in
     let d0 : Lit = record { 0 = 0 } in
     let size = q.size_at in
     let small : (k : ℕ) → k < length ls → (get_or ls k d0).0 < vars + vars = λ k l. below-number vars (get_or ls k d0) (below-at vars ls k d0 h l) in
-    let one_small = first-small vars ls s h in
+    let one_small = last-small vars ls s h in
     let number : (k : ℕ) (x y : ℕ) → k < length ls → (get_or ls k d0).0 ≡ x → y ≡ x → IsNumberIn (words ++ p) n y = λ k x y l e f. (k, omega (arith, size, l), q.lits_at k d0 l ∙ (e ∙ sym f)) in
     record {
       inside = let z = q.whole in omega (arith, z, size);
@@ -141,15 +154,15 @@ is-new vars words p ls a b s h q =
       clause = record {
         lits = λ k l. let low : k < length ls = omega (arith, size, l) in let e = q.lits_at k d0 low in let f = small k low in omega (arith, e, f);
         one = let e = q.one_at in omega (arith, e, one_small);
-        other = elim (unlike-cases one ls) [
+        other = elim (unlike-cases one one ls) [
           | inl c ↦ let e = q.other_at in let f = ap (λ (x : Lit). x.0) c.0 in omega (arith, e, f, one_small)
           | inr c ↦ let e = q.other_at in let f = ap (λ (x : Lit). x.0) (c.1.2 d0) in let g = small c.1.0 c.1.1 in omega (arith, e, f, g, s)
         ];
-        two = λ ne. elim (unlike-cases one ls) [
+        two = λ ne. elim (unlike-cases one one ls) [
           | inl c ↦ absurd (ne (q.one_at ∙ (sym (ap (λ (x : Lit). x.0) c.0) ∙ sym q.other_at)))
-          | inr c ↦ let l = c.1.1 in let l0 : 0 < length ls = omega arith in (number 0 one.0 _ l0 (ap (λ (x : Lit). x.0) (first-at ls d0 l0)) q.one_at, number c.1.0 other.0 _ c.1.1 (ap (λ (x : Lit). x.0) (c.1.2 d0)) q.other_at)
+          | inr c ↦ let l = c.1.1 in let l0 : 0 < length ls = omega arith in (let t = last-there ls l0 in number t.0 one.0 _ t.1 (ap (λ (x : Lit). x.0) (t.2 d0)) q.one_at, number c.1.0 other.0 _ c.1.1 (ap (λ (x : Lit). x.0) (c.1.2 d0)) q.other_at)
         ];
-        short = λ e k l. elim (unlike-cases one ls) [
+        short = λ e k l. elim (unlike-cases one one ls) [
           | inl c ↦ let low : k < length ls = omega (arith, size, l) in q.lits_at k d0 low ∙ (c.1 k d0 low ∙ sym q.one_at)
           | inr c ↦ absurd (c.0 (sym q.one_at ∙ (e ∙ q.other_at)))
         ];
@@ -281,7 +294,7 @@ past-none vars words p one other m c f b =
 
 -- ---- the clauses
 
-clauses-attached : (words p ds : List ℕ) (ls : List Lit) (a b : ℕ) → Holds words p ls (first_watch ls).0 a (second_watch ls).0 b → ((d : ℕ) → Contains ds d → d + 5 + get_or words (d + 4) 0 ≤ length words) → map (clause_in (words ++ p)) (ds ++ length words ∷ []) ≡ map (clause_in words) ds ++ new_clause (length words) ls ∷ []
+clauses-attached : (words p ds : List ℕ) (ls : List Lit) (a b : ℕ) → Holds words p ls (last_watch ls).0 a (next_watch ls).0 b → ((d : ℕ) → Contains ds d → d + 5 + get_or words (d + 4) 0 ≤ length words) → map (clause_in (words ++ p)) (ds ++ length words ∷ []) ≡ map (clause_in words) ds ++ new_clause (length words) ls ∷ []
 clauses-attached words p [] ls a b q f =
     let n = length words in
     let ls_are : lits_in (words ++ p) (n + 5) (get_or (words ++ p) (n + 4) 0) ≡ ls = ap (lits_in (words ++ p) (n + 5)) q.size_at ∙ lits_in-is (words ++ p) (n + 5) ls q.lits_at in
@@ -300,15 +313,15 @@ clause_lits-push (k ∷ ks) c ls = ap (λ ms. k.lits ∷ ms) (clause_lits-push k
 -- ---- the whole step
 
 pub record Attached (vars : ℕ) (words firsts starts p : List ℕ) (ls : List Lit) : Type 0 where
-  pub inside : IsArenaInside vars (words ++ p) (firsts_after_attach firsts (length words) (first_watch ls) (second_watch ls)) (starts ++ length words ∷ [])
-  pub arena : IsArena (watched_clauses vars (words ++ p) (firsts_after_attach firsts (length words) (first_watch ls) (second_watch ls)) (starts ++ length words ∷ []))
-  pub clauses : (watched_clauses vars (words ++ p) (firsts_after_attach firsts (length words) (first_watch ls) (second_watch ls)) (starts ++ length words ∷ [])).clauses ≡ (watched_clauses vars words firsts starts).clauses ++ new_clause (length words) ls ∷ []
-  pub lists : (l : Lit) → watch_list (watched_clauses vars (words ++ p) (firsts_after_attach firsts (length words) (first_watch ls) (second_watch ls)) (starts ++ length words ∷ [])) l ≡ with_new (length words) ls l (watch_list (watched_clauses vars words firsts starts) l)
+  pub inside : IsArenaInside vars (words ++ p) (firsts_after_attach firsts (length words) (last_watch ls) (next_watch ls)) (starts ++ length words ∷ [])
+  pub arena : IsArena (watched_clauses vars (words ++ p) (firsts_after_attach firsts (length words) (last_watch ls) (next_watch ls)) (starts ++ length words ∷ []))
+  pub clauses : (watched_clauses vars (words ++ p) (firsts_after_attach firsts (length words) (last_watch ls) (next_watch ls)) (starts ++ length words ∷ [])).clauses ≡ (watched_clauses vars words firsts starts).clauses ++ new_clause (length words) ls ∷ []
+  pub lists : (l : Lit) → watch_list (watched_clauses vars (words ++ p) (firsts_after_attach firsts (length words) (last_watch ls) (next_watch ls)) (starts ++ length words ∷ [])) l ≡ with_new (length words) ls l (watch_list (watched_clauses vars words firsts starts) l)
 
-attach-done : (vars : ℕ) (words firsts starts p : List ℕ) (ls : List Lit) → IsArenaInside vars words firsts starts → IsTrue (are_below vars ls) → Holds words p ls (first_watch ls).0 (link_of_new firsts (first_watch ls) (second_watch ls) (first_watch ls)) (second_watch ls).0 (link_of_new firsts (first_watch ls) (second_watch ls) (second_watch ls)) → Attached vars words firsts starts p ls
+attach-done : (vars : ℕ) (words firsts starts p : List ℕ) (ls : List Lit) → IsArenaInside vars words firsts starts → IsTrue (are_below vars ls) → Holds words p ls (last_watch ls).0 (link_of_new firsts (last_watch ls) (next_watch ls) (last_watch ls)) (next_watch ls).0 (link_of_new firsts (last_watch ls) (next_watch ls) (next_watch ls)) → Attached vars words firsts starts p ls
 attach-done vars words firsts starts p ls h b q =
-    let one = first_watch ls in
-    let other = second_watch ls in
+    let one = last_watch ls in
+    let other = next_watch ls in
     let a = watched_clauses vars words firsts starts in
     let c = length words in
     let f = is-new vars words p ls (link_of_new firsts one other one) (link_of_new firsts one other other) h.small b q in
@@ -341,16 +354,16 @@ attach-done vars words firsts starts p ls h b q =
 
 -- what attaching needs and does
 pub record Attaches (vars : ℕ) (words firsts starts p : List ℕ) (ls : List Lit) : Type 0 where
-  pub one : (first_watch ls).0 ≢ (second_watch ls).0 → (first_watch ls).0 < length firsts
-  pub other : (first_watch ls).0 ≢ (second_watch ls).0 → (second_watch ls).0 < length firsts
+  pub one : (last_watch ls).0 ≢ (next_watch ls).0 → (last_watch ls).0 < length firsts
+  pub other : (last_watch ls).0 ≢ (next_watch ls).0 → (next_watch ls).0 < length firsts
   pub fresh : Contains starts (length words) → ⊥
-  pub known : Contains (indexes (watched_clauses vars (words ++ p) (firsts_after_attach firsts (length words) (first_watch ls) (second_watch ls)) (starts ++ length words ∷ []))) (length words)
+  pub known : Contains (indexes (watched_clauses vars (words ++ p) (firsts_after_attach firsts (length words) (last_watch ls) (next_watch ls)) (starts ++ length words ∷ []))) (length words)
   pub done : Attached vars words firsts starts p ls
 
-pub attaches : (vars : ℕ) (words firsts starts : List ℕ) (ls : List Lit) → IsArenaInside vars words firsts starts → IsTrue (are_below vars ls) → Attaches vars words firsts starts (clause_words ls (first_watch ls).0 (link_of_new firsts (first_watch ls) (second_watch ls) (first_watch ls)) (second_watch ls).0 (link_of_new firsts (first_watch ls) (second_watch ls) (second_watch ls))) ls
+pub attaches : (vars : ℕ) (words firsts starts : List ℕ) (ls : List Lit) → IsArenaInside vars words firsts starts → IsTrue (are_below vars ls) → Attaches vars words firsts starts (clause_words ls (last_watch ls).0 (link_of_new firsts (last_watch ls) (next_watch ls) (last_watch ls)) (next_watch ls).0 (link_of_new firsts (last_watch ls) (next_watch ls) (next_watch ls))) ls
 attaches vars words firsts starts ls h b =
-    let one = first_watch ls in
-    let other = second_watch ls in
+    let one = last_watch ls in
+    let other = next_watch ls in
     let a1 = link_of_new firsts one other one in
     let a2 = link_of_new firsts one other other in
     let p = clause_words ls one.0 a1 other.0 a2 in

@@ -8,6 +8,7 @@ use Rattle.cnf.specs.declared.lit.Lit.{Lit}
 use Rattle.cnf.specs.Lits.{same, is_among}
 use Rattle.sat_arena.specs.Arena.{first_of, next_in}
 use Rattle.sat_arena.proofs.Members.{contains-here, contains-there}
+pub use Rattle.sat_arena.proofs.ListWalks.{rest_from, IsWalk, Meets, walk-begin, walk-meets}
 
 -- a literal that was read is one of the clause's
 pub among-slice_get : (ls : List Lit) (k : ℕ) (l : Lit) → slice_get ls k ≡ Some l → IsTrue (is_among ls l)

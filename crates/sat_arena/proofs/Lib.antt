@@ -1,6 +1,7 @@
 pub mod AttachLemmas
 pub mod ForCallers
 pub mod LinkLemmas
+pub mod ListWalks
 pub mod Members
 pub mod ModelLemmas
 pub mod MoveLemmas

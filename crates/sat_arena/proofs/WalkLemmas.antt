@@ -65,7 +65,7 @@ at-end next cs (Some p) at c i e =
 pub at-member : (next : ℕ → ℕ) (cs : List ℕ) (before : Option ℕ) (at c : ℕ) → IsAt next cs before at c → Contains cs at
 at-member next cs before at c i = let P : List ℕ → Type 0 = λ zs. Contains zs at in subst P (sym i.parts) (contains-middle i.left at i.right)
 
-from_member-middle : (xs : List ℕ) (at : ℕ) (ys : List ℕ) → IsDistinct eqb (xs ++ at ∷ ys) → from_member (xs ++ at ∷ ys) at ≡ at ∷ ys
+pub from_member-middle : (xs : List ℕ) (at : ℕ) (ys : List ℕ) → IsDistinct eqb (xs ++ at ∷ ys) → from_member (xs ++ at ∷ ys) at ≡ at ∷ ys
 from_member-middle [] at ys a = cond-true (eqb at at) (at ∷ ys) (from_member ys at) (eq-eqb at at refl)
 from_member-middle (x ∷ xs) at ys a =
     cond-false (eqb x at) (x ∷ (xs ++ at ∷ ys)) (from_member (xs ++ at ∷ ys) at) (ne_eqb x at (distinct-middle x xs at ys a))

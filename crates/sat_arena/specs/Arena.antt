@@ -87,27 +87,31 @@ without c (d ∷ ds) = if d == c then ds else d ∷ without c ds
 abbrev pub with_watch : ℕ → Lit → Lit → WatchedClause → WatchedClause
 with_watch c lit to k = if k.index == c then (if same k.one lit then record k { one = to } else record k { other = to }) else k
 
--- the first literal of a new clause
-abbrev pub first_watch : List Lit → Lit
-first_watch [] = record { 0 = 0 }
-first_watch (l ∷ ls) = l
+-- the last of some literals, or another where there is none
+abbrev pub last_or : Lit → List Lit → Lit
+last_or other [] = other
+last_or other (l ∷ ls) = last_or l ls
 
--- the first of these literals that is different from one, or this one
-abbrev pub first_unlike : Lit → List Lit → Lit
-first_unlike one [] = one
-first_unlike one (l ∷ ls) = if same l one then first_unlike one ls else l
+-- the last of some literals that is different from one, or another where there is none
+abbrev pub last_unlike_or : Lit → Lit → List Lit → Lit
+last_unlike_or one other [] = other
+last_unlike_or one other (l ∷ ls) = last_unlike_or one (if same l one then other else l) ls
 
--- the first literal of a new clause that is different from its first, where there is one
-abbrev pub second_watch : List Lit → Lit
-second_watch ls = first_unlike (first_watch ls) ls
+-- the last literal of a new clause
+abbrev pub last_watch : List Lit → Lit
+last_watch ls = last_or (record { 0 = 0 }) ls
+
+-- the last literal of a new clause that is different from its last, where there is one
+abbrev pub next_watch : List Lit → Lit
+next_watch ls = last_unlike_or (last_watch ls) (last_watch ls) ls
 
 -- a new clause
 abbrev pub new_clause : ℕ → List Lit → WatchedClause
-new_clause c ls = record { index = c; lits = ls; one = first_watch ls; other = second_watch ls }
+new_clause c ls = record { index = c; lits = ls; one = last_watch ls; other = next_watch ls }
 
 -- whether a new clause of these literals watches a literal
 abbrev pub is_watching : List Lit → Lit → Bool
-is_watching ls l = not (same (first_watch ls) (second_watch ls)) && (same (first_watch ls) l || same (second_watch ls) l)
+is_watching ls l = not (same (last_watch ls) (next_watch ls)) && (same (last_watch ls) l || same (next_watch ls) l)
 
 -- a literal's list with a new clause in front, where that watches the literal
 abbrev pub with_new : ℕ → List Lit → Lit → List ℕ → List ℕ

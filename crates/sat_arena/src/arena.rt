@@ -68,7 +68,7 @@ impl Arena {
     }
 
     /// Adds a clause behind the others, and says under which index. Where it has two different
-    /// literals it watches its first one and the first that is different from this, and stands in
+    /// literals it watches its last one and the last that is different from this, and stands in
     /// front of the lists of both. `AllocError` where memory runs out; then the arena is unchanged.
     pub fn attach(&mut self, lits: &[Lit]) -> Result<usize, AllocError>
         requires { IsTrue (are_below self.old.vars lits.now) }

@@ -87,7 +87,7 @@ fn does_each_clause_stand_in_the_lists_of_its_watches(rt: HostRuntime) -> Result
             "of {number}"
         );
     }
-    assert_eq!(rt; walk(alloc, &arena, Lit(4))?.len(), 2);
+    assert_eq!(rt; walk(alloc, &arena, Lit(4))?.len(), 1);
     Ok(())
 }
 
@@ -102,7 +102,7 @@ fn which_literals_does_a_clause_watch(rt: HostRuntime) -> Result<(), Fail> {
     assert_eq!(rt; (one.0, other.0), (2, 2));
     let long = arena.attach(&[Lit(2), Lit(2), Lit(3), Lit(0)])?;
     let (one, other) = arena.watches(long);
-    assert_eq!(rt; (one.0, other.0), (2, 3));
+    assert_eq!(rt; (one.0, other.0), (0, 3));
     assert_eq!(rt; arena.size(long), 4);
     Ok(())
 }
@@ -116,11 +116,14 @@ fn does_a_moved_watch_leave_its_list(rt: HostRuntime) -> Result<(), Fail> {
     let moved = arena.attach(&[Lit(0), Lit(3), Lit(5)])?;
     let last = arena.attach(&[Lit(5), Lit(0)])?;
     let lists = [walk(alloc, &arena, Lit(0))?, walk(alloc, &arena, Lit(5))?];
-    assert_eq!(rt; lists[0], vec![in alloc; last, moved, first]?);
-    assert_eq!(rt; lists[1], vec![in alloc; last]?);
-    assert!(rt; rewatch(&mut arena, 1, 2));
-    assert_eq!(rt; walk(alloc, &arena, Lit(0))?, vec![in alloc; last, first]?);
-    assert_eq!(rt; walk(alloc, &arena, Lit(5))?, vec![in alloc; moved, last]?);
+    assert_eq!(rt; lists[0], vec![in alloc; last, first]?);
+    assert_eq!(rt; lists[1], vec![in alloc; last, moved]?);
+    assert!(rt; rewatch(&mut arena, 1, 0));
+    assert_eq!(rt;
+        walk(alloc, &arena, Lit(0))?,
+        vec![in alloc; moved, last, first]?
+    );
+    assert_eq!(rt; walk(alloc, &arena, Lit(5))?, vec![in alloc; last]?);
     assert!(rt; !rewatch(&mut arena, 1, 1));
     Ok(())
 }

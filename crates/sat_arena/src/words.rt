@@ -1,6 +1,6 @@
 //! How a clause lies in the arena's words.
 ghost use Rattle.std.specs.Prelude.{◌≡◌, ◌+◌, ◌<◌, ◌≤◌, ◌^◌, ◌++◌, length, slice_index, vec_len, vec_capacity};
-ghost use Rattle.sat_arena.specs.Arena.{first_watch, second_watch};
+ghost use Rattle.sat_arena.specs.Arena.{last_watch, next_watch, last_unlike_or};
 ghost use Rattle.sat_arena.specs.Words.{clause_words};
 
 use cnf::Lit;
@@ -27,22 +27,38 @@ pub(crate) fn lit_at(words: &[usize], place: usize) -> Lit
     Lit(words[place] as u32)
 }
 
-/// The watches of a new clause: its first literal and the first that is different from it. Both are one
+/// The watches of a new clause: its last literal and the last that is different from it. Both are one
 /// where there is none.
 pub(crate) fn watch_pair(lits: &[Lit]) -> (Lit, Lit)
-    ensures one { result.0 ≡ first_watch lits.now }
-    ensures other { result.1 ≡ second_watch lits.now }
+    ensures one { result.0 ≡ last_watch lits.now }
+    ensures other { result.1 ≡ next_watch lits.now }
 {
-    if lits.is_empty() {
-        return (Lit(0), Lit(0));
+    let one = last(lits);
+    (one, last_unlike(lits, one))
+}
+
+/// The last of some literals, or the first literal of all where there is none.
+fn last(lits: &[Lit]) -> Lit
+    ensures { result ≡ last_watch lits.now }
+{
+    let mut last = Lit(0);
+    for lit in lits {
+        last = *lit;
     }
-    let one = lits[0];
+    last
+}
+
+/// The last of some literals that is different from one, or this one where there is none.
+fn last_unlike(lits: &[Lit], one: Lit) -> Lit
+    ensures { result ≡ last_unlike_or one one lits.now }
+{
+    let mut last = one;
     for lit in lits {
         if lit.0 != one.0 {
-            return (one, *lit);
+            last = *lit;
         }
     }
-    (one, one)
+    last
 }
 
 /// Writes a clause behind the words, for which there is room.

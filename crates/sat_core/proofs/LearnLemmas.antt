@@ -1,6 +1,6 @@
 -- Lemmas on a learned clause: it may be logged, and it keeps the search sound.
-use Rattle.std.proofs.Common.{◌≡◌, ◌+◌, ◌-◌, ◌<◌, ◌≤◌, ℕ, Bool, true, false, not, ◌&&◌, ◌||◌, cond, eqb, IsTrue, Option, None, Some, List, [], ◌∷◌, ◌++◌, length, get_or, refl, sym, ap, subst, ◌∙◌, inl, inr, arith}
-use Rattle.std.specs.List.{list_any, IsDistinct}
+use Rattle.std.proofs.Common.{◌≡◌, ◌+◌, ◌-◌, ◌<◌, ◌≤◌, ◌⊎◌, ℕ, Bool, true, false, not, ◌&&◌, ◌||◌, cond, eqb, IsTrue, Option, None, Some, List, [], ◌∷◌, ◌++◌, length, get_or, refl, sym, ap, subst, ◌∙◌, inl, inr, arith}
+use Rattle.std.specs.List.{list_any, slice_get, IsDistinct}
 use Rattle.std.specs.Prelude.{MatchOption}
 use Rattle.std.proofs.lemmas.Bool.{and_parts, and_from, or_left, or_right, leb-false, false≢true, cases_Bool, cases_eq, not_from_false, cond-true, cond-false, false_from_ne_true}
 use Rattle.std.proofs.lemmas.Map.Keys.{IsDistinct-head, IsDistinct-tail}
@@ -15,13 +15,19 @@ use Rattle.sat_trail.proofs.ForCallers.{head-apart, lits-get, among-place, no-bo
 use Rattle.sat_core.specs.Numbered.{Numbered, clauses_of}
 use Rattle.sat_core.specs.Search.{Implies, Reasoned, IsSound}
 use Rattle.sat_core.specs.Ledgers.{is_nonempty}
-use Rattle.sat_core.specs.Analysis.{is_marked, marked, IsResolved, IsBack}
+use Rattle.sat_core.specs.Analysis.{is_marked, marked, IsResolved}
 use Rattle.sat_core.proofs.NumberLemmas.{under-append, clauses_of-push}
 use Rattle.sat_core.proofs.ForcingLemmas.{not_subsumed-from_adds}
 use Rattle.sat_core.proofs.MarkLemmas.{marked-among, among-marked}
 use Rattle.sat_core.proofs.ResolveLemmas.{place-within}
 use Rattle.sat_core.proofs.ConflictLemmas.{top-at, others-at}
 use Rattle.sat_core.proofs.LedgerLemmas.{adds-learned}
+
+-- a level that one of the marked entries before a place is of, or 0
+abbrev pub IsBack : List Entry → List Bool → ℕ → ℕ → Type 0
+IsBack es seen at back =
+    (back ≡ 0)
+    ⊎ ((j : ℕ) × (j < at) × ((e : Entry) → slice_get es j ≡ Some e → IsTrue (is_marked seen e.lit) × (e.level ≡ back)))
 
 -- ---- the clause by itself
 

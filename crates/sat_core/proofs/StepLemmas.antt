@@ -13,7 +13,7 @@ use Rattle.sat_trail.specs.Trail.{Assignment, lits, with_implied}
 use Rattle.sat_trail.proofs.ForCallers.{up_to-push}
 use Rattle.sat_core.specs.Numbered.{Numbered, clauses_of, under}
 use Rattle.sat_core.specs.Search.{Implies, Reasoned, IsSound}
-use Rattle.sat_core.specs.Look.{IsUnit}
+use Rattle.sat_core.specs.Watch.{IsUnit}
 
 pub reasoned-push : (ns : List Numbered) (before : List Lit) (es : List Entry) (e : Entry) → Reasoned ns before es → MatchOption e.reason (Unit {0}) (λ at. Implies ns (before ++ lits es) e.lit at) → Reasoned ns before (es ++ e ∷ [])
 reasoned-push ns before [] e r h =

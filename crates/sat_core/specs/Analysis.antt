@@ -1,5 +1,5 @@
 -- What the analysis of a conflict keeps: the clause of the negations of marked literals.
-use Rattle.std.specs.Prelude.{◌≡◌, ◌+◌, ◌<◌, ◌==◌, ◌⊎◌, ℕ, Bool, false, ◌&&◌, if◌then◌else◌, List, [], ◌∷◌, length, take, slice_get, slice_index_or, IsTrue, Some}
+use Rattle.std.specs.Prelude.{◌≡◌, ◌+◌, ◌<◌, ◌≤◌, ◌==◌, ◌⊎◌, ℕ, Bool, false, ◌&&◌, if◌then◌else◌, List, [], ◌∷◌, length, take, slice_get, slice_index_or, IsTrue, Some}
 use Rattle.std.specs.List.{list_any}
 use Rattle.cnf.specs.declared.lit.Lit.{Lit}
 use Rattle.cnf.specs.Lits.{variable, negation}
@@ -43,6 +43,16 @@ pub record IsResolved (formula : List (List Lit)) (t : Assignment) (seen : List 
   pub within : MarkedWithin seen t.entries (at + 1)
   pub others : (j : ℕ) (e : Entry) → j < at → slice_get t.entries j ≡ Some e
       → IsTrue (is_marked seen e.lit) → e.level < t.level
+
+-- none of the entries from one place up to another is marked
+abbrev pub AreUnmarked : List Entry → List Bool → ℕ → ℕ → Type 0
+AreUnmarked es seen from at = (k : ℕ) (e : Entry) → from ≤ k → k < at → slice_get es k ≡ Some e → is_marked seen e.lit ≡ false
+
+-- the entry at a place is the last marked one before another place
+pub record IsMarkedLast (es : List Entry) (seen : List Bool) (place at : ℕ) : Type 0 where
+  pub before : place < at
+  pub on : (e : Entry) → slice_get es place ≡ Some e → IsTrue (is_marked seen e.lit)
+  pub behind : AreUnmarked es seen (place + 1) at
 
 -- a level that one of the marked entries before a place is of, or 0
 abbrev pub IsBack : List Entry → List Bool → ℕ → ℕ → Type 0

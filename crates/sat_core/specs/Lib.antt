@@ -1,6 +1,7 @@
 pub mod Analysis
 pub mod Ledgers
-pub mod Look
 pub mod Numbered
 pub mod Search
 pub mod Verdict
+pub mod Watch
+pub mod Watches

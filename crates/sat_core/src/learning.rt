@@ -1,11 +1,14 @@
 //! What is learned from a conflict: a clause, and the level to go back to.
-ghost use Rattle.std.specs.Prelude.{◌≡◌, ◌≤◌, ◌<◌, ◌∷◌, [], ◌++◌, length, IsTrue, IfOk, OnOk};
+ghost use Rattle.std.specs.Prelude.{◌≡◌, ◌≤◌, ◌<◌, ◌∷◌, [], ◌++◌, length, slice_get, IsTrue, IfOk, IfSome, OnOk, MatchOption, Some};
+ghost use Rattle.cnf.specs.Lits.{are_below};
 ghost use Rattle.cnf.specs.Propagation.{IsLogged};
+ghost use Rattle.sat_trail.specs.declared.entry.Entry.{Entry};
 ghost use Rattle.sat_trail.specs.Trail.{lits, IsTrail};
-ghost use Rattle.sat_core.specs.Analysis.{marked, IsBack};
+ghost use Rattle.sat_core.specs.Analysis.{marked, AreUnmarked, IsMarkedLast};
 ghost use Rattle.sat_core.specs.Ledgers.{is_nonempty};
 ghost use Rattle.sat_core.specs.Numbered.{numbered, clauses_of};
 ghost use Rattle.sat_core.specs.Search.{IsSound, IsConflict};
+ghost use Rattle.sat_core.specs.Watches.{IsReady, head_after};
 
 use crate::analysis::resolve;
 use cnf::{Clause, Lit};
@@ -19,6 +22,7 @@ pub(crate) fn learn(
     alloc: Global,
     arena: &mut Arena,
     trail: &mut Trail,
+    head: &mut u32,
     seen: &mut Vec<bool>,
     conflict: usize,
 ) -> Result<Clause, AllocError>
@@ -27,6 +31,7 @@ pub(crate) fn learn(
     requires level { 0 < trail.old.level }
     requires conflict { IsConflict (numbered arena.old) (lits trail.old.entries) conflict }
     requires seen { length seen.old.items ≡ trail.old.vars }
+    requires ready { IsReady arena.old trail.old head.old }
     ensures logged { IfOk result (λ c. IsLogged arena.old.vars (clauses_of (numbered arena.old)) c) }
     ensures nonempty { IfOk result (λ c. IsTrue (is_nonempty c)) }
     ensures clauses { IfOk result (λ c. clauses_of (numbered arena.new)
@@ -35,13 +40,38 @@ pub(crate) fn learn(
     ensures vars { OnOk result (trail.new.vars ≡ trail.old.vars) }
     ensures seen { OnOk result (length seen.new.items ≡ trail.old.vars) }
     ensures sound { OnOk result (IsSound (numbered arena.new) trail.new) }
+    ensures ready { OnOk result (IsReady arena.new trail.new head.new) }
 {
     let at = resolve(arena, trail, seen, conflict);
     let lits = collect(alloc, trail, seen)?;
-    let back = back_level(trail, seen, at);
+    let before = last_marked(trail, seen, at);
+    let back = back_level(trail, before);
     trail.undo_to(back);
+    *head = head_after(before, trail);
     arena.attach(&lits)?;
+    bump(trail, &lits);
     Ok(Clause { lits })
+}
+
+/// Where propagation goes on: at the entry of the clause's other watch, or behind all entries. Takes no
+/// memory.
+fn head_after(place: Option<u32>, trail: &Trail) -> u32
+    ensures { result ≡ head_after place (length trail.now.entries) }
+{
+    match place {
+        None => trail.len(),
+        Some(place) => place,
+    }
+}
+
+/// Raises the activities of the variables of a clause. Takes no memory.
+fn bump(trail: &mut Trail, lits: &[Lit])
+    requires { IsTrue (are_below trail.old.vars lits.now) }
+    ensures { trail.new ≡ trail.old }
+{
+    for lit in lits {
+        trail.bump(lit.variable());
+    }
 }
 
 /// The clause of the negations of the marked literals, in the order of the trail. `AllocError` where
@@ -60,20 +90,33 @@ fn collect(alloc: Global, trail: &Trail, seen: &[bool]) -> Result<Vec<Lit>, Allo
     Ok(clause)
 }
 
-/// The level of the last marked entry before a place, or 0. Takes no memory.
-fn back_level(trail: &Trail, seen: &[bool], at: u32) -> u32
+/// The place of the last marked entry before a place, or None where none is marked. Takes no memory.
+fn last_marked(trail: &Trail, seen: &[bool], at: u32) -> Option<u32>
     requires size { length seen.now ≡ trail.now.vars }
     requires place { at ≤ length trail.now.entries }
-    requires trail { IsTrail trail.now }
-    ensures { IsBack trail.now.entries seen.now at result }
+    ensures { MatchOption result (AreUnmarked trail.now.entries seen.now 0 at)
+        (λ place. IsMarkedLast trail.now.entries seen.now place at) }
 {
     for k in (0..at).rev() {
-        let var = trail.entry(k).variable();
-        if seen[var as usize] {
-            if let Some(level) = trail.level_of(var) {
-                return level;
-            }
+        if seen[trail.entry(k).variable() as usize] {
+            return Some(k);
         }
     }
-    0
+    None
+}
+
+/// The level of an entry, or 0 where there is none. Takes no memory.
+fn back_level(trail: &Trail, place: Option<u32>) -> u32
+    requires place { IfSome place (λ k. k < length trail.now.entries) }
+    requires trail { IsTrail trail.now }
+    ensures { MatchOption place (result ≡ 0)
+        (λ k. (e : Entry) → slice_get trail.now.entries k ≡ Some e → e.level ≡ result) }
+{
+    match place {
+        None => 0,
+        Some(k) => match trail.level_of(trail.entry(k).variable()) {
+            None => 0,
+            Some(level) => level,
+        },
+    }
 }

@@ -5,10 +5,10 @@
 mod analysis;
 mod laws;
 mod learning;
-mod look;
 mod propagation;
 mod solver;
 mod verdict;
+mod watch;
 
 pub use laws::ledger_is_short;
 pub use solver::solve;

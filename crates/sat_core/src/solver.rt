@@ -49,11 +49,12 @@ fn search(alloc: Global, f: &Formula, budget: u32) -> Result<Verdict, AllocError
     let mut trail = Trail::new(alloc, f.vars())?;
     let mut seen = vec![in alloc; false; f.vars() as usize]?;
     let mut ledger = Vec::new(alloc);
+    let mut head = 0;
     'search: loop {
-        let found = propagate(&arena, &mut trail);
+        let found = propagate(&mut arena, &mut trail, &mut head);
         let level = trail.level();
         match found {
-            None => match next_open(&trail, f.vars()) {
+            None => match trail.next_free() {
                 None => return Ok(Verdict::Model(values(alloc, &trail, f.vars())?)),
                 Some(var) => trail.decide(Lit(2 * var).negation()),
             },
@@ -67,7 +68,9 @@ fn search(alloc: Global, f: &Formula, budget: u32) -> Result<Verdict, AllocError
                 if is_used_up(budget, ledger.len()) {
                     return Ok(Verdict::Spent(Ledger { clauses: ledger }));
                 }
-                let learned = learn(alloc, &mut arena, &mut trail, &mut seen, conflict)?;
+                let learned = learn(
+                    alloc, &mut arena, &mut trail, &mut head, &mut seen, conflict,
+                )?;
                 ledger.push(learned)?;
             }
         }
@@ -79,23 +82,6 @@ fn is_used_up(budget: u32, count: usize) -> bool
     ensures { IsTrue result ↔ ((budget ≢ no_limit) × (budget ≤ count)) }
 {
     budget != NO_LIMIT && count >= budget as usize
-}
-
-/// The lowest variable without a value, or None where each has one. Takes no memory.
-#[tactic(auto, unfolding(cnf::specs::Lits::positive))]
-fn next_open(trail: &Trail, vars: u32) -> Option<u32>
-    requires vars { trail.now.vars ≡ vars }
-    requires small { vars ≤ 2 ^ 30 }
-    ensures { MatchOption result
-        ((v : ℕ) → v < vars → value_in (lits trail.now.entries) (positive v) ≢ None)
-        (λ v. (v < vars) × (value_in (lits trail.now.entries) (positive v) ≡ None)) }
-{
-    for var in 0..vars {
-        if trail.value(Lit(2 * var)) == None {
-            return Some(var);
-        }
-    }
-    None
 }
 
 /// The value of each variable of a trail. `AllocError` where memory runs out.

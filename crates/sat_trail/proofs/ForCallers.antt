@@ -13,6 +13,10 @@ pub use Rattle.sat_trail.proofs.EntryLemmas.{
   at-lit,
   entry_of-at,
   head-apart,
+  distinct-push,
+  below-push,
+  distinct-take,
+  below-take,
   one-literal,
   lits-take,
   lits-get,
@@ -22,8 +26,10 @@ pub use Rattle.sat_trail.proofs.EntryLemmas.{
 }
 pub use Rattle.sat_trail.proofs.LevelLemmas.{
   next-level,
+  rise-push,
   rise-bound,
   rise-none,
+  rise-up_to,
   rise-sorted,
   rise-top,
   rise-mono,

@@ -1,4 +1,6 @@
 pub mod EntryLemmas
 pub mod ForCallers
+pub mod HeapLemmas
 pub mod LevelLemmas
+pub mod OpenLemmas
 pub mod PlaceLemmas

@@ -1,2 +1,4 @@
+pub mod Heap
+pub mod Open
 pub mod Places
 pub mod Trail

@@ -3,6 +3,8 @@
 #![tactic(auto)]
 
 mod entry;
+mod heap;
+mod open;
 mod places;
 mod trail;
 

@@ -40,3 +40,20 @@ fn takes_back_the_levels_above(rt: HostRuntime) -> Result<(), Fail> {
     assert_eq!(rt; (trail.value(Lit(1)), trail.level()), (Some(false), 1));
     Ok(())
 }
+
+// The lowest variable first where nothing was bumped, then the one with the highest activity; one that
+// has a value is not named, and is again when its level is taken back.
+#[test]
+fn names_the_most_active_open_variable(rt: HostRuntime) -> Result<(), Fail> {
+    let mut trail = Trail::new(rt.alloc(), 4)?;
+    assert_eq!(rt; trail.next_free(), Some(0));
+    trail.bump(2);
+    trail.bump(3);
+    trail.bump(3);
+    assert_eq!(rt; trail.next_free(), Some(3));
+    trail.decide(Lit(7));
+    assert_eq!(rt; trail.next_free(), Some(2));
+    trail.undo_to(0);
+    assert_eq!(rt; trail.next_free(), Some(3));
+    Ok(())
+}

@@ -1,10 +1,12 @@
 //! The trail itself.
-ghost use Rattle.std.specs.Prelude.{◌≡◌, ◌+◌, ◌<◌, ◌≤◌, ◌^◌, ◌↔◌, [], length, slice_get, IsTrue, IfOk, Some, None};
-ghost use Rattle.cnf.specs.Lits.{is_below};
+ghost use Rattle.std.specs.Prelude.{◌≡◌, ◌≢◌, ◌+◌, ◌<◌, ◌≤◌, ◌^◌, ◌↔◌, ℕ, [], length, slice_get, IsTrue, IfOk, MatchOption, Some, None};
+ghost use Rattle.cnf.specs.Lits.{is_below, positive};
 ghost use Rattle.sat_trail.specs.Places.{place};
 ghost use Rattle.sat_trail.specs.Trail.{lits, value_in, entry_of, level_in, reason_in, with_decided, with_implied, undone_to};
 
 use crate::entry::Entry;
+use crate::heap::Heap;
+use crate::open::{first_open, put_back_from};
 use crate::places::{append, forget_above};
 use cnf::Lit;
 use std::alloc::{AllocError, Global};
@@ -19,11 +21,14 @@ pub struct Trail {
     entries: Vec<Entry>,
     // for each literal's number the place of its entry
     places: Vec<Option<u32>>,
+    // each variable without a value, and maybe others
+    heap: Heap,
 }
 
 impl Model for Trail {
     ghost use Rattle.std.specs.Prelude.{vec_capacity};
     ghost use Rattle.sat_trail.specs.Trail.{Assignment};
+    ghost use Rattle.sat_trail.specs.Open.{HasOpen};
     ghost use Rattle.sat_trail.specs.Places.{IsTrailInside};
 
     ghost Value = { Assignment };
@@ -32,7 +37,8 @@ impl Model for Trail {
 
     ghost invariant = { λ t. IsTrailInside
         (record { vars = t.vars; level = t.level; entries = t.entries.items })
-        (vec_capacity t.entries) t.places.items };
+        (vec_capacity t.entries) t.places.items
+        × HasOpen t.vars t.entries.items t.heap.is_in };
 }
 
 impl Trail {
@@ -46,11 +52,13 @@ impl Trail {
     {
         let entries = Vec::with_capacity(alloc, vars as usize)?;
         let places = vec![in alloc; None; vars as usize + vars as usize]?;
+        let heap = Heap::new(alloc, vars)?;
         Ok(Trail {
             vars,
             level: 0,
             entries,
             places,
+            heap,
         })
     }
 
@@ -182,7 +190,30 @@ impl Trail {
         ensures { self.new ≡ undone_to self.old level }
     {
         let kept = forget_above(&self.entries, &mut self.places, level);
+        put_back_from(&mut self.heap, &self.entries, kept);
         self.entries.truncate(kept);
         self.level = level;
+        self.heap.age();
+    }
+
+    /// Raises the activity of a variable, by more the more often levels were taken back before. No
+    /// clause says which variable `next_free` names; it takes the one with the highest activity, and
+    /// of two with the same the lower. Takes no memory.
+    pub fn bump(&mut self, var: u32)
+        requires { var < self.old.vars }
+        ensures { self.new ≡ self.old }
+    {
+        self.heap.bump(var);
+    }
+
+    /// A variable without a value, or None where each has one. Takes no memory.
+    pub fn next_free(&mut self) -> Option<u32>
+        ensures found { MatchOption result
+            ((v : ℕ) → v < self.old.vars → value_in (lits self.old.entries) (positive v) ≢ None)
+            (λ v. (v < self.old.vars)
+            × (value_in (lits self.old.entries) (positive v) ≡ None)) }
+        ensures same { self.new ≡ self.old }
+    {
+        first_open(&mut self.heap, &self.places)
     }
 }

@@ -1,47 +1,42 @@
-use Rattle.std.proofs.Common.{Some, arith}
-use Rattle.std.proofs.lemmas.List.{length_push}
-use Rattle.sat_arena.specs.Arena.{clause_at}
-use Rattle.sat_trail.specs.Trail.{lits}
-use Rattle.sat_core.specs.Look.{IsUnit}
-use Rattle.sat_core.specs.Numbered.{numbered, clauses_of}
-use Rattle.sat_core.proofs.NumberLemmas.{place-numbered, under-index}
-use Rattle.sat_core.proofs.StepLemmas.{sound-imply, rest-more, implies-from_unit}
+use Rattle.std.proofs.Common.{IsTrue, Some, List, refl, sym, ap, subst, ◌∙◌, arith}
+use Rattle.cnf.specs.Lits.{negation}
+use Rattle.cnf.proofs.ForCallers.{negation-twice}
+use Rattle.sat_core.specs.Ledgers.{are_nonempty}
+use Rattle.sat_core.specs.Numbered.{Numbered, clauses_of}
+use Rattle.sat_core.proofs.ShortLemmas.{ready-longer, short-above, longer-grows, rested}
 use Rattle.sat_core.proofs.propagation.propagate.Goals as goal
-use Rattle.sat_core.proofs.propagation.propagate.Goals.{in-AtRest, in-Unit}
 
-pub scan-preserved : goal.scan-preserved
-scan-preserved c =
-    let i = c.scan.invariant in
+pub returns-in-Some-clause-ready : goal.returns-in-Some-clause-ready
+returns-in-Some-clause-ready c =
     let a = c.args.arena.now in
-    let clause = (clause_at a c.at-number.result).lits in
-    elim c.match-at.branch [
-      | in-AtRest w ↦
-          rw w.trail-is (record {
-            sound = i.sound;
-            vars = i.vars;
-            level = i.level;
-            grows = i.grows;
-            more = i.more;
-            rest = λ e. rest-more (clauses_of (numbered a)) (lits c.scan.trail.entries) c.scan.k clause (place-numbered a c.scan.k (clause_at a c.at-number.result) c.at-number.ensures.clause) (i.rest e) w.in-AtRest.ensures.says;
-          })
-      | in-Unit w ↦
-          let t = c.scan.trail in
-          let u : IsUnit clause (lits t.entries) w.in-Unit.lit = w.in-Unit.ensures.says in
-          let longer = length_push t.entries (record { lit = w.in-Unit.lit; level = t.level; reason = Some c.at-number.result }) in
-          let after = sound-imply (numbered a) t w.in-Unit.lit c.at-number.result i.sound (implies-from_unit (numbered a) (lits t.entries) c.at-number.result clause w.in-Unit.lit (under-index a c.at-number.result c.at-number.ensures.known) u) in
-          rw (w.trail-is, w.imply.ensures) (record {
-            sound = after;
-            vars = i.vars;
-            level = i.level;
-            grows = omega (arith, i.grows);
-            more = omega (arith, i.more);
-            rest = λ e. absurd (omega (arith, i.more));
-          })
-    ]
+    let t = c.args.trail.now in
+    let u = c.imply_short.new.trail in
+    let s = c.imply_short.ensures in
+    ready-longer a t u c.args.head.now c.requires.ready s.trail s.level s.longer s.above (short-above a t u c.args.head.now c.requires.ready s.level s.above)
 
-pub returns-in-False-clause-found : goal.returns-in-False-clause-found
-returns-in-False-clause-found c = record {
-  clause = (clause_at c.args.arena.now c.at-number.result).lits;
-  is_under = under-index c.args.arena.now c.at-number.result c.at-number.ensures.known;
-  all_false = c.in-False.ensures.says;
-}
+pub looks-init : goal.looks-init
+looks-init c =
+    let a = c.args.arena.now in
+    let t = c.args.trail.now in
+    let u = c.imply_short.new.trail in
+    let s = c.imply_short.ensures in
+    let short = rw c.in_default.is at s.found in
+    record {
+      same = refl;
+      arena_vars = refl;
+      sound = s.sound;
+      vars = s.vars;
+      level = s.level;
+      grows = longer-grows t.entries u.entries s.longer;
+      ready = ready-longer a t u c.args.head.now c.requires.ready s.trail s.level s.longer s.above (λ _. short);
+      short = short;
+    }
+
+pub visit-requires-clause-entry : goal.visit-requires-clause-entry
+visit-requires-clause-entry c = c.entry.ensures.literal ∙ ap Some (sym (negation-twice c.entry.result) ∙ ap negation (sym c.negation-lit.ensures.value))
+
+pub returns-clause-found : goal.returns-clause-found
+returns-clause-found c =
+    let i = c.looks.invariant in
+    let P : List Numbered → Type 0 = λ ns. IsTrue (are_nonempty (clauses_of ns)) in
+    rested c.looks.arena c.looks.trail c.looks.head i.ready i.short (omega (arith, i.ready.looked, c.len.ensures.value, c.looks-test.false)) (subst P (sym i.same) c.requires.nonempty)

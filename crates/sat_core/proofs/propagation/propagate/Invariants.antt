@@ -1,28 +1,20 @@
-use Rattle.std.proofs.Common.{◌≡◌, ◌≤◌, ◌-◌, length, take, IsTrue}
-use Rattle.cnf.specs.Propagation.{is_at_rest}
-use Rattle.sat_trail.specs.Trail.{lits}
-use Rattle.sat_core.specs.Numbered.{numbered, clauses_of}
+use Rattle.std.proofs.Common.{◌≡◌, ◌≤◌, ◌-◌, length}
+use Rattle.sat_core.specs.Numbered.{numbered}
 use Rattle.sat_core.specs.Search.{IsSound}
+use Rattle.sat_core.specs.Watches.{IsReady, ShortAreTrue}
 use Rattle.sat_core.proofs.propagation.propagate.Given as goal
 
-abbrev pub invariant-passes : goal.invariant-passes
-invariant-passes l = record {
+abbrev pub invariant-looks : goal.invariant-looks
+invariant-looks l = record {
+  same : numbered l.arena ≡ numbered l.fn.arena;
+  arena_vars : l.arena.vars ≡ l.fn.arena.vars;
   sound : IsSound (numbered l.arena) l.trail;
   vars : l.trail.vars ≡ l.fn.trail.vars;
   level : l.trail.level ≡ l.fn.trail.level;
   grows : length l.fn.trail.entries ≤ length l.trail.entries;
+  ready : IsReady l.arena l.trail l.head;
+  short : ShortAreTrue l.arena l.trail.entries;
 }
 
--- each pass but the last makes a literal true
-abbrev pub decreases-passes : goal.decreases-passes
-decreases-passes l = l.trail.vars - length l.trail.entries
-
-abbrev pub invariant-scan : goal.invariant-scan
-invariant-scan l = record {
-  sound : IsSound (numbered l.arena) l.trail;
-  vars : l.trail.vars ≡ l.fn.trail.vars;
-  level : l.trail.level ≡ l.fn.trail.level;
-  grows : length l.fn.trail.entries ≤ length l.trail.entries;
-  more : l.before ≤ length l.trail.entries;
-  rest : length l.trail.entries ≡ l.before → IsTrue (is_at_rest (take l.k (clauses_of (numbered l.arena))) (lits l.trail.entries));
-}
+abbrev pub decreases-looks : goal.decreases-looks
+decreases-looks l = l.trail.vars - l.head

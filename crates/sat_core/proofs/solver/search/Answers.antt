@@ -12,12 +12,13 @@ use Rattle.sat_arena.specs.Arena.{WatchedClauses}
 use Rattle.sat_trail.specs.declared.entry.Entry.{Entry}
 use Rattle.sat_trail.specs.Trail.{Assignment, lits, value_in}
 use Rattle.sat_trail.proofs.ForCallers.{room-from_open}
-use Rattle.sat_core.specs.Ledgers.{are_nonempty}
+use Rattle.sat_core.specs.Ledgers.{is_nonempty, are_nonempty}
 use Rattle.sat_core.specs.Numbered.{numbered, clauses_of}
 use Rattle.sat_core.specs.Search.{IsSearch, IsSound}
 use Rattle.sat_core.specs.Verdict.{Refutes, UsesUp}
 use Rattle.sat_core.proofs.CountLemmas.{short}
 use Rattle.sat_core.proofs.LedgerLemmas.{no_values-from_empty, logged-in_range}
+use Rattle.sat_core.proofs.DecideLemmas.{ready-start, ready-decided}
 use Rattle.sat_core.proofs.NumberLemmas.{clauses_of-numbered}
 use Rattle.sat_core.proofs.SolveLemmas.{model, positive-number, open-negation, sound-decide, refutes, kept, shorter}
 use Rattle.sat_core.proofs.solver.search.Goals as goal
@@ -36,16 +37,22 @@ started f a t cs v e full =
     })
 
 -- a propagation keeps the state
-propagated : (f : Cnf) (ledger : List (List Lit)) (a : WatchedClauses) (t u : Assignment) → IsSearch f ledger a t → u.vars ≡ t.vars → IsSound (numbered a) u → IsSearch f ledger a u
-propagated f ledger a t u s v sound = record {
-  same_clauses = s.same_clauses;
-  same_vars = s.same_vars;
+propagated : (f : Cnf) (ledger : List (List Lit)) (a b : WatchedClauses) (t u : Assignment) → IsSearch f ledger a t → numbered b ≡ numbered a → b.vars ≡ a.vars → u.vars ≡ t.vars → IsSound (numbered b) u → IsSearch f ledger b u
+propagated f ledger a b t u s same av v sound = record {
+  same_clauses = ap clauses_of same ∙ s.same_clauses;
+  same_vars = av ∙ s.same_vars;
   trail_vars = v ∙ s.trail_vars;
   logged = s.logged;
   nonempty_formula = s.nonempty_formula;
   nonempty_ledger = s.nonempty_ledger;
   sound = sound;
 }
+
+pub propagate-found-requires-clause-nonempty : goal.propagate-found-requires-clause-nonempty
+propagate-found-requires-clause-nonempty c =
+    let s = c.search.invariant.state in
+    let P : List (List Lit) → Type 0 = λ cs. IsTrue (are_nonempty cs) in
+    subst P (sym s.same_clauses) (list_all-append-from is_nonempty c.args.f.now.clauses c.search.ledger.items s.nonempty_formula s.nonempty_ledger)
 
 -- the literal that is decided is open
 open_decision : (trail : List Lit) (v : ℕ) (l : Lit) → value_in trail (positive v) ≡ None → l ≡ negation (record { 0 = 2 * v }) → value_in trail l ≡ None
@@ -54,7 +61,7 @@ open_decision trail v l e n =
 
 pub decide-requires-clause-open : goal.decide-requires-clause-open
 decide-requires-clause-open c =
-    open_decision (lits c.propagate-found.new.trail.entries) c.in-Some-next_open.var c.negation.result c.in-Some-next_open.ensures.1 c.negation.ensures.value
+    rw c.in-Some-next_free.ensures.same (open_decision (lits c.propagate-found.new.trail.entries) c.in-Some-next_free.var c.negation.result c.in-Some-next_free.ensures.found.1 c.negation.ensures.value)
 
 -- one more clause within the budget
 one_more : (budget n m : ℕ) → m ≡ n + 1 → ((budget ≢ no_limit) × (budget ≤ n) → ⊥) → IsWithin budget m
@@ -71,51 +78,56 @@ search-init c =
       state = started c.args.f.now c.in_ok-arena.arena c.in_ok-trail.trail (clauses_of-numbered c.in_ok-arena.arena ∙ c.in_ok-arena.ensures.clauses) c.in_ok-arena.ensures.vars t c.requires;
       seen = search rules;
       within = inr (omega arith);
+      ready = ready-start c.args.f.now.vars c.in_ok-arena.arena c.in_ok-trail.trail c.in_ok-arena.ensures.arena t (omega (arith, c.vars.ensures.value, c.vars.ensures.small));
     })
 
-pub returns-in-None-next_open : goal.returns-in-None-next_open
-returns-in-None-next_open c =
+pub returns-in-None-next_free : goal.returns-in-None-next_free
+returns-in-None-next_free c =
     let s = c.search.invariant.state in
     let f = c.args.f.now in
     let t = c.propagate-found.new.trail in
     let ledger = c.search.ledger.items in
-    let n = c.vars-in-None.ensures.value in
     let p = c.in-None.ensures in
-    let same_vars : t.vars ≡ c.vars-in-None.result = p.vars ∙ (s.trail_vars ∙ sym n) in
-    let full : (v : ℕ) → v < t.vars → value_in (lits t.entries) (positive v) ≢ None = λ v b. c.in-None-next_open.ensures v (omega arith) in
-    let found = c.in_ok-values-in-None-next_open.ensures in
-    let vals : (v : ℕ) → v < t.vars → (IsTrue (get_or c.in_ok-values-in-None-next_open.field-0.items v false) ↔ (value_in (lits t.entries) (positive v) ≡ Some true)) = λ v b. found.values v (let m = c.vars-in-None-next_open.ensures.value in omega arith) in
+    let n = c.vars-in-None-next_free.ensures.value in
+    let full : (v : ℕ) → v < t.vars → value_in (lits t.entries) (positive v) ≢ None = λ v b. c.in-None-next_free.ensures.found v b in
+    let found = c.in_ok-values-in-None-next_free.ensures in
+    let Q : Assignment → Type 0 = λ t. (v : ℕ) → v < c.vars-in-None-next_free.result → (IsTrue (get_or c.in_ok-values-in-None-next_free.field-0.items v false) ↔ (value_in (lits t.entries) (positive v) ≡ Some true)) in
+    let read : Q t = subst Q c.in-None-next_free.ensures.same found.values in
+    let vals : (v : ℕ) → v < t.vars → (IsTrue (get_or c.in_ok-values-in-None-next_free.field-0.items v false) ↔ (value_in (lits t.entries) (positive v) ≡ Some true)) = λ v b. read v (omega (arith, b, n, p.vars, s.trail_vars)) in
     let P : List (List Lit) → Type 0 = λ cs. IsTrue (list_all (are_below f.vars) cs) in
-    let range = subst P (sym s.same_clauses) (list_all-append-from (are_below f.vars) f.clauses ledger c.vars-in-None.ensures.in_range (logged-in_range f.vars f.clauses ledger s.logged)) in
-    model f ledger (clauses_of (numbered c.search.arena)) t c.in_ok-values-in-None-next_open.field-0.items s.same_clauses (p.vars ∙ s.trail_vars) range c.level-level.ensures.trail p.found full (found.size ∙ c.vars-in-None-next_open.ensures.value) vals
+    let range = subst P (sym (ap clauses_of p.same ∙ s.same_clauses)) (list_all-append-from (are_below f.vars) f.clauses ledger c.vars-in-None-next_free.ensures.in_range (logged-in_range f.vars f.clauses ledger s.logged)) in
+    model f ledger (clauses_of (numbered c.propagate-found.new.arena)) t c.in_ok-values-in-None-next_free.field-0.items (ap clauses_of p.same ∙ s.same_clauses) (p.vars ∙ s.trail_vars) range c.level-level.ensures.trail p.found full (found.size ∙ c.vars-in-None-next_free.ensures.value) vals
 
-pub search-smaller-in-Some-next_open : goal.search-smaller-in-Some-next_open
-search-smaller-in-Some-next_open c =
+pub search-smaller-in-Some-next_free : goal.search-smaller-in-Some-next_free
+search-smaller-in-Some-next_free c =
     let s = c.search.invariant.state in
     let t = c.propagate-found.new.trail in
     let p = c.in-None.ensures in
-    let n = c.vars-in-None.ensures.value in
     let x = c.negation.result in
     let e : Entry = record { lit = x; level = t.level + 1; reason = None } in
-    let below : IsTrue (is_below t.vars x) = lt-ltb (variable x) t.vars (let b = c.in-Some-next_open.ensures.0 in omega (arith, s.trail_vars, p.vars, c.negation.ensures.same_variable)) in
-    let room = room-from_open t.vars t.entries e c.level-level.ensures.trail.in_range c.level-level.ensures.trail.distinct below (open_decision (lits t.entries) c.in-Some-next_open.var x c.in-Some-next_open.ensures.1 c.negation.ensures.value) in
+    let below : IsTrue (is_below t.vars x) = lt-ltb (variable x) t.vars (let b = c.in-Some-next_free.ensures.found.0 in omega (arith, s.trail_vars, p.vars, c.negation.ensures.same_variable)) in
+    let room = room-from_open t.vars t.entries e c.level-level.ensures.trail.in_range c.level-level.ensures.trail.distinct below (open_decision (lits t.entries) c.in-Some-next_free.var x c.in-Some-next_free.ensures.found.1 c.negation.ensures.value) in
     let longer = length_push t.entries e in
-    let entries : length c.decide.new.self.entries ≡ length t.entries + 1 = ap (λ (t : Assignment). length t.entries) c.decide.ensures ∙ longer in
+    let decided = rw c.in-Some-next_free.ensures.same at c.decide.ensures in
+    let entries : length c.decide.new.self.entries ≡ length t.entries + 1 = ap (λ (t : Assignment). length t.entries) decided ∙ longer in
     let fewer : c.args.f.now.vars - length c.decide.new.self.entries < c.args.f.now.vars - length c.search.trail.entries = omega (arith, s.trail_vars, p.vars, p.grows) in
     let all : (3 ^ c.args.f.now.vars - length c.search.ledger.items) * (c.args.f.now.vars + 1) + (c.args.f.now.vars - length c.decide.new.self.entries) < (3 ^ c.args.f.now.vars - length c.search.ledger.items) * (c.args.f.now.vars + 1) + (c.args.f.now.vars - length c.search.trail.entries) = omega arith in
     all
 
-pub search-preserved-in-Some-next_open : goal.search-preserved-in-Some-next_open
-search-preserved-in-Some-next_open c =
+pub search-preserved-in-Some-next_free : goal.search-preserved-in-Some-next_free
+search-preserved-in-Some-next_free c =
     let s = c.search.invariant.state in
     let t = c.propagate-found.new.trail in
     let p = c.in-None.ensures in
     let x = c.negation.result in
-    let sound = sound-decide (numbered c.search.arena) t x c.level-level.ensures.trail p.sound p.found in
-    rw c.decide.ensures (record {
-      state = propagated c.args.f.now c.search.ledger.items c.search.arena c.search.trail (record t { level = t.level + 1; entries = t.entries ++ record { lit = x; level = t.level + 1; reason = None } ∷ [] }) s p.vars sound;
+    let below : IsTrue (is_below t.vars x) = lt-ltb (variable x) t.vars (let b = c.in-Some-next_free.ensures.found.0 in omega (arith, s.trail_vars, p.vars, c.negation.ensures.same_variable)) in
+    let a = c.propagate-found.new.arena in
+    let sound = sound-decide (numbered a) t x c.level-level.ensures.trail p.sound p.found in
+    rw (c.decide.ensures, c.in-Some-next_free.ensures.same) (record {
+      state = propagated c.args.f.now c.search.ledger.items c.search.arena a c.search.trail (record t { level = t.level + 1; entries = t.entries ++ record { lit = x; level = t.level + 1; reason = None } ∷ [] }) s p.same p.arena_vars p.vars sound;
       seen = c.search.invariant.seen;
       within = c.search.invariant.within;
+      ready = ready-decided a t x c.propagate-found.new.head p.ready p.looked p.short below (open_decision (lits t.entries) c.in-Some-next_free.var x c.in-Some-next_free.ensures.found.1 c.negation.ensures.value);
     })
 
 pub returns-then-level-eq0 : goal.returns-then-level-eq0
@@ -123,7 +135,7 @@ returns-then-level-eq0 c =
     let s = c.search.invariant.state in
     let t = c.propagate-found.new.trail in
     let p = c.in-Some.ensures in
-    let all = refutes c.args.f.now c.search.ledger.items c.search.arena t c.args.budget c.in-Some.conflict (propagated c.args.f.now c.search.ledger.items c.search.arena c.search.trail t s p.vars p.sound) c.level-level.ensures.trail (sym c.level-level.ensures.value ∙ c.if-level-eq0.true) p.found c.search.invariant.within in
+    let all = refutes c.args.f.now c.search.ledger.items c.propagate-found.new.arena t c.args.budget c.in-Some.conflict (propagated c.args.f.now c.search.ledger.items c.search.arena c.propagate-found.new.arena c.search.trail t s p.same p.arena_vars p.vars p.sound) c.level-level.ensures.trail (sym c.level-level.ensures.value ∙ c.if-level-eq0.true) p.found c.search.invariant.within in
     let ledger : c.push.new.self.items ≡ c.search.ledger.items ++ [] ∷ [] = c.in_ok-push-in-Some.ensures.items ∙ ap (λ (l : List Lit). c.search.ledger.items ++ l ∷ []) c.new-then-level-eq0.ensures.items in
     let P : List (List Lit) → Type 0 = λ l. Refutes c.args.f.now c.args.budget l in
     record {
@@ -150,8 +162,8 @@ search-preserved c =
     let p = c.in-Some.ensures in
     let l = c.in_ok-learned-in-Some.ensures in
     let learned = c.in_ok-learned-in-Some.learned in
-    let before = propagated c.args.f.now c.search.ledger.items c.search.arena c.search.trail t s p.vars p.sound in
-    let after = kept c.args.f.now c.search.ledger.items c.search.arena c.learn.new.arena t c.learn.new.trail learned before l.logged l.nonempty l.clauses l.arena_vars l.vars l.sound in
+    let before = propagated c.args.f.now c.search.ledger.items c.search.arena c.propagate-found.new.arena c.search.trail t s p.same p.arena_vars p.vars p.sound in
+    let after = kept c.args.f.now c.search.ledger.items c.propagate-found.new.arena c.learn.new.arena t c.learn.new.trail learned before l.logged l.nonempty l.clauses l.arena_vars l.vars l.sound in
     let pushed : c.push-in-Some.new.self.items ≡ c.search.ledger.items ++ learned ∷ [] = c.in_ok-push-in-Some-2.ensures.items in
     let longer : length c.push-in-Some.new.self.items ≡ length c.search.ledger.items + 1 = ap length pushed ∙ length_push c.search.ledger.items learned in
     let P : List (List Lit) → Type 0 = λ l. IsSearch c.args.f.now l c.learn.new.arena c.learn.new.trail in
@@ -160,6 +172,7 @@ search-preserved c =
       state = subst P (sym pushed) after;
       seen = l.seen ∙ (p.vars ∙ s.trail_vars);
       within = one_more c.args.budget (length c.search.ledger.items) (length c.push-in-Some.new.self.items) longer used;
+      ready = l.ready;
     }
 
 spent : (f : Cnf) (ledger : List (List Lit)) (budget : ℕ) → IsTrue (are_nonempty f.clauses) → IsLedger f ledger → IsTrue (are_nonempty ledger) → IsWithin budget (length ledger) → budget ≢ no_limit → budget ≤ length ledger → UsesUp f budget ledger

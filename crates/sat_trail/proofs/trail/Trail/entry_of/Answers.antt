@@ -17,25 +17,25 @@ found es v i k o d u b e s = entry_of-place es v i k d u b (sym e ∙ s)
 pub index-requires : goal.index-requires
 index-requires c =
     let e = rw (← c.self.view_is) at c.place.ensures in
-    let at = found c.self.inside.entries.items c.args.var (2 * c.args.var) c.in-Some.place c.place.result none c.self.invariant.trail.distinct (omega arith) e c.in-Some.is in
+    let at = found c.self.inside.entries.items c.args.var (2 * c.args.var) c.in-Some.place c.place.result none c.self.invariant.0.trail.distinct (omega arith) e c.in-Some.is in
     omega (arith, at.0, c.self.inside.entries.ok)
 
 pub index-requires-in-Some-place : goal.index-requires-in-Some-place
 index-requires-in-Some-place c =
     let e = rw (← c.self.view_is) at c.place-in-None.ensures in
-    let at = found c.self.inside.entries.items c.args.var (2 * c.args.var + 1) c.in-Some-place.place c.place-in-None.result none c.self.invariant.trail.distinct (omega arith) e c.in-Some-place.is in
+    let at = found c.self.inside.entries.items c.args.var (2 * c.args.var + 1) c.in-Some-place.place c.place-in-None.result none c.self.invariant.0.trail.distinct (omega arith) e c.in-Some-place.is in
     omega (arith, at.0, c.self.inside.entries.ok)
 
 pub returns-in-Some : goal.returns-in-Some
 returns-in-Some c =
     let e = rw (← c.self.view_is) at c.place.ensures in
-    let at = found c.self.inside.entries.items c.args.var (2 * c.args.var) c.in-Some.place c.place.result c.index.result.now c.self.invariant.trail.distinct (omega arith) e c.in-Some.is in
+    let at = found c.self.inside.entries.items c.args.var (2 * c.args.var) c.in-Some.place c.place.result c.index.result.now c.self.invariant.0.trail.distinct (omega arith) e c.in-Some.is in
     rw (← c.self.view_is) (ap Some c.index.ensures ∙ sym at.1)
 
 pub returns-in-Some-place : goal.returns-in-Some-place
 returns-in-Some-place c =
     let e = rw (← c.self.view_is) at c.place-in-None.ensures in
-    let at = found c.self.inside.entries.items c.args.var (2 * c.args.var + 1) c.in-Some-place.place c.place-in-None.result c.index-in-Some-place.result.now c.self.invariant.trail.distinct (omega arith) e c.in-Some-place.is in
+    let at = found c.self.inside.entries.items c.args.var (2 * c.args.var + 1) c.in-Some-place.place c.place-in-None.result c.index-in-Some-place.result.now c.self.invariant.0.trail.distinct (omega arith) e c.in-Some-place.is in
     rw (← c.self.view_is) (ap Some c.index-in-Some-place.ensures ∙ sym at.1)
 
 pub returns-in-None-place : goal.returns-in-None-place
