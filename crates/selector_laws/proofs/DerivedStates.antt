@@ -58,7 +58,7 @@ some_test terms test (of_attribute a) = some_attribute terms test a
 some_test terms test (pseudo_class sign x e colons touches names only row) = some_terms terms e
 some_test terms test (position sign x make argument e colons touches calls row reads is) = some_terms terms e
 
-some_simple : (terms : List Term) (simple : Simple) → IsSimple terms simple → 1 ≤ length terms
+pub some_simple : (terms : List Term) (simple : Simple) → IsSimple terms simple → 1 ≤ length terms
 some_simple terms simple (plain test t is) = some_test terms test t
 some_simple terms simple (negation sign function close inside test e colons touches calls word n closes is) = some_terms terms e
 
@@ -66,18 +66,18 @@ some_element : (terms : List Term) (element : Pseudo) → IsPseudoElement terms 
 some_element terms element (one_colon sign x e colons touches names row) = some_terms terms e
 some_element terms element (two_colons first second x e colons touches colons' touches' names row) = some_terms terms e
 
-some_simples : (terms : List Term) (simples : List Simple) → IsCompound terms simples → 1 ≤ length simples
+pub some_simples : (terms : List Term) (simples : List Simple) → IsCompound terms simples → 1 ≤ length simples
 some_simples terms simples (of_type x test t) = omega arith
 some_simples terms simples (of_simple ts simple s) = omega arith
 some_simples terms simples (more front rest some simple c touches s) = let longer = length-append some (simple ∷ []) in omega (arith, longer)
 
-last_gap-append : (xs ys : List Term) → 1 ≤ length ys → last_gap (xs ++ ys) ≡ last_gap ys
+pub last_gap-append : (xs ys : List Term) → 1 ≤ length ys → last_gap (xs ++ ys) ≡ last_gap ys
 last_gap-append [] ys some = refl
 last_gap-append (x ∷ []) [] some = absurd (omega arith)
 last_gap-append (x ∷ []) (y ∷ ys) some = refl
 last_gap-append (x ∷ z ∷ zs) ys some = last_gap-append (z ∷ zs) ys some
 
-or_universal_some : (c : List Simple) → 1 ≤ length c → or_universal c ≡ c
+pub or_universal_some : (c : List Simple) → 1 ≤ length c → or_universal c ≡ c
 or_universal_some [] some = absurd (omega arith)
 or_universal_some (c ∷ cs) some = refl
 

@@ -1,7 +1,10 @@
 mod Answered
 mod DerivedStates
 mod DerivedTests
+mod Examples
 mod KeptStates
 mod KeptTerms
 mod KeptTests
 mod Lists
+mod ReadStates
+mod ReadTests

@@ -1,6 +1,6 @@
 -- The grammar of selectors (Selectors 3, section 10.1), as what terms derive: without an order in which they are
 -- read, and without a limit.
-use Rattle.std.specs.Prelude.{◌≡◌, ◌||◌, true, false, reverse, List, [], ◌∷◌, ◌++◌, Option, Some, None, Ok, codes}
+use Rattle.std.specs.Prelude.{◌≡◌, ◌||◌, true, false, reverse, List, [], ◌∷◌, ◌++◌, Option, Some, None, Ok, codes, ◌↔◌, map, ℕ}
 use Rattle.css_model.specs.declared.position.AnB.{AnB}
 use Rattle.css_model.specs.declared.selector.Combinator.{Combinator}
 use Rattle.css_model.specs.declared.selector.Combinator.TheVariants.{Inside}
@@ -12,19 +12,21 @@ use Rattle.css_model.specs.declared.selector.Test.{Test}
 use Rattle.css_model.specs.declared.selector.Test.TheVariants.{Any, Id, Kind}
 use Rattle.css_model.specs.declared.token.Gap.{Gap}
 use Rattle.css_model.specs.declared.token.Gap.TheVariants as gap
+use Rattle.css_model.specs.declared.token.Lexeme.{Lexeme}
 use Rattle.css_model.specs.Documents.SelectorParts.{SelectorParts}
 use Rattle.css_model.specs.Lists.{same_text}
 use Rattle.css_model.specs.Selectors.Attributes.{attribute_test}
 use Rattle.css_model.specs.Selectors.Classes.{is_name}
 use Rattle.css_model.specs.Selectors.PseudoClasses.{plain_pseudo_classes, position_functions}
 use Rattle.css_model.specs.Selectors.PseudoElements.{is_pseudo_element, pseudo_elements}
-use Rattle.css_model.specs.Selectors.Reading.{selector_of_terms}
-use Rattle.css_model.specs.Selectors.Terms.{Term, combinator_of, op_of}
+use Rattle.css_model.specs.Selectors.Reading.{selector_of_lexemes, selector_of_terms}
+use Rattle.css_model.specs.Selectors.Terms.{Term, combinator_of, op_of, terms}
 use Rattle.css_model.specs.Selectors.Tokens.{equals_sign, is_function, is_gapless, is_id_hash, is_string, is_word, row_of}
 use Rattle.css_model.specs.Text.Characters.{close_round, close_square, colon, dot, open_square, star}
-use Rattle.css_model.specs.Text.Kept.{is_white_gap}
+use Rattle.css_model.specs.Text.Kept.{is_white_gap, solid}
 use Rattle.css_model.specs.Text.Lexemes.{is_delim_of, is_ident, is_sign_of}
 use Rattle.css_model.specs.Text.Names.{code_points, lower}
+use Rattle.selector_laws.specs.Limits.{KeepsLimits}
 
 -- what stands behind the last of these terms
 abbrev pub last_gap : List Term → Gap
@@ -122,3 +124,10 @@ pub record IsSelector (terms : List Term) (selector : SelectorParts) : Type 0 wh
 -- what is read is derived by the grammar
 abbrev pub ReadSelectorsAreDerived : Type 0
 ReadSelectorsAreDerived = (terms : List Term) (selector : SelectorParts) → selector_of_terms terms ≡ Ok selector → IsSelector terms selector
+
+-- a part of a prelude is read as a selector exactly where the grammar derives that one from its terms and it keeps
+-- to the limits
+abbrev pub SelectorsAreReadExactly : Type 0
+SelectorsAreReadExactly =
+    (source : List ℕ) (part : List Lexeme) (selector : SelectorParts) →
+    (selector_of_lexemes source part ≡ Ok selector) ↔ (IsSelector (terms (map (solid source) part)) selector × KeepsLimits selector)

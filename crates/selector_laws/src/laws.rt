@@ -1,6 +1,6 @@
 //! The laws. They do nothing when they run.
 
-ghost use Rattle.selector_laws.specs.Grammar.{ReadSelectorsAreDerived};
+ghost use Rattle.selector_laws.specs.Grammar.{ReadSelectorsAreDerived, SelectorsAreReadExactly};
 ghost use Rattle.selector_laws.specs.Limits.{ReadSelectorsKeepTheLimits};
 
 /// Each selector that is read is derived by the grammar of Selectors 3, from the very terms that it was read from.
@@ -14,4 +14,10 @@ pub fn read_selectors_are_derived()
 /// for presence and equality alone.
 pub fn read_selectors_keep_the_limits()
     ensures { ReadSelectorsKeepTheLimits }
+{}
+
+/// A part of a prelude is read as a selector exactly where the grammar derives that selector from its terms and it
+/// keeps to the limits.
+pub fn selectors_are_read_exactly()
+    ensures { SelectorsAreReadExactly }
 {}

@@ -4,4 +4,6 @@
 
 mod laws;
 
-pub use laws::{read_selectors_are_derived, read_selectors_keep_the_limits};
+pub use laws::{
+    read_selectors_are_derived, read_selectors_keep_the_limits, selectors_are_read_exactly,
+};
