@@ -1,5 +1,5 @@
 -- What a node of a shape lays.
-use Rattle.std.proofs.Common.{List, ap, arith, length, subst, suc, true, ℕ, ◌++◌, ◌-◌, ◌∙◌, ◌∷◌, ◌≡◌, ◌≤◌}
+use Rattle.std.proofs.Common.{List, ap, arith, length, subst, suc, true, ℕ, ◌++◌, ◌∙◌, ◌∷◌, ◌≡◌, ◌≤◌}
 use Rattle.std.proofs.lemmas.Bool.{eqb-true}
 use Rattle.css_model.specs.Documents.Features.{CanSuit}
 use Rattle.css_model.specs.Documents.SelectorParts.{SelectorParts}

@@ -1,5 +1,5 @@
 -- A walk from the first slot to the last one.
-use Rattle.std.proofs.Common.{List, [], arith, false, inl, inr, length, map, refl, subst, suc, sym, true, zero, ℕ, ◌++◌, ◌+◌, ◌<◌, ◌∙◌, ◌∷◌, ◌≡◌, ◌≢◌, ◌≤◌}
+use Rattle.std.proofs.Common.{List, [], arith, false, inl, inr, length, map, refl, subst, suc, sym, true, zero, ℕ, ◌++◌, ◌+◌, ◌<◌, ◌∙◌, ◌∷◌, ◌≡◌, ◌≤◌}
 use Rattle.std.proofs.lemmas.Bool.{false≢true}
 use Rattle.css_model.specs.declared.selector.Combinator.{Combinator}
 use Rattle.css_model.specs.declared.selector.Combinator.TheVariants.{Next}
