@@ -1,0 +1,6 @@
+mod Items
+mod Numbers
+mod Paths
+mod Sizes
+mod Tests
+mod Whole

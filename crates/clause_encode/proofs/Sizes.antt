@@ -1,0 +1,3 @@
+pub mod FormulaSizes
+pub mod Sizes
+pub mod TestSizes

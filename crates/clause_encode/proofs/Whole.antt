@@ -1,0 +1,5 @@
+pub mod Conditions
+pub mod Decided
+pub mod Filling
+pub mod Refusals
+pub mod Tables

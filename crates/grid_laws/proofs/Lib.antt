@@ -1,0 +1,3 @@
+mod FromShape
+mod ToShape
+mod Walks

@@ -1,0 +1,3 @@
+pub mod AtSlots
+pub mod Conditions
+pub mod SolvedShape

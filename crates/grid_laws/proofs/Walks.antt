@@ -1,0 +1,6 @@
+pub mod Laid
+pub mod Listing
+pub mod Pending
+pub mod Placed
+pub mod SlotNodes
+pub mod Walking

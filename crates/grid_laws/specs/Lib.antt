@@ -1,0 +1,4 @@
+pub mod Grid
+pub mod Numbers
+pub mod Solved
+pub mod Solving

@@ -1,0 +1,7 @@
+//! A shape fits two selectors exactly where all its conditions hold of nodes of a grid and of numbers: laws,
+//! each as the contract of a function that does nothing.
+#![tactic(auto)]
+
+mod solving;
+
+pub use solving::{shapes_are_solved, solved_has_a_shape};

@@ -1,0 +1,14 @@
+//! From nodes and numbers to a shape, and back.
+
+ghost use Rattle.grid_laws.specs.Solving.{SolvedHasAShape, ShapesAreSolved};
+
+/// Where all conditions hold of nodes and numbers, a shape fits both selectors.
+pub fn solved_has_a_shape()
+    ensures { SolvedHasAShape }
+{}
+
+/// Where a shape fits both selectors, all conditions hold of some nodes and numbers, and these numbers are as
+/// small as those of the shape.
+pub fn shapes_are_solved()
+    ensures { ShapesAreSolved }
+{}
