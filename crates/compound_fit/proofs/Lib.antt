@@ -9,4 +9,5 @@ mod KindParts
 mod Left
 mod Members
 mod NameParts
+mod TableSteps
 mod Whole

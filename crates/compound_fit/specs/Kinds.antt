@@ -3,11 +3,11 @@ use Rattle.std.specs.Prelude.{◌≡◌, ℕ, Bool, true, false, not, if◌then�
 use Rattle.std.specs.List.{All, list_all}
 use Rattle.css_model.specs.declared.selector.Simple.{Simple}
 use Rattle.css_model.specs.declared.selector.Test.{Test}
-use Rattle.css_model.specs.declared.selector.Test.TheVariants.{Any, Kind}
+use Rattle.css_model.specs.declared.selector.Test.TheVariants.{Kind}
 use Rattle.css_model.specs.Lists.{same_text}
 use Rattle.attr_values.specs.Value.{head_of}
 use Rattle.compound_fit.specs.FreeNames.{IsFirstFree}
-use Rattle.compound_fit.specs.Parts.{PassesKind}
+use Rattle.compound_fit.specs.Parts.{PassesKind, is_of_kind}
 
 -- a type that a test names, before others
 abbrev pub named_kind : Test → List (List ℕ) → List (List ℕ)
@@ -37,13 +37,8 @@ abbrev pub kind_holds : List ℕ → Test → Bool
 kind_holds kind (Kind name) = same_text kind name
 kind_holds kind _ = true
 
-abbrev pub is_of_kind_test : Test → Bool
-is_of_kind_test Any = true
-is_of_kind_test (Kind name) = true
-is_of_kind_test _ = false
-
 abbrev pub passes_kind : List ℕ → Simple → Bool
-passes_kind kind s = if is_of_kind_test s.test then (if s.negated then not (kind_holds kind s.test) else kind_holds kind s.test) else true
+passes_kind kind s = if is_of_kind s.test then (if s.negated then not (kind_holds kind s.test) else kind_holds kind s.test) else true
 
 abbrev pub passes_kinds : List ℕ → List Simple → Bool
 passes_kinds kind simples = list_all (passes_kind kind) simples

@@ -1,5 +1,6 @@
 pub mod Answers
 pub mod Attributes
+pub mod Conditions
 pub mod Fitting
 pub mod Flags
 pub mod FreeNames
@@ -8,3 +9,5 @@ pub mod Kinds
 pub mod Laws
 pub mod Messages
 pub mod Parts
+pub mod Table
+pub mod TableParts

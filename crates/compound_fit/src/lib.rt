@@ -9,6 +9,8 @@ mod free_name;
 mod id;
 mod kind;
 mod laws;
+mod table;
 
 pub use compound::{FitError, fit};
 pub use laws::{enough_code_points_are_left, parts_are_apart};
+pub use table::FitTable;
