@@ -9,5 +9,6 @@ mod KindParts
 mod Left
 mod Members
 mod NameParts
+mod Small
 mod TableSteps
 mod Whole

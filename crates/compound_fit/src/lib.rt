@@ -4,6 +4,7 @@
 mod answers;
 mod attributes;
 mod compound;
+mod conditions;
 mod flags;
 mod free_name;
 mod id;
@@ -12,5 +13,9 @@ mod laws;
 mod table;
 
 pub use compound::{FitError, fit};
+pub use conditions::is_fittable;
 pub use laws::{enough_code_points_are_left, parts_are_apart};
 pub use table::FitTable;
+
+#[cfg(test)]
+mod tests;
