@@ -4,17 +4,33 @@ ghost use Rattle.std.specs.Prelude.{◌≡◌};
 
 use css_model::Reason;
 use std::alloc::{AllocError, AllocFailed};
+use std::fmt;
 use thiserror::Error;
 
 /// Why a text is no selector of the profile.
 #[derive(Clone, Copy, Debug, PartialEq, Eq, Error)]
 pub enum SelError {
     /// The text is outside the profile, for the reason of this number.
-    #[error("outside the profile for reason {0}")]
     Outside(u32),
     /// There is not enough memory.
-    #[error("out of memory")]
     NoMemory,
+}
+
+impl fmt::Display for SelError {
+    ghost use Rattle.std.specs.Prelude.{Some};
+    ghost use Rattle.sel_parse.specs.Messages.{message};
+
+    ghost output = { λ error. Some (message error) };
+
+    fn fmt<W: fmt::Write>(&self, f: &mut fmt::Formatter<W>) -> fmt::Result {
+        match self {
+            SelError::Outside(reason) => {
+                let reason = *reason;
+                write!(f, "outside the profile for reason {reason}")
+            }
+            SelError::NoMemory => f.write_str("out of memory"),
+        }
+    }
 }
 
 /// The same, by the reason itself.

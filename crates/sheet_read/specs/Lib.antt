@@ -1,3 +1,4 @@
+pub mod Messages
 pub mod Placed
 pub mod Reading
 pub mod Steps

@@ -1,18 +1,36 @@
+//! Why a style sheet was not read.
+
 ghost use Rattle.std.specs.Prelude.{◌≡◌};
 
 use css_model::SheetFault;
 use std::alloc::{AllocError, AllocFailed};
+use std::fmt;
 use thiserror::Error;
 
 /// Why a style sheet was not read.
 #[derive(Debug, Drop, Error)]
 pub enum SheetError {
     /// The sheet has a fault, at a place of its text.
-    #[error("the style sheet is refused: {0}")]
     Fault(SheetFault),
     /// There is not enough memory.
-    #[error("out of memory")]
     NoMemory,
+}
+
+impl fmt::Display for SheetError {
+    ghost use Rattle.std.specs.Prelude.{Some};
+    ghost use Rattle.sheet_read.specs.Messages.{message};
+
+    ghost output = { λ error. Some (message error) };
+
+    fn fmt<W: fmt::Write>(&self, f: &mut fmt::Formatter<W>) -> fmt::Result {
+        match self {
+            SheetError::Fault(fault) => {
+                let fault = *fault;
+                write!(f, "the style sheet is refused: {fault}")
+            }
+            SheetError::NoMemory => f.write_str("out of memory"),
+        }
+    }
 }
 
 impl From<AllocError> for SheetError {
