@@ -1,5 +1,5 @@
--- Lists of numbers, and lists whose members may be missing.
-use Rattle.std.specs.Prelude.{ℕ, zero, suc, ◌==◌, ◌&&◌, Bool, true, false, List, [], ◌∷◌, Option, Some, None, nat_eq}
+-- Lists of numbers, and lists whose members may be errors.
+use Rattle.std.specs.Prelude.{ℕ, zero, suc, ◌==◌, ◌&&◌, Bool, true, false, List, [], ◌∷◌, Option, Some, None, Result, Ok, Err, nat_eq}
 use Rattle.std.specs.Cmp.Lexicographic.{pointwise}
 
 -- whether two texts are equal: names arrive decoded, and where HTML compares them without case, in
@@ -28,12 +28,12 @@ abbrev pub is_some : {A : Type 0} → Option A → Bool
 is_some None = false
 is_some (Some x) = true
 
--- a list where each of its members is there
-abbrev pub before_all : {A : Type 0} → Option A → Option (List A) → Option (List A)
-before_all None rest = None
-before_all (Some x) None = None
-before_all (Some x) (Some xs) = Some (x ∷ xs)
+-- the results of a list's members, or the first error among them
+abbrev pub before_all : {A E : Type 0} → Result A E → Result (List A) E → Result (List A) E
+before_all (Err e) rest = Err e
+before_all (Ok x) (Err e) = Err e
+before_all (Ok x) (Ok xs) = Ok (x ∷ xs)
 
-abbrev pub all_of : {A B : Type 0} → (A → Option B) → List A → Option (List B)
-all_of f [] = Some []
+abbrev pub all_of : {A B E : Type 0} → (A → Result B E) → List A → Result (List B) E
+all_of f [] = Ok []
 all_of f (x ∷ xs) = before_all (f x) (all_of f xs)

@@ -173,7 +173,7 @@ pub struct KeptRule {
     pub piece: Piece,
     /// Its declarations, in the order of the source.
     pub decls: Vec<Decl>,
-    /// Why its first selector outside the profile is outside.
+    /// Why its first selector outside the profile is outside: the number of the reason, from 1 to 10.
     pub reason: u32,
 }
 

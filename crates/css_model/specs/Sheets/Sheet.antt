@@ -7,6 +7,7 @@ use Rattle.css_model.specs.declared.fault.FaultKind.{FaultKind}
 use Rattle.css_model.specs.declared.fault.FaultKind.TheVariants.{TooLong, NotUtf8, BadString, BadUrl, EndInside, TooDeep, Namespace, TooManyItems, TooManyPairs}
 use Rattle.css_model.specs.declared.fault.SheetFault.{SheetFault}
 use Rattle.css_model.specs.Sheets.Limits.{max_bytes, max_depth, max_items, max_pairs}
+use Rattle.css_model.specs.declared.reason.Reason.{Reason}
 use Rattle.css_model.specs.declared.sheet.DeclItem.{DeclItem}
 use Rattle.css_model.specs.declared.sheet.Item.{Item}
 use Rattle.css_model.specs.declared.sheet.Item.TheVariants.{Rule, KeptRule, KeptBlock}
@@ -21,6 +22,7 @@ use Rattle.css_model.specs.Text.Names.{is_named}
 use Rattle.css_model.specs.Sheets.Declarations.{declarations}
 use Rattle.css_model.specs.Sheets.Items.{items, is_at_rule, is_whole}
 use Rattle.css_model.specs.Text.Lexemes.{closer_of, after_all, lexemes, piece_of, opens}
+use Rattle.css_model.specs.Selectors.Reasons.{number_of}
 use Rattle.css_model.specs.Sheets.Selectors.{selectors}
 use Rattle.css_model.specs.Text.Source.{text_at}
 use Rattle.css_model.specs.Text.Tokens.{tokens}
@@ -37,19 +39,16 @@ is_import source item = is_at_rule_named (codes "import") source item
 abbrev pub is_namespace : List ℕ → List Lexeme → Bool
 is_namespace source item = is_at_rule_named (codes "namespace") source item
 
--- why a rule is kept one of whose selectors is not read (own)
-abbrev pub not_read : ℕ
-not_read = 14
-
--- A rule whose selectors are all read is a style rule, and is dropped where it declares nothing; with
--- any other selector it is kept as it stands.
-abbrev pub rule_of : Piece → Option (List SelItem) → List DeclItem → Option Item
-rule_of piece None decls = Some (KeptRule (record { piece = piece; decls = map (λ d. d.decl) decls; reason = not_read }))
-rule_of piece (Some read) [] = None
-rule_of piece (Some read) (d ∷ decls) = Some (Rule (record { selectors = read; decls = d ∷ decls }))
+-- A rule whose selectors are all of the profile is a style rule, and is dropped where it declares nothing;
+-- with any other selector it is kept as it stands, for the reason against the first one (own).
+abbrev pub rule_of : Piece → Result (List SelItem) Reason → List DeclItem → Option Item
+rule_of piece (Err reason) decls =
+    Some (KeptRule (record { piece = piece; decls = map (λ d. d.decl) decls; reason = number_of reason }))
+rule_of piece (Ok read) [] = None
+rule_of piece (Ok read) (d ∷ decls) = Some (Rule (record { selectors = read; decls = d ∷ decls }))
 
 -- a rule with a nested entry may apply anything
-abbrev pub rule_or_block : Piece → Option (List SelItem) → Option (List DeclItem) → Option Item
+abbrev pub rule_or_block : Piece → Result (List SelItem) Reason → Option (List DeclItem) → Option Item
 rule_or_block piece read None = Some (KeptBlock piece)
 rule_or_block piece read (Some decls) = rule_of piece read decls
 
@@ -60,7 +59,7 @@ item_of source item =
     else rule_or_block (piece_of item) (selectors source item) (declarations source item)
 
 -- The items of a sheet. What stands before an `@import` decides whether that one counts (CSS Cascading 3,
--- section 3), so it is kept as it stands.
+-- section 2), so it is kept as it stands.
 abbrev pub read_items : List ℕ → List (List Lexeme) → List Item
 read_items source [] = []
 read_items source (item ∷ rest) =

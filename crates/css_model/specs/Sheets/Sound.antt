@@ -27,7 +27,7 @@ pub record IsSoundSelector (source : List ℕ) (s : SelItem) : Type 0 where
   pub part : List Lexeme
   pub item_in : Contains (raw_items source) item
   pub part_in : Contains (selector_parts item) part
-  pub reads : selector_item source part ≡ Some s
+  pub reads : selector_item source part ≡ Ok s
 
 -- an entry of a block of the source, which is not nested, reads as this declaration, at this place
 pub record IsSoundDeclaration (source : List ℕ) (d : DeclItem) : Type 0 where
