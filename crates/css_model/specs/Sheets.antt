@@ -7,6 +7,7 @@ pub mod KeptItems
 pub mod KeptRuleParts
 pub mod Limits
 pub mod Printed
+pub mod PrintedSelector
 pub mod RuleParts
 pub mod Selectors
 pub mod Sheet

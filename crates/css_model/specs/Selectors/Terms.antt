@@ -1,6 +1,6 @@
 -- The terms of a selector text: its tokens, of which a function of a position is one with its whole argument,
 -- and what counts of the white space and the comments between them (Selectors 3, sections 4 and 10).
-use Rattle.std.specs.Prelude.{ℕ, zero, suc, ◌==◌, ◌||◌, Bool, if◌then◌else◌, nat_lt, List, [], ◌∷◌, map, drop, Option, Some, None, Result, Err, is_some}
+use Rattle.std.specs.Prelude.{ℕ, zero, suc, ◌==◌, not, ◌&&◌, ◌||◌, Bool, if◌then◌else◌, nat_lt, List, [], ◌∷◌, map, drop, Option, Some, None, Result, Err, is_some}
 use Rattle.std.specs.List.{position_or_len}
 use Rattle.css_model.specs.declared.position.AnB.{AnB}
 use Rattle.css_model.specs.declared.reason.Reason.{Reason}
@@ -13,7 +13,7 @@ use Rattle.css_model.specs.declared.token.Gap.{Gap}
 use Rattle.css_model.specs.declared.token.Gap.TheVariants as gap
 use Rattle.css_model.specs.declared.token.TokenKind.{TokenKind}
 use Rattle.css_model.specs.declared.token.TokenKind.TheVariants as kind
-use Rattle.css_model.specs.Text.Characters.{close_square, colon, dot, greater_than, open_square, plus, star}
+use Rattle.css_model.specs.Text.Characters.{close_round, close_square, colon, dot, greater_than, open_square, plus, star}
 use Rattle.css_model.specs.Text.Lexemes.{is_delim_of}
 use Rattle.css_model.specs.Text.Kept.{Solid}
 use Rattle.css_model.specs.Text.Lexemes.{is_sign_of}
@@ -48,13 +48,13 @@ white_alone gap.White = gap.White
 white_alone _ = gap.Nothing
 
 -- What counts of the gap between a token and the next one, with so many brackets open: white space behind `.`
--- and `:`; inside brackets whatever stands behind the first sign of an operator, and nothing else; outside of
--- them white space, but not beside a combinator. At the end nothing counts.
+-- and `:`; inside brackets whatever stands behind the first sign of an operator, which `*` before `)` is not, and
+-- nothing else; outside of them white space, but not beside a combinator. At the end nothing counts.
 abbrev pub counted_gap : ℕ → TokenKind → Gap → Option TokenKind → Gap
 counted_gap depth k g None = gap.Nothing
 counted_gap depth k g (Some next) =
     if is_delim_of dot k || is_sign_of colon k then white_alone g
-    else if nat_lt 0 depth then (if is_some (op_of k) then g else gap.Nothing)
+    else if nat_lt 0 depth then (if is_some (op_of k) && not (is_sign_of close_round next) then g else gap.Nothing)
     else if is_some (combinator_of k) || is_some (combinator_of next) then gap.Nothing
     else white_alone g
 

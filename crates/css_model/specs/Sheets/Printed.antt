@@ -7,14 +7,16 @@ use Rattle.css_model.specs.declared.sheet.Item.{Item}
 use Rattle.css_model.specs.declared.sheet.Item.TheVariants.{Rule, KeptRule, KeptBlock}
 use Rattle.css_model.specs.declared.sheet.SelItem.{SelItem}
 use Rattle.css_model.specs.Text.Characters.{comma, colon, semicolon, open_curly, close_curly, space}
+use Rattle.css_model.specs.Sheets.PrintedSelector.{selector_text}
 use Rattle.css_model.specs.Sheets.RuleParts.{RuleParts}
+use Rattle.css_model.specs.Text.Kept.{solid}
 use Rattle.css_model.specs.Text.Source.{text_at}
 use Rattle.css_model.specs.Sheets.Spelling.{tokens_in, kept_text}
 use Rattle.css_model.specs.Text.Tokens.{byte_order_mark}
 
--- the tokens of a selector, without the comments between them
+-- the text of the tokens of a selector
 abbrev pub printed_selector : List ℕ → SelItem → List ℕ
-printed_selector source s = flat_map (λ x. text_at source x.span) (tokens_in source s.piece)
+printed_selector source s = selector_text (map (solid source) (tokens_in source s.piece))
 
 abbrev pub importance : Bool → List ℕ
 importance important = if important then codes "!important" else []
