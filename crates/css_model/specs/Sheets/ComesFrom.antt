@@ -13,14 +13,14 @@ abbrev pub pair_count : List Item → ℕ
 pair_count [] = 0
 pair_count (item ∷ items) = pairs_of item + pair_count items
 
--- Items of which the kept ones are those of others, in their order, with a rule only where a rule stood.
+-- Items of which the kept ones are those of others, in their order, with rules only where a rule stood.
 abbrev pub Follows : List Item → List Item → Type 0
 Follows [] [] = ⊤
 Follows (item ∷ new) [] = ⊥
 Follows [] ((Rule r) ∷ old) = Follows [] old
 Follows [] ((KeptRule k) ∷ old) = ⊥
 Follows [] ((KeptBlock p) ∷ old) = ⊥
-Follows ((Rule q) ∷ new) ((Rule r) ∷ old) = Follows new old ⊎ Follows ((Rule q) ∷ new) old
+Follows ((Rule q) ∷ new) ((Rule r) ∷ old) = Follows new ((Rule r) ∷ old) ⊎ Follows ((Rule q) ∷ new) old
 Follows ((KeptRule j) ∷ new) ((Rule r) ∷ old) = Follows ((KeptRule j) ∷ new) old
 Follows ((KeptBlock o) ∷ new) ((Rule r) ∷ old) = Follows ((KeptBlock o) ∷ new) old
 Follows ((Rule q) ∷ new) ((KeptRule k) ∷ old) = ⊥

@@ -116,16 +116,24 @@ read_from source its good e = record {
         origins source good (raw_items source) stand.each stand.order
         (find_none (is_namespace source) (raw_items source) (no_map (λ item. (piece_of item).start) (find (is_namespace source) (raw_items source)) tests.no_namespace))
 
+-- one more rule to stand at
+follows_a_rule : (its old : List Item) (r : RuleParts) → Follows its old → Follows its ((Rule r) ∷ old)
+follows_a_rule [] old r f = f
+follows_a_rule ((Rule q) ∷ its) old r f = inr f
+follows_a_rule ((KeptRule j) ∷ its) old r f = f
+follows_a_rule ((KeptBlock o) ∷ its) old r f = f
+
 pub follows_itself : (its : List Item) → Follows its its
 follows_itself [] = tt
-follows_itself ((Rule r) ∷ its) = inl (follows_itself its)
+follows_itself ((Rule r) ∷ its) = inl (follows_a_rule its its r (follows_itself its))
 follows_itself ((KeptRule k) ∷ its) = (refl, follows_itself its)
 follows_itself ((KeptBlock p) ∷ its) = (refl, follows_itself its)
 
 -- two neighbouring rules become one
 pub follows_joined : (before : List Item) (upper lower joined : RuleParts) (behind : List Item) → Follows (before ++ (Rule joined) ∷ behind) (before ++ (Rule upper) ∷ (Rule lower) ∷ behind)
-follows_joined [] upper lower joined behind = inr (inl (follows_itself behind))
-follows_joined ((Rule r) ∷ before) upper lower joined behind = inl (follows_joined before upper lower joined behind)
+follows_joined [] upper lower joined behind = inr (inl (follows_a_rule behind behind lower (follows_itself behind)))
+follows_joined ((Rule r) ∷ before) upper lower joined behind =
+    inl (follows_a_rule (before ++ (Rule joined) ∷ behind) (before ++ (Rule upper) ∷ (Rule lower) ∷ behind) r (follows_joined before upper lower joined behind))
 follows_joined ((KeptRule k) ∷ before) upper lower joined behind = (refl, follows_joined before upper lower joined behind)
 follows_joined ((KeptBlock p) ∷ before) upper lower joined behind = (refl, follows_joined before upper lower joined behind)
 
@@ -135,7 +143,7 @@ imports_follow source (item ∷ its) [] f = absurd f
 imports_follow source [] ((Rule r) ∷ old) f = imports_follow source [] old f
 imports_follow source [] ((KeptRule k) ∷ old) f = absurd f
 imports_follow source [] ((KeptBlock p) ∷ old) f = absurd f
-imports_follow source ((Rule q) ∷ its) ((Rule r) ∷ old) (inl f) = imports_follow source its old f
+imports_follow source ((Rule q) ∷ its) ((Rule r) ∷ old) (inl f) = imports_follow source its ((Rule r) ∷ old) f
 imports_follow source ((Rule q) ∷ its) ((Rule r) ∷ old) (inr f) = imports_follow source ((Rule q) ∷ its) old f
 imports_follow source ((KeptRule j) ∷ its) ((Rule r) ∷ old) f = imports_follow source ((KeptRule j) ∷ its) old f
 imports_follow source ((KeptBlock o) ∷ its) ((Rule r) ∷ old) f = imports_follow source ((KeptBlock o) ∷ its) old f
@@ -166,11 +174,8 @@ in_order source (item ∷ its) [] f order = absurd f
 in_order source [] ((Rule r) ∷ old) f order = tt
 in_order source [] ((KeptRule k) ∷ old) f order = absurd f
 in_order source [] ((KeptBlock p) ∷ old) f order = absurd f
-in_order source ((Rule q) ∷ its) ((Rule r) ∷ old) (inl f) order = first_follows source its old (Rule q) f (in_order source its old f order.2) order.0 (rule_ends old)
-  where
-    rule_ends : (old : List Item) → EndsBefore source old (Rule q)
-    rule_ends [] = tt
-    rule_ends (next ∷ old) = refl
+in_order source ((Rule q) ∷ its) ((Rule r) ∷ old) (inl f) order =
+    first_follows source its ((Rule r) ∷ old) (Rule q) f (in_order source its ((Rule r) ∷ old) f order) order.0 refl
 in_order source ((Rule q) ∷ its) ((Rule r) ∷ old) (inr f) order = in_order source ((Rule q) ∷ its) old f order.2
 in_order source ((KeptRule j) ∷ its) ((Rule r) ∷ old) f order = in_order source ((KeptRule j) ∷ its) old f order.2
 in_order source ((KeptBlock o) ∷ its) ((Rule r) ∷ old) f order = in_order source ((KeptBlock o) ∷ its) old f order.2
