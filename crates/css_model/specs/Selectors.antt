@@ -4,6 +4,7 @@ pub mod Attributes
 pub mod Classes
 pub mod Compounds
 pub mod Negations
+pub mod Profile
 pub mod PseudoClasses
 pub mod PseudoElements
 pub mod Reading
