@@ -1,3 +1,4 @@
 pub mod ForCallers
 mod Same
+mod SameExamples
 mod SameFeatures

@@ -4,5 +4,7 @@ pub mod Document
 pub mod FeatureParts
 pub mod Features
 pub mod Matching
+pub mod RunDocumentParts
+pub mod RunDocuments
 pub mod SelectorParts
 pub mod Specificity

@@ -3,6 +3,7 @@
 
 mod bytes;
 mod counting;
+mod example;
 mod family;
 mod fault;
 mod features;
@@ -17,6 +18,7 @@ mod token;
 
 pub use bytes::Bytes;
 pub use counting::specificity;
+pub use example::{Example, RunDocument, RunLine};
 pub use family::Family;
 pub use fault::{FaultKind, SheetFault};
 pub use features::Features;

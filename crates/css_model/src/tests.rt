@@ -1,8 +1,9 @@
 //! Copies, hashes, and what tells values apart.
 
 use crate::{
-    AttrTest, Bytes, Combinator, Compound, Decl, DeclItem, Family, Features, Item, KeptRule, Op,
-    Piece, Pseudo, Rule, SelItem, Selector, Sheet, Simple, Test, Text,
+    AttrTest, Bytes, Combinator, Compound, Decl, DeclItem, Example, Family, Features, Item,
+    KeptRule, Op, Piece, Pseudo, Rule, RunDocument, RunLine, SelItem, Selector, Sheet, Simple,
+    Test, Text,
 };
 use smallvec::SmallVec;
 use std::alloc::{AllocError, Global};
@@ -163,6 +164,45 @@ fn copies_features(rt: HostRuntime) -> Result<(), Fail> {
     assert_eq!(rt; copied, original);
     copied.flags = 4;
     assert_ne!(rt; copied, original);
+    Ok(())
+}
+
+/// `<x>` with so many `<a>` side by side in it, the first of which is marked.
+fn example(alloc: Global, count: u32) -> Result<Example, AllocError> {
+    let mut lines = Vec::new(alloc);
+    for (depth, count, word) in [(0, 1, "x"), (1, count, "a")] {
+        let element = Features {
+            kind: text(alloc, word)?,
+            attrs: Vec::new(alloc),
+            flags: 0,
+            text: false,
+        };
+        lines.push(RunLine {
+            depth,
+            count,
+            element,
+        })?;
+    }
+    let doc = RunDocument {
+        root_is_child: false,
+        lines,
+    };
+    Ok(Example {
+        doc,
+        marked: 1,
+        pseudo: None,
+    })
+}
+
+#[test]
+fn copies_examples(rt: HostRuntime) -> Result<(), Fail> {
+    let alloc = rt.alloc();
+    let original = example(alloc, 1)?;
+    let mut copied = original.copy()?;
+    assert_eq!(rt; copied, original);
+    copied.marked = 0;
+    assert_ne!(rt; copied, original);
+    assert_ne!(rt; example(alloc, 2)?, original);
     Ok(())
 }
 
