@@ -3,6 +3,7 @@ mod Apart
 mod Bits
 mod ByParts
 mod FlagParts
+pub mod ForCallers
 mod FreeNames
 mod IdParts
 mod KindParts

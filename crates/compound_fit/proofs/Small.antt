@@ -76,7 +76,7 @@ plain_one Root w rest plain all = all
 plain_one Empty w rest plain all = all
 plain_one (State flag) w rest plain all = all
 
-plain_all : (simples : List Simple) → has_plain_tests simples ≡ true → HasPlainIds simples
+pub plain_all : (simples : List Simple) → has_plain_tests simples ≡ true → HasPlainIds simples
 plain_all [] plain = All-nil (λ t. is_plain t.0.op ≡ true)
 plain_all (s ∷ simples) plain =
     let both = and_parts (is_plain_id s.test) (has_plain_tests simples) plain in

@@ -2,6 +2,7 @@ mod Answered
 mod DerivedStates
 mod DerivedTests
 mod Examples
+pub mod ForCallers
 mod KeptStates
 mod KeptTerms
 mod KeptTests

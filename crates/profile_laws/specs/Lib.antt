@@ -1,0 +1,2 @@
+pub mod Fittable
+pub mod Limited
