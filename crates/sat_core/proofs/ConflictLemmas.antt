@@ -11,10 +11,10 @@ use Rattle.cnf.proofs.ForCallers.{list_all-get, same-refl, any-witness, all-amon
 use Rattle.sat_trail.specs.declared.entry.Entry.{Entry}
 use Rattle.sat_trail.specs.Trail.{Assignment, lits, entry_of, level_in, up_to, IsTrail}
 use Rattle.sat_trail.proofs.ForCallers.{below-get, entry_of-at, variable-before, no-both, rise-top, rise-mono, decided-above, among-up_to, up_to-among}
-use Rattle.sat_core.specs.Numbered.{Numbered, clauses_of}
-use Rattle.sat_core.specs.Search.{is_false, RestsBelow, IsConflict}
+use Rattle.sat_watch.specs.Numbered.{Numbered, clauses_of}
+use Rattle.sat_watch.specs.Soundness.{is_false, RestsBelow, IsConflict}
 use Rattle.sat_core.specs.Analysis.{is_marked, marked, marked_at, MarkedWithin, IsResolved}
-use Rattle.sat_core.proofs.NumberLemmas.{under-at}
+use Rattle.sat_watch.proofs.ForCallers.{under-at}
 use Rattle.sat_core.proofs.MarkLemmas.{is_of, marked_at-unset, none-marked, some-marked}
 use Rattle.sat_core.proofs.ResolveLemmas.{place-within}
 

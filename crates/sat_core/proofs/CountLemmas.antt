@@ -11,7 +11,8 @@ use Rattle.cnf.specs.declared.lit.Lit.{Lit}
 use Rattle.cnf.specs.Lits.{variable, positive, negation, same, is_among, is_below, are_below}
 use Rattle.cnf.specs.Propagation.{is_open, is_consistent, is_subsumed, EachLogged}
 use Rattle.cnf.proofs.ForCallers.{parity, number-eq, negation-even, same-refl, all-among, all-from}
-use Rattle.sat_core.specs.Ledgers.{is_nonempty, are_nonempty, LedgerIsShort}
+use Rattle.sat_watch.specs.Nonempty.{is_nonempty, are_nonempty}
+use Rattle.sat_core.specs.Ledgers.{LedgerIsShort}
 
 digit : List Lit → ℕ → ℕ
 digit c v = cond (is_among c (positive v)) 1 (cond (is_among c (negation (positive v))) 2 0)

@@ -12,11 +12,11 @@ use Rattle.cnf.proofs.ForCallers.{is_below-negation, list_all-append-from, same-
 use Rattle.sat_trail.specs.declared.entry.Entry.{Entry}
 use Rattle.sat_trail.specs.Trail.{Assignment, lits, variables, up_to, is_up_to, undone_to, RiseTo, IsTrail}
 use Rattle.sat_trail.proofs.ForCallers.{head-apart, lits-get, among-place, no-both, rise-none, rise-top, up_to-up_to, up_to-among, not-up_to, in-up_to}
-use Rattle.sat_core.specs.Numbered.{Numbered, clauses_of}
-use Rattle.sat_core.specs.Search.{Implies, Reasoned, IsSound}
-use Rattle.sat_core.specs.Ledgers.{is_nonempty}
+use Rattle.sat_watch.specs.Numbered.{Numbered, clauses_of}
+use Rattle.sat_watch.specs.Soundness.{Implies, Reasoned, IsSound}
+use Rattle.sat_watch.specs.Nonempty.{is_nonempty}
 use Rattle.sat_core.specs.Analysis.{is_marked, marked, IsResolved}
-use Rattle.sat_core.proofs.NumberLemmas.{under-append, clauses_of-push}
+use Rattle.sat_watch.proofs.ForCallers.{clauses_of-push, negation-injective, reasoned-wider, reasoned-up_to}
 use Rattle.sat_core.proofs.ForcingLemmas.{not_subsumed-from_adds}
 use Rattle.sat_core.proofs.MarkLemmas.{marked-among, among-marked}
 use Rattle.sat_core.proofs.ResolveLemmas.{place-within}
@@ -41,9 +41,6 @@ marked-below n seen (x ∷ xs) h =
     one : (b : Bool) → IsTrue (is_below n (negation x)) → IsTrue (are_below n (marked seen xs)) → IsTrue (are_below n (cond b (negation x ∷ marked seen xs) (marked seen xs)))
     one true h r = and_from _ _ h r
     one false h r = r
-
-negation-injective : (a b : Lit) → negation a ≡ negation b → a ≡ b
-negation-injective a b e = sym (negation-twice a) ∙ (ap negation e ∙ negation-twice b)
 
 pub marked-distinct : (seen : List Bool) (es : List Entry) → IsDistinct eqb (variables es) → IsTrue (is_distinct (marked seen (lits es)))
 marked-distinct seen [] d = refl
@@ -130,24 +127,6 @@ nonempty-marked formula t seen at r =
 
 -- ---- after the levels are taken back
 
-pub reasoned-up_to : (ns : List Numbered) (n1 : Numbered) (before : List Lit) (l : ℕ) (es : List Entry) (n m : ℕ) → RiseTo l es n → Reasoned ns before es → Reasoned (ns ++ n1 ∷ []) before (up_to m es)
-reasoned-up_to ns n1 before l [] n m h r = tt
-reasoned-up_to ns n1 before l (x ∷ xs) n m h r =
-    let P : List Entry → Type 0 = λ ys. Reasoned (ns ++ n1 ∷ []) before ys in
-    elim (cases_Bool (is_up_to m x)) [
-      | inl t ↦ subst P (sym (cond-true (is_up_to m x) (x ∷ up_to m xs) (up_to m xs) t)) (wider x.reason r.0, reasoned-up_to ns n1 (before ++ x.lit ∷ []) x.level xs n m h.1 r.1)
-      | inr t ↦ subst P (sym (cond-false (is_up_to m x) (x ∷ up_to m xs) (up_to m xs) t ∙ rise-none x.level xs n m h.1 (leb-false x.level m t))) tt
-    ]
-  where
-    wider : (o : Option ℕ) → MatchOption o (Unit {0}) (λ at. Implies ns before x.lit at) → MatchOption o (Unit {0}) (λ at. Implies (ns ++ n1 ∷ []) before x.lit at)
-    wider None h = tt
-    wider (Some at) i = record {
-      clause = i.clause;
-      is_under = under-append ns (n1 ∷ []) at i.clause i.is_under;
-      holds_it = i.holds_it;
-      others = i.others;
-    }
-
 -- the clause has two open literals below the level to go back to
 two_open-marked : (formula : List (List Lit)) (t : Assignment) (seen : List Bool) (at back n : ℕ) (d : Entry) → IsTrail t → IsResolved formula t seen at → IsBack t.entries seen at back → n < back → IsTrue (has_two_open (lits (up_to n t.entries)) (marked seen (lits t.entries)))
 two_open-marked formula t seen at back n d h r (inl z) k = absurd (omega arith)
@@ -185,7 +164,7 @@ sound-learned ns n1 t seen at back h s r b low e =
     let formula = clauses_of ns in
     let more : clauses_of (ns ++ n1 ∷ []) ≡ formula ++ clause ∷ [] = clauses_of-push ns n1 ∙ ap (λ c. formula ++ c ∷ []) e in
     record {
-      reasons = reasoned-up_to ns n1 [] 0 t.entries t.level back h.rise s.reasons;
+      reasons = reasoned-wider ns (n1 ∷ []) [] (up_to back t.entries) (reasoned-up_to ns [] 0 t.entries t.level back h.rise s.reasons);
       rests =
           λ n k.
           let P : List Entry → Type 0 = λ es. IsTrue (is_at_rest (formula ++ clause ∷ []) (lits es)) in

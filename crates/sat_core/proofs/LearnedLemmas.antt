@@ -14,11 +14,12 @@ use Rattle.sat_trail.specs.Trail.{Assignment, lits, variables, entry_of, level_i
 use Rattle.sat_trail.proofs.ForCallers.{some≢none, in_some, lit-at, entry_of-at, lits-get, variable-before, up_to-take, up_to-up_to, up_to-among, rise-none, rise-sorted, rise-top, rise-mono, rise-up_to, below-take, distinct-take}
 use Rattle.sat_arena.specs.Arena.{WatchedClause, WatchedClauses, indexes, clause_of, clause_at, last_or, last_unlike_or, last_watch, next_watch, new_clause, IsArena}
 use Rattle.sat_core.specs.Analysis.{is_marked, marked, AreUnmarked, IsMarkedLast, IsResolved}
-use Rattle.sat_core.specs.Watches.{Backs, IsBacked, ArePresent, IsReady, head_after}
+use Rattle.sat_watch.specs.Watches.{Backs, IsBacked, ArePresent, IsReady}
+use Rattle.sat_core.specs.Analysis.{head_after}
 use Rattle.sat_core.proofs.ConflictLemmas.{top-at, others-at}
 use Rattle.sat_core.proofs.LearnLemmas.{IsBack}
 use Rattle.sat_core.proofs.ResolveLemmas.{place-within}
-use Rattle.sat_core.proofs.WatchLemmas.{backs-undo, backed-less}
+use Rattle.sat_watch.proofs.ForCallers.{backs-undo, backed-less, clause_of-push, clause_of-new, trail-undone, front-same}
 
 -- ---- the level to go back to
 
@@ -77,26 +78,6 @@ front-inside l (x ∷ xs) n m (suc j) d h b low =
     let inside = rest.0 in
     subst P (sym is) (omega arith, (rest.1.0, ap (λ ys. x ∷ ys) rest.1.1))
 
-prefix : (l : ℕ) (es : List Entry) (n m : ℕ) → RiseTo l es n → (k : ℕ) × (up_to m es ≡ take k es)
-prefix l [] n m h = (0, refl)
-prefix l (x ∷ xs) n m h =
-    elim (cases_Bool (is_up_to m x)) [
-      | inl t ↦ let rest = prefix x.level xs n m h.1 in (suc rest.0, cond-true (is_up_to m x) (x ∷ up_to m xs) (up_to m xs) t ∙ ap (λ ys. x ∷ ys) rest.1)
-      | inr t ↦ (0, cond-false (is_up_to m x) (x ∷ up_to m xs) (up_to m xs) t ∙ rise-none x.level xs n m h.1 (leb-false x.level m t))
-    ]
-
-pub trail-undone : (t : Assignment) (m : ℕ) → IsTrail t → m ≤ t.level → IsTrail (undone_to t m)
-trail-undone t m h low =
-    let k = prefix 0 t.entries t.level m h.rise in
-    let D : List Entry → Type 0 = λ es. IsDistinct eqb (variables es) in
-    let B : List Entry → Type 0 = λ es. IsTrue (are_below t.vars (lits es)) in
-    record {
-      small = h.small;
-      in_range = subst B (sym k.1) (below-take t.vars k.0 t.entries h.in_range);
-      distinct = subst D (sym k.1) (distinct-take k.0 t.entries h.distinct);
-      rise = rise-up_to 0 t.entries t.level m h.rise (omega arith) low;
-    }
-
 front-wider : (es : List Entry) (j k : ℕ) (l : Lit) → j ≤ k → IsTrue (is_among (lits (take j es)) l) → IsTrue (is_among (lits (take k es)) l)
 front-wider es zero k l b m = absurd (false≢true m)
 front-wider [] (suc j) k l b m = absurd (false≢true m)
@@ -111,31 +92,6 @@ not-before t j at m d other h low b front n k =
     let there = up_to-among (take j t.entries) n (negation (negation l)) (subst P front k) in
     let Q : Lit → Type 0 = λ x. IsTrue (is_among (lits (take at t.entries)) x) in
     absurd (variable-before t.entries at d l h.distinct b (subst Q (negation-twice l) (front-wider t.entries j at (negation (negation l)) low there)) refl)
-
--- ---- the clauses of the arena
-
-contains-tail : (x : ℕ) (xs : List ℕ) (c : ℕ) → Contains (x ∷ xs) c → (x ≡ c → ⊥) → Contains xs c
-contains-tail x xs c m ne = at m.0 m.1 m.2
-  where
-    at : (k : ℕ) → k < length (x ∷ xs) → get_or (x ∷ xs) k c ≡ c → Contains xs c
-    at zero b e = absurd (ne e)
-    at (suc k) b e = (k, omega arith, e)
-
-clause_of-push : (ks : List WatchedClause) (k : WatchedClause) (d : ℕ) → Contains (map (λ (x : WatchedClause). x.index) ks) d → clause_of (ks ++ k ∷ []) d ≡ clause_of ks d
-clause_of-push [] k d m = absurd (let b = m.1 in omega arith)
-clause_of-push (x ∷ xs) k d m =
-    elim (cases_eq x.index d) [
-      | inl e ↦ cond-true (eqb x.index d) x (clause_of (xs ++ k ∷ []) d) (eq-eqb _ _ e) ∙ sym (cond-true (eqb x.index d) x (clause_of xs d) (eq-eqb _ _ e))
-      | inr ne ↦
-          cond-false (eqb x.index d) x (clause_of (xs ++ k ∷ []) d) (ne_eqb _ _ ne)
-          ∙ (clause_of-push xs k d (contains-tail x.index _ d m ne) ∙ sym (cond-false (eqb x.index d) x (clause_of xs d) (ne_eqb _ _ ne)))
-    ]
-
-clause_of-new : (ks : List WatchedClause) (k : WatchedClause) → (Contains (map (λ (x : WatchedClause). x.index) ks) k.index → ⊥) → clause_of (ks ++ k ∷ []) k.index ≡ k
-clause_of-new [] k n = cond-true (eqb k.index k.index) k (clause_of [] k.index) (eq-eqb _ _ refl)
-clause_of-new (x ∷ xs) k n =
-    cond-false (eqb x.index k.index) x (clause_of (xs ++ k ∷ []) k.index) (ne_eqb _ _ (λ e. n (0, omega arith, e)))
-    ∙ clause_of-new xs k (λ m. let b = m.1 in n (suc m.0, omega arith, m.2))
 
 -- ---- the whole step
 
@@ -197,17 +153,6 @@ watching formula t seen at clause o d h r e m =
         variable-before es at d (get_or es j d).lit h.distinct b (subst P at_j (lits-get (take at es) j d inside)) (ap variable lit_same) in
         let is : next_watch clause ≡ x = unlike ∙ (ap (last_unlike_or l l) (split ∙ ap (λ y. ys ++ L y ∷ []) at_j) ∙ unlike-other l l x ys apart) in
         (is, λ q. apart (sym is ∙ (q ∙ one)))
-
--- the entries below the level to go back to were all looked at
-front-same : (t : Assignment) (head m : ℕ) → IsTrail t → ArePresent t head → head ≤ length t.entries → m < t.level → up_to m t.entries ≡ up_to m (take head t.entries)
-front-same t head m h p b low =
-    let d : Entry = record { lit = record { 0 = 0 }; level = 0; reason = None } in
-    elim (cases_lt head (length t.entries)) [
-      | inl k ↦
-          let is = p head (get_or t.entries head d) (omega arith) (slice_get-get_or t.entries head d k) in
-          up_to-take 0 t.entries t.level m head d h.rise k (omega arith)
-      | inr k ↦ ap (up_to m) (sym (take_all head t.entries k))
-    ]
 
 pub ready-learned : (formula : List (List Lit)) (a b : WatchedClauses) (t : Assignment) (seen : List Bool) (at back head c : ℕ) (o : Option ℕ) (clause : List Lit) → IsReady a t head → 0 < t.level → IsResolved formula t seen at → MatchOption o (AreUnmarked t.entries seen 0 at) (λ place. IsMarkedLast t.entries seen place at) → MatchOption o (back ≡ 0) (λ k. (e : Entry) → slice_get t.entries k ≡ Some e → e.level ≡ back) → clause ≡ marked seen (lits t.entries) → IsArena b → b.clauses ≡ a.clauses ++ new_clause c clause ∷ [] → (Contains (indexes a) c → ⊥) → IsReady b (undone_to t back) (head_after o (length (up_to back t.entries)))
 ready-learned formula a b t seen at back head c o clause r pos res m l e arena clauses fresh =

@@ -12,10 +12,10 @@ use Rattle.cnf.specs.Propagation.{is_refuted, finds, finds_each, IsForced, is_op
 use Rattle.cnf.proofs.ForCallers.{list_all-append-from, list_all-mono, any-among, any-witness, any-at, among-negations, follows-from_forced}
 use Rattle.sat_trail.specs.declared.entry.Entry.{Entry}
 use Rattle.sat_trail.specs.Trail.{lits}
-use Rattle.sat_core.specs.Numbered.{Numbered, clauses_of}
-use Rattle.sat_core.specs.Search.{is_false, Implies, Reasoned, IsConflict}
-use Rattle.sat_core.specs.Ledgers.{is_nonempty}
-use Rattle.sat_core.proofs.NumberLemmas.{under-at}
+use Rattle.sat_watch.specs.Numbered.{Numbered, clauses_of}
+use Rattle.sat_watch.specs.Soundness.{is_false, Implies, Reasoned, IsConflict}
+use Rattle.sat_watch.specs.Nonempty.{is_nonempty}
+use Rattle.sat_watch.proofs.ForCallers.{under-at}
 
 -- a clause's literals false under the trail are refuted by it
 refuted-from_false : (clause trail : List Lit) (l : Lit) → IsTrue (is_false trail l) → IsTrue (is_refuted clause trail l)

@@ -1,16 +1,9 @@
 pub mod ConflictLemmas
 pub mod CountLemmas
-pub mod DecideLemmas
 pub mod ForcingLemmas
 pub mod LearnLemmas
 pub mod LearnedLemmas
 pub mod LedgerLemmas
 pub mod MarkLemmas
-pub mod NumberLemmas
-pub mod PartnerLemmas
 pub mod ResolveLemmas
-pub mod ShortLemmas
 pub mod SolveLemmas
-pub mod StepLemmas
-pub mod VisitLemmas
-pub mod WatchLemmas

@@ -12,10 +12,10 @@ use Rattle.cnf.proofs.ForCallers.{variable-negation, same-eq, same-from_eq, any-
 use Rattle.sat_trail.specs.declared.entry.Entry.{Entry}
 use Rattle.sat_trail.specs.Trail.{lits, variables}
 use Rattle.sat_trail.proofs.ForCallers.{one-literal, lits-take, lits-get, variable-before}
-use Rattle.sat_core.specs.Numbered.{Numbered, clauses_of}
-use Rattle.sat_core.specs.Search.{is_false, Implies, Reasoned, IsConflict}
+use Rattle.sat_watch.specs.Numbered.{Numbered, clauses_of}
+use Rattle.sat_watch.specs.Soundness.{is_false, Implies, Reasoned, IsConflict}
 use Rattle.sat_core.specs.Analysis.{is_marked, marked, has_variable, MarkedWithin}
-use Rattle.sat_core.proofs.NumberLemmas.{under-at}
+use Rattle.sat_watch.proofs.ForCallers.{under-at}
 use Rattle.sat_core.proofs.ForcingLemmas.{forced-start, forced-resolve}
 use Rattle.sat_core.proofs.MarkLemmas.{marked-among, among-marked, among-variable}
 

@@ -13,12 +13,13 @@ use Rattle.sat_trail.specs.declared.entry.Entry.{Entry}
 use Rattle.sat_trail.specs.Trail.{Assignment, lits, value_in, up_to, with_decided, IsTrail}
 use Rattle.sat_trail.proofs.ForCallers.{open-parts, true-from_value, no-both, rise-top, decided-start, up_to-all, up_to-push}
 use Rattle.sat_arena.specs.Arena.{WatchedClauses}
-use Rattle.sat_core.specs.Numbered.{Numbered, numbered, clauses_of}
-use Rattle.sat_core.specs.Search.{IsSound, IsConflict, IsSearch}
-use Rattle.sat_core.specs.Ledgers.{is_nonempty}
+use Rattle.sat_watch.specs.Numbered.{Numbered, numbered, clauses_of}
+use Rattle.sat_watch.specs.Soundness.{IsSound, IsConflict}
+use Rattle.sat_core.specs.Search.{IsSearch}
+use Rattle.sat_watch.specs.Nonempty.{is_nonempty}
 use Rattle.sat_core.specs.Verdict.{Refutes}
 use Rattle.sat_core.proofs.CountLemmas.{lit-cases}
-use Rattle.sat_core.proofs.StepLemmas.{reasoned-push}
+use Rattle.sat_watch.proofs.ForCallers.{reasoned-push}
 use Rattle.sat_core.proofs.LedgerLemmas.{forced-empty, logged-empty, logged-push, holds-from_rest}
 
 -- ---- a model

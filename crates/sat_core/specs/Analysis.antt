@@ -1,5 +1,5 @@
 -- What the analysis of a conflict keeps: the clause of the negations of marked literals.
-use Rattle.std.specs.Prelude.{◌≡◌, ◌+◌, ◌<◌, ◌≤◌, ◌==◌, ◌⊎◌, ℕ, Bool, false, ◌&&◌, if◌then◌else◌, List, [], ◌∷◌, length, take, slice_get, slice_index_or, IsTrue, Some}
+use Rattle.std.specs.Prelude.{◌≡◌, ◌+◌, ◌<◌, ◌≤◌, ◌==◌, ◌⊎◌, ℕ, Bool, false, ◌&&◌, if◌then◌else◌, List, [], ◌∷◌, length, take, slice_get, slice_index_or, IsTrue, Option, Some, None}
 use Rattle.std.specs.List.{list_any}
 use Rattle.cnf.specs.declared.lit.Lit.{Lit}
 use Rattle.cnf.specs.Lits.{variable, negation}
@@ -60,3 +60,8 @@ IsBack es seen at back =
     (back ≡ 0)
     ⊎ ((j : ℕ) × (j < at)
     × ((e : Entry) → slice_get es j ≡ Some e → IsTrue (is_marked seen e.lit) × (e.level ≡ back)))
+
+-- where propagation goes on behind so many entries: at a place, if there is one
+abbrev pub head_after : Option ℕ → ℕ → ℕ
+head_after None count = count
+head_after (Some place) count = place

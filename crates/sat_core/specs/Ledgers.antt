@@ -1,18 +1,9 @@
 -- How long a ledger can be.
-use Rattle.std.specs.Prelude.{◌<◌, ◌^◌, Bool, true, false, List, [], ◌∷◌, length, IsTrue}
-use Rattle.std.specs.List.{list_all}
+use Rattle.std.specs.Prelude.{◌<◌, ◌^◌, List, length, IsTrue}
 use Rattle.cnf.specs.declared.lit.Lit.{Lit}
 use Rattle.cnf.specs.Cnf.{Cnf}
 use Rattle.cnf.specs.Propagation.{IsLedger}
-
--- whether a clause has a literal
-abbrev pub is_nonempty : List Lit → Bool
-is_nonempty [] = false
-is_nonempty (l ∷ ls) = true
-
--- whether each clause has a literal
-abbrev pub are_nonempty : List (List Lit) → Bool
-are_nonempty cs = list_all is_nonempty cs
+pub use Rattle.sat_watch.specs.Nonempty.{is_nonempty, are_nonempty}
 
 -- a ledger without the empty clause has fewer clauses than 3 to the number of variables
 abbrev pub LedgerIsShort : Type 0

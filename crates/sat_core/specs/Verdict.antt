@@ -6,7 +6,7 @@ use Rattle.cnf.specs.Cnf.{Cnf, Satisfies}
 use Rattle.cnf.specs.Propagation.{IsLedger}
 use Rattle.sat_core.specs.declared.verdict.Verdict.{Verdict}
 use Rattle.sat_core.specs.declared.verdict.Verdict.TheVariants.{Model, NoModel, Spent}
-use Rattle.sat_core.specs.Ledgers.{are_nonempty}
+use Rattle.sat_watch.specs.Nonempty.{are_nonempty}
 
 -- a ledger that ends in the empty clause, the only one that it has, within the budget before it
 pub record Refutes (f : Cnf) (budget : ℕ) (ledger : List (List Lit)) : Type 0 where

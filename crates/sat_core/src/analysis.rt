@@ -3,8 +3,8 @@ ghost use Rattle.std.specs.Prelude.{◌≡◌, ◌<◌, ◌+◌, ◌||◌, ℕ, 
 ghost use Rattle.sat_arena.specs.Arena.{indexes, clause_at};
 ghost use Rattle.sat_trail.specs.Trail.{lits, IsTrail};
 ghost use Rattle.sat_core.specs.Analysis.{has_variable, marked_at, IsResolved};
-ghost use Rattle.sat_core.specs.Numbered.{numbered, clauses_of};
-ghost use Rattle.sat_core.specs.Search.{IsSound, IsConflict};
+ghost use Rattle.sat_watch.specs.Numbered.{numbered, clauses_of};
+ghost use Rattle.sat_watch.specs.Soundness.{IsSound, IsConflict};
 
 use sat_arena::Arena;
 use sat_trail::Trail;

@@ -5,10 +5,11 @@ ghost use Rattle.cnf.specs.Propagation.{IsLogged};
 ghost use Rattle.sat_trail.specs.declared.entry.Entry.{Entry};
 ghost use Rattle.sat_trail.specs.Trail.{lits, IsTrail};
 ghost use Rattle.sat_core.specs.Analysis.{marked, AreUnmarked, IsMarkedLast};
-ghost use Rattle.sat_core.specs.Ledgers.{is_nonempty};
-ghost use Rattle.sat_core.specs.Numbered.{numbered, clauses_of};
-ghost use Rattle.sat_core.specs.Search.{IsSound, IsConflict};
-ghost use Rattle.sat_core.specs.Watches.{IsReady, head_after};
+ghost use Rattle.sat_watch.specs.Nonempty.{is_nonempty};
+ghost use Rattle.sat_watch.specs.Numbered.{numbered, clauses_of};
+ghost use Rattle.sat_watch.specs.Soundness.{IsSound, IsConflict};
+ghost use Rattle.sat_watch.specs.Watches.{IsReady};
+ghost use Rattle.sat_core.specs.Analysis.{head_after};
 
 use crate::analysis::resolve;
 use cnf::{Clause, Lit};

@@ -5,10 +5,9 @@
 mod analysis;
 mod laws;
 mod learning;
-mod propagation;
+mod restarts;
 mod solver;
 mod verdict;
-mod watch;
 
 pub use laws::ledger_is_short;
 pub use solver::solve;

@@ -3,15 +3,16 @@ ghost use Rattle.std.specs.Prelude.{◌≡◌, ◌≢◌, ◌≤◌, ◌<◌, �
 ghost use Rattle.cnf.specs.Budgets.{no_limit};
 ghost use Rattle.cnf.specs.Lits.{negation, positive};
 ghost use Rattle.sat_trail.specs.Trail.{lits, value_in};
-ghost use Rattle.sat_core.specs.Ledgers.{are_nonempty};
+ghost use Rattle.sat_watch.specs.Nonempty.{are_nonempty};
 ghost use Rattle.sat_core.specs.Verdict.{IsAnswer};
 
 use crate::learning::learn;
-use crate::propagation::propagate;
+use crate::restarts::Restarts;
 use crate::verdict::Verdict;
 use cnf::{Clause, Formula, Ledger, Lit, NO_LIMIT};
 use sat_arena::Arena;
 use sat_trail::Trail;
+use sat_watch::propagate;
 use std::alloc::{AllocError, Global};
 
 /// Decides a formula by clause learning, with a budget of learned clauses; `NO_LIMIT` stands for a
@@ -49,6 +50,7 @@ fn search(alloc: Global, f: &Formula, budget: u32) -> Result<Verdict, AllocError
     let mut trail = Trail::new(alloc, f.vars())?;
     let mut seen = vec![in alloc; false; f.vars() as usize]?;
     let mut ledger = Vec::new(alloc);
+    let mut restarts = Restarts::new();
     let mut head = 0;
     'search: loop {
         let found = propagate(&mut arena, &mut trail, &mut head);
@@ -72,6 +74,7 @@ fn search(alloc: Global, f: &Formula, budget: u32) -> Result<Verdict, AllocError
                     alloc, &mut arena, &mut trail, &mut head, &mut seen, conflict,
                 )?;
                 ledger.push(learned)?;
+                restarts.after_learning(&mut trail, &mut head);
             }
         }
     }

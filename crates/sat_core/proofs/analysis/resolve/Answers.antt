@@ -11,11 +11,11 @@ use Rattle.sat_trail.specs.declared.entry.Entry.{Entry}
 use Rattle.sat_trail.specs.Trail.{Assignment, lits, entry_of, level_in, reason_in, IsTrail}
 use Rattle.sat_trail.proofs.ForCallers.{in_some, entry_of-at, length-le_vars, below-get, lit-at}
 use Rattle.sat_core.specs.Analysis.{is_marked, marked, marked_at, has_variable, MarkedWithin}
-use Rattle.sat_core.specs.Numbered.{Numbered, numbered, clauses_of, under}
-use Rattle.sat_core.specs.Search.{Implies, IsSound}
+use Rattle.sat_watch.specs.Numbered.{Numbered, numbered, clauses_of, under}
+use Rattle.sat_watch.specs.Soundness.{Implies, IsSound}
 use Rattle.sat_core.proofs.ConflictLemmas.{resolved, top-level, conflict-level, marked_at-clear, marked_at-some}
 use Rattle.sat_core.proofs.MarkLemmas.{marked_at-unset, marked_at-le, some-marked, is_of}
-use Rattle.sat_core.proofs.NumberLemmas.{known-from}
+use Rattle.sat_watch.proofs.ForCallers.{known-from}
 use Rattle.sat_core.proofs.ResolveLemmas.{reasoned-get, forced-conflict, forced-mark, within-false, within-pass, within-mark, place-within, variable-has}
 use Rattle.sat_core.proofs.analysis.resolve.Goals as goal
 

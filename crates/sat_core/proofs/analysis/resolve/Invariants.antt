@@ -2,7 +2,7 @@ use Rattle.std.proofs.Common.{◌≡◌, ◌≤◌, ◌<◌, length}
 use Rattle.sat_trail.specs.Trail.{lits}
 use Rattle.cnf.specs.Propagation.{IsForced}
 use Rattle.sat_core.specs.Analysis.{marked, marked_at, MarkedWithin}
-use Rattle.sat_core.specs.Numbered.{numbered, clauses_of}
+use Rattle.sat_watch.specs.Numbered.{numbered, clauses_of}
 use Rattle.sat_core.proofs.analysis.resolve.Given as goal
 
 abbrev pub invariant-down : goal.invariant-down

@@ -4,11 +4,11 @@ use Rattle.cnf.specs.Lits.{are_below}
 use Rattle.cnf.specs.Propagation.{IsLogged}
 use Rattle.sat_trail.specs.Trail.{lits}
 use Rattle.sat_core.specs.Analysis.{marked}
-use Rattle.sat_core.specs.Ledgers.{is_nonempty}
-use Rattle.sat_core.specs.Numbered.{Numbered, numbered, clauses_of}
+use Rattle.sat_watch.specs.Nonempty.{is_nonempty}
+use Rattle.sat_watch.specs.Numbered.{Numbered, numbered, clauses_of}
 use Rattle.sat_core.proofs.LearnLemmas.{marked-below, logged-marked, nonempty-marked, sound-learned, back-le}
 use Rattle.sat_core.proofs.LearnedLemmas.{back-from, place-inside, ready-learned}
-use Rattle.sat_core.proofs.NumberLemmas.{numbered-push, clauses_of-push}
+use Rattle.sat_watch.proofs.ForCallers.{numbered-push, clauses_of-push}
 use Rattle.sat_core.proofs.learning.learn.Goals as goal
 
 pub back_level-back-requires-clause-place : goal.back_level-back-requires-clause-place

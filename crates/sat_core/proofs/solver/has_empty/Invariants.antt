@@ -1,5 +1,5 @@
 use Rattle.std.proofs.Common.{take, IsTrue}
-use Rattle.sat_core.specs.Ledgers.{are_nonempty}
+use Rattle.sat_watch.specs.Nonempty.{are_nonempty}
 use Rattle.sat_core.proofs.solver.has_empty.Given as goal
 
 abbrev pub invariant-loop-k : goal.invariant-loop-k

@@ -12,14 +12,15 @@ use Rattle.sat_arena.specs.Arena.{WatchedClauses}
 use Rattle.sat_trail.specs.declared.entry.Entry.{Entry}
 use Rattle.sat_trail.specs.Trail.{Assignment, lits, value_in}
 use Rattle.sat_trail.proofs.ForCallers.{room-from_open}
-use Rattle.sat_core.specs.Ledgers.{is_nonempty, are_nonempty}
-use Rattle.sat_core.specs.Numbered.{numbered, clauses_of}
-use Rattle.sat_core.specs.Search.{IsSearch, IsSound}
+use Rattle.sat_watch.specs.Nonempty.{is_nonempty, are_nonempty}
+use Rattle.sat_watch.specs.Numbered.{numbered, clauses_of}
+use Rattle.sat_watch.specs.Soundness.{IsSound}
+use Rattle.sat_core.specs.Search.{IsSearch}
 use Rattle.sat_core.specs.Verdict.{Refutes, UsesUp}
 use Rattle.sat_core.proofs.CountLemmas.{short}
 use Rattle.sat_core.proofs.LedgerLemmas.{no_values-from_empty, logged-in_range}
-use Rattle.sat_core.proofs.DecideLemmas.{ready-start, ready-decided}
-use Rattle.sat_core.proofs.NumberLemmas.{clauses_of-numbered}
+use Rattle.sat_watch.proofs.ForCallers.{ready-start, ready-decided}
+use Rattle.sat_watch.proofs.ForCallers.{clauses_of-numbered}
 use Rattle.sat_core.proofs.SolveLemmas.{model, positive-number, open-negation, sound-decide, refutes, kept, shorter}
 use Rattle.sat_core.proofs.solver.search.Goals as goal
 
@@ -151,8 +152,8 @@ search-smaller c =
     let few = short c.args.f.now c.search.ledger.items s.logged s.nonempty_ledger in
     let longer : length c.push-in-Some.new.self.items ≡ length c.search.ledger.items + 1 = ap length c.in_ok-push-in-Some-2.ensures.items ∙ length_push c.search.ledger.items c.in_ok-learned-in-Some.learned in
     let rest : 3 ^ v - length c.push-in-Some.new.self.items ≡ 3 ^ v - length c.search.ledger.items - 1 = omega arith in
-    let less = shorter (3 ^ v - length c.search.ledger.items) v (v - length c.learn.new.trail.entries) (v - length c.search.trail.entries) (omega arith) (omega arith) in
-    let P : ℕ → Type 0 = λ a. a * (v + 1) + (v - length c.learn.new.trail.entries) < (3 ^ v - length c.search.ledger.items) * (v + 1) + (v - length c.search.trail.entries) in
+    let less = shorter (3 ^ v - length c.search.ledger.items) v (v - length c.after_learning.new.trail.entries) (v - length c.search.trail.entries) (omega arith) (omega arith) in
+    let P : ℕ → Type 0 = λ a. a * (v + 1) + (v - length c.after_learning.new.trail.entries) < (3 ^ v - length c.search.ledger.items) * (v + 1) + (v - length c.search.trail.entries) in
     subst P (sym rest) less
 
 pub search-preserved : goal.search-preserved
@@ -162,17 +163,18 @@ search-preserved c =
     let p = c.in-Some.ensures in
     let l = c.in_ok-learned-in-Some.ensures in
     let learned = c.in_ok-learned-in-Some.learned in
+    let again = c.after_learning.ensures in
     let before = propagated c.args.f.now c.search.ledger.items c.search.arena c.propagate-found.new.arena c.search.trail t s p.same p.arena_vars p.vars p.sound in
-    let after = kept c.args.f.now c.search.ledger.items c.propagate-found.new.arena c.learn.new.arena t c.learn.new.trail learned before l.logged l.nonempty l.clauses l.arena_vars l.vars l.sound in
+    let after = kept c.args.f.now c.search.ledger.items c.propagate-found.new.arena c.learn.new.arena t c.after_learning.new.trail learned before l.logged l.nonempty l.clauses l.arena_vars (again.vars ∙ l.vars) (again.sound (numbered c.learn.new.arena) l.ready.trail l.sound) in
     let pushed : c.push-in-Some.new.self.items ≡ c.search.ledger.items ++ learned ∷ [] = c.in_ok-push-in-Some-2.ensures.items in
     let longer : length c.push-in-Some.new.self.items ≡ length c.search.ledger.items + 1 = ap length pushed ∙ length_push c.search.ledger.items learned in
-    let P : List (List Lit) → Type 0 = λ l. IsSearch c.args.f.now l c.learn.new.arena c.learn.new.trail in
+    let P : List (List Lit) → Type 0 = λ l. IsSearch c.args.f.now l c.learn.new.arena c.after_learning.new.trail in
     let used : (c.args.budget ≢ no_limit) × (c.args.budget ≤ length c.search.ledger.items) → ⊥ = λ h. false≢true (sym c.if-is_used_up.false ∙ c.is_used_up.ensures.1 (h.0, omega (arith, h.1, c.len.ensures, c.search.ledger.ok))) in
     record {
       state = subst P (sym pushed) after;
       seen = l.seen ∙ (p.vars ∙ s.trail_vars);
       within = one_more c.args.budget (length c.search.ledger.items) (length c.push-in-Some.new.self.items) longer used;
-      ready = l.ready;
+      ready = again.ready c.learn.new.arena l.ready;
     }
 
 spent : (f : Cnf) (ledger : List (List Lit)) (budget : ℕ) → IsTrue (are_nonempty f.clauses) → IsLedger f ledger → IsTrue (are_nonempty ledger) → IsWithin budget (length ledger) → budget ≢ no_limit → budget ≤ length ledger → UsesUp f budget ledger

@@ -1,7 +1,7 @@
 use Rattle.std.proofs.Common.{◌≡◌, ◌+◌, ◌*◌, ◌-◌, ◌^◌, length}
 use Rattle.cnf.specs.Budgets.{IsWithin}
 use Rattle.sat_core.specs.Search.{IsSearch}
-use Rattle.sat_core.specs.Watches.{IsReady}
+use Rattle.sat_watch.specs.Watches.{IsReady}
 use Rattle.sat_core.proofs.solver.search.Given as goal
 
 abbrev pub invariant-search : goal.invariant-search

@@ -3,7 +3,7 @@ use Rattle.std.proofs.lemmas.Bool.{false≢true}
 use Rattle.cnf.specs.declared.lit.Lit.{Lit}
 use Rattle.cnf.specs.Values.{holds, all_hold}
 use Rattle.std.proofs.lemmas.Bool.{and_parts, and_from}
-use Rattle.sat_core.specs.Ledgers.{is_nonempty, are_nonempty}
+use Rattle.sat_watch.specs.Nonempty.{is_nonempty, are_nonempty}
 use Rattle.sat_core.proofs.solver.solve.Goals as goal
 
 -- no values satisfy an empty clause

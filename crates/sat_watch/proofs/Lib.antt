@@ -1,0 +1,9 @@
+pub mod ForCallers
+pub mod NumberLemmas
+pub mod PartnerLemmas
+pub mod ReadyLemmas
+pub mod ShortLemmas
+pub mod StepLemmas
+pub mod UndoLemmas
+pub mod VisitLemmas
+pub mod WatchLemmas

@@ -1,0 +1,5 @@
+pub mod Nonempty
+pub mod Numbered
+pub mod Soundness
+pub mod Watch
+pub mod Watches
