@@ -1,3 +1,4 @@
+pub mod ForCallers
 mod FromShape
 mod ToShape
 mod Walks

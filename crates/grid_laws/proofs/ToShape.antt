@@ -1,3 +1,4 @@
 pub mod AtSlots
 pub mod Conditions
 pub mod SolvedShape
+pub mod Uncounted

@@ -4,3 +4,4 @@ pub mod Pending
 pub mod Placed
 pub mod SlotNodes
 pub mod Walking
+pub mod Strolling

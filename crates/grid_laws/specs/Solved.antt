@@ -1,14 +1,31 @@
 -- All conditions on a shape, said of nodes and numbers.
-use Rattle.std.specs.List.{All, filter_map}
-use Rattle.std.specs.Prelude.{Bool, Contains, List, [], false, length, not, slice_index_or, suc, true, zero, ℕ, ◌&&◌, ◌++◌, ◌==◌, ◌≡◌, ◌≢◌, ◌≤◌}
+use Rattle.std.specs.List.{All, filter_map, list_any}
+use Rattle.std.specs.Prelude.{Bool, Contains, List, [], false, length, not, slice_index_or, suc, true, zero, ℕ, ◌&&◌, ◌++◌, ◌==◌, ◌||◌, ◌≡◌, ◌≢◌, ◌≤◌}
 use Rattle.css_model.specs.Documents.Features.{CanSuit}
 use Rattle.css_model.specs.Documents.SelectorParts.{SelectorParts}
 use Rattle.css_model.specs.declared.selector.Combinator.{Combinator}
 use Rattle.css_model.specs.declared.selector.Simple.{Simple}
+use Rattle.css_model.specs.declared.selector.Test.{Test}
+use Rattle.css_model.specs.declared.selector.Test.TheVariants.{Nth, NthLast, OnlyChild}
 use Rattle.grid_laws.specs.Grid.{Grid, Lays, Nodes, has_left, has_right, goes_up_at, left_alone, right_alone, together}
 use Rattle.grid_laws.specs.Numbers.{Counted}
 use Rattle.slot_plan.specs.Positions.{PositionFits}
 use Rattle.slot_plan.specs.ValidShape.{EmptyFits, asked_id}
+
+-- whether a test looks at a number of siblings
+abbrev pub is_counted : Test → Bool
+is_counted (Nth x) = true
+is_counted (NthLast x) = true
+is_counted OnlyChild = true
+is_counted _ = false
+
+-- whether a compound has such a test, negated or not
+abbrev pub asks_numbers : List Simple → Bool
+asks_numbers simples = list_any (λ s. is_counted s.test) simples
+
+-- whether one of two selectors has one
+abbrev pub numbers_asked : SelectorParts → SelectorParts → Bool
+numbers_asked x y = list_any asks_numbers x.chain || list_any asks_numbers y.chain
 
 -- a compound of a chain, where it has one there
 abbrev pub nth_compound : List (List Simple) → ℕ → List Simple
@@ -47,7 +64,8 @@ root_right x y v root = root && not (v left_alone (length x.links) (length y.lin
 -- siblings stand before and behind each compound of x, by and ay those of y; `root` says that the last slot is that
 -- of the root, `child` that the root counts as a child.
 --     start, grid, one_last     the nodes are a path from the targets to the last compounds
---     counted                   the numbers fit along the combinators, and where two compounds share a slot
+--     counted                   where some test looks at numbers, they fit along the combinators, and where two
+--                               compounds share a slot
 --     top_left, top_right       a compound in the root can stand there
 --     left_positions, right_positions    tests of positions hold by the numbers
 --     empties, features         for each true node `:empty` can be as it is asked, and some element passes the rest
@@ -57,7 +75,7 @@ pub record Solved (x y : SelectorParts) (v : Nodes) (bx ax by ay : ℕ → ℕ) 
   pub length_right : length y.chain ≡ suc (length y.links)
   pub start : v together 0 0 ≡ true
   pub grid : Grid x.links y.links v
-  pub counted : Counted x.links y.links v bx ax by ay
+  pub counted : numbers_asked x y ≡ true → Counted x.links y.links v bx ax by ay
   pub one_last : (k l : Lays) → v k (length x.links) (length y.links) ≡ true → v l (length x.links) (length y.links) ≡ true → k ≡ l
   pub top_left : root_left x y v root ≡ true → (goes_up_at x.links (length x.links) ≡ true) × (bx (length x.links) ≡ 0) × (ax (length x.links) ≡ 0)
   pub top_right : root_right x y v root ≡ true → (goes_up_at y.links (length y.links) ≡ true) × (by (length y.links) ≡ 0) × (ay (length y.links) ≡ 0)

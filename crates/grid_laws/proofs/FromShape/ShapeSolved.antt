@@ -31,7 +31,7 @@ shape_solved x y shape ps qs o = record {
   length_right = o.length_right;
   start = refl;
   grid = shape_grid shape.steps x.links y.links ps qs o.left o.right;
-  counted = shape_counted shape.steps shape.before shape.after x.links y.links ps qs o.valid.counts o.left o.right;
+  counted = λ _. shape_counted shape.steps shape.before shape.after x.links y.links ps qs o.valid.counts o.left o.right;
   one_last = one_last_node x y ps qs;
   top_left = λ h. let b = both_true shape.top_is_root (not (nodes_in x.links y.links ps qs right_alone (length x.links) (length y.links))) h in
       top_of shape x.links ps o.left (o.valid.root b.0) (eqb-true (place_of 0 ps (length x.links)) (length shape.steps)

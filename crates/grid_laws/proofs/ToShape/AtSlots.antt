@@ -164,6 +164,10 @@ not_true' : (r b c : Bool) → b ≡ true → ((r && not b) && c) ≡ false
 not_true' true b c e = ap (λ t. not t && c) e
 not_true' false b c e = refl
 
+-- a smaller number is another one
+below_apart : (k n : ℕ) → k < n → (k == n) ≡ false
+below_apart k n h = grind arith
+
 last_or : (k n : ℕ) → k ≤ n → (k ≡ n) ⊎ (k < n)
 last_or k n h = grind arith
 
@@ -188,7 +192,7 @@ root_at_left x y v bx ax by ay root child ss l k h a here = split (last_or k (le
     split : (k ≡ length ss) ⊎ (k < length ss) → (root && (k == length (steps_of ss))) ≡ (root_left x y v root && (a.i == length x.links))
     split (inl is) = at_last is
     split (inr less) =
-        ap (λ b. root && b) (let e = l.steps in let w : (k == length (steps_of ss)) ≡ false = grind arith in w) ∙ and_false root ∙ sym (other (a.i == length x.links) refl)
+        ap (λ b. root && b) (below_apart k (length (steps_of ss)) (let e = l.steps in omega arith)) ∙ and_false root ∙ sym (other (a.i == length x.links) refl)
       where
         top : AtSlot x y v ss (length ss)
         top = l.slot (length ss) (omega arith)
@@ -225,7 +229,7 @@ root_at_right x y v bx ax by ay root child ss l k h a here = split (last_or k (l
     split : (k ≡ length ss) ⊎ (k < length ss) → (root && (k == length (steps_of ss))) ≡ (root_right x y v root && (a.j == length y.links))
     split (inl is) = at_last is
     split (inr less) =
-        ap (λ b. root && b) (let e = l.steps in let w : (k == length (steps_of ss)) ≡ false = grind arith in w) ∙ and_false root ∙ sym (other (a.j == length y.links) refl)
+        ap (λ b. root && b) (below_apart k (length (steps_of ss)) (let e = l.steps in omega arith)) ∙ and_false root ∙ sym (other (a.j == length y.links) refl)
       where
         top : AtSlot x y v ss (length ss)
         top = l.slot (length ss) (omega arith)

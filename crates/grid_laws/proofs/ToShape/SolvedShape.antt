@@ -10,14 +10,15 @@ use Rattle.grid_laws.proofs.Walks.Pending.{Side, begin}
 use Rattle.grid_laws.proofs.Walks.Placed.{Chained}
 use Rattle.grid_laws.proofs.Walks.Walking.{Walked, walk}
 use Rattle.grid_laws.specs.Grid.{Nodes, has_left, has_right, together}
+use Rattle.grid_laws.specs.Numbers.{Counted}
 use Rattle.grid_laws.specs.Solved.{Solved, node_above}
 use Rattle.slot_plan.specs.Counts.{CountsFit}
 use Rattle.slot_plan.specs.ShapeParts.{ShapeParts}
 use Rattle.slot_plan.specs.ValidShape.{EmptyFits, ValidShape, simples_in}
 
 -- the walk through the grid
-laying_of : (x y : SelectorParts) (v : Nodes) (bx ax by ay : ℕ → ℕ) (root child : Bool) → Solved x y v bx ax by ay root child → (w : Walked x.links y.links v bx ax by ay [] [] (bx 0) (ax 0)) → Laying x y v bx ax by ay root child w.slots
-laying_of x y v bx ax by ay root child s w = record {
+laying_of : (x y : SelectorParts) (v : Nodes) (bx ax by ay : ℕ → ℕ) (root child : Bool) → Solved x y v bx ax by ay root child → Counted x.links y.links v bx ax by ay → (w : Walked x.links y.links v bx ax by ay [] [] (bx 0) (ax 0)) → Laying x y v bx ax by ay root child w.slots
+laying_of x y v bx ax by ay root child s counted w = record {
   solved = s;
   left = cl;
   right = cr;
@@ -30,7 +31,7 @@ laying_of x y v bx ax by ay root child s w = record {
 }
   where
     e : (bx 0 ≡ by 0) × (ax 0 ≡ ay 0)
-    e = s.counted.equal 0 0 (omega arith) (omega arith) s.start
+    e = counted.equal 0 0 (omega arith) (omega arith) s.start
 
     cl : Chained (steps_of w.slots) x.links (laid_at has_left 1 w.slots)
     cl = chained has_left x.links w.slots w.left
@@ -39,7 +40,7 @@ laying_of x y v bx ax by ay root child s w = record {
     cr = chained has_right y.links w.slots w.right
 
 -- it is valid
-valid_of : (x y : SelectorParts) (v : Nodes) (bx ax by ay : ℕ → ℕ) (root child : Bool) (ss : List Laid) → Solved x y v bx ax by ay root child → Laying x y v bx ax by ay root child ss →
+pub valid_of : (x y : SelectorParts) (v : Nodes) (bx ax by ay : ℕ → ℕ) (root child : Bool) (ss : List Laid) → Solved x y v bx ax by ay root child → Laying x y v bx ax by ay root child ss →
     CountsFit (steps_of ss) (bx 0 ∷ map (λ s. s.before) ss) (ax 0 ∷ map (λ s. s.after) ss) → ValidShape x y (shape_of (bx 0) (ax 0) root child ss)
 valid_of x y v bx ax by ay root child ss s l counts = record {
   left = (refl, l.left.up, ap suc (sym l.left.same) ∙ sym s.length_left, l.left.fit);
@@ -63,12 +64,12 @@ valid_of x y v bx ax by ay root child ss s l counts = record {
     inner : (k : ℕ) → k ≤ length (steps_of ss) → k ≤ length ss
     inner k h = let q = l.steps in omega arith
 
--- The valid shape of what satisfies all conditions.
-pub solved_shape : (x y : SelectorParts) (v : Nodes) (bx ax by ay : ℕ → ℕ) (root child : Bool) → Solved x y v bx ax by ay root child → (shape : ShapeParts) × ValidShape x y shape
-solved_shape x y v bx ax by ay root child s =
-    let e = s.counted.equal 0 0 (omega arith) (omega arith) s.start in
-    from (walk (length x.links + length y.links) x.links y.links v bx ax by ay together [] [] (bx 0) (ax 0) (omega arith) s.grid s.counted s.start (begin x.links (bx 0) (ax 0))
+-- The valid shape of what satisfies all conditions, by the numbers.
+pub counted_shape : (x y : SelectorParts) (v : Nodes) (bx ax by ay : ℕ → ℕ) (root child : Bool) → Counted x.links y.links v bx ax by ay → Solved x y v bx ax by ay root child → (shape : ShapeParts) × ValidShape x y shape
+counted_shape x y v bx ax by ay root child counted s =
+    let e = counted.equal 0 0 (omega arith) (omega arith) s.start in
+    from (walk (length x.links + length y.links) x.links y.links v bx ax by ay together [] [] (bx 0) (ax 0) (omega arith) s.grid counted s.start (begin x.links (bx 0) (ax 0))
     (subst (λ (k : ℕ). Side true y.links [] (by 0) (ay 0) k (ax 0)) (sym e.0) (subst (λ (k : ℕ). Side true y.links [] (by 0) (ay 0) (by 0) k) (sym e.1) (begin y.links (by 0) (ay 0)))))
   where
     from : Walked x.links y.links v bx ax by ay [] [] (bx 0) (ax 0) → (shape : ShapeParts) × ValidShape x y shape
-    from w = (shape_of (bx 0) (ax 0) root child w.slots, valid_of x y v bx ax by ay root child w.slots s (laying_of x y v bx ax by ay root child s w) w.counts)
+    from w = (shape_of (bx 0) (ax 0) root child w.slots, valid_of x y v bx ax by ay root child w.slots s (laying_of x y v bx ax by ay root child s counted w) w.counts)

@@ -49,7 +49,7 @@ lay Child links mids b b' sides one = (mids, refl, sides)
 lay Inside links mids b b' _ one = (mids, UpOne, refl, tt)
 
 -- a slot without a compound of the selector
-wait : (links : List Combinator) (up : Bool) (mids : List SlotStep) (b b' : ℕ) → Pending links mids → waits_at links 0 up ≡ true → Pending links (mids ++ step_for up b b' ∷ [])
+pub wait : (links : List Combinator) (up : Bool) (mids : List SlotStep) (b b' : ℕ) → Pending links mids → waits_at links 0 up ≡ true → Pending links (mids ++ step_for up b b' ∷ [])
 wait [] up mids b b' _ ok = tt
 wait (Next ∷ links) up mids b b' _ ok = absurd (false≢true ok)
 wait (Later ∷ links) true mids b b' sides ok = absurd (false≢true ok)
@@ -81,7 +81,7 @@ pub record Side (has : Bool) (links : List Combinator) (mids : List SlotStep) (b
   pub sum : stays links ≡ true → b0 + a0 ≡ b + a
 
 -- right behind a compound nothing is pending
-pending_none : (links : List Combinator) → Pending links []
+pub pending_none : (links : List Combinator) → Pending links []
 pending_none [] = tt
 pending_none (Next ∷ links) = refl
 pending_none (Later ∷ links) = tt

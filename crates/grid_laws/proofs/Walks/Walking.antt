@@ -87,7 +87,7 @@ lay_both l m xl yl v bx ax by ay mx my b a t eb ea fit fit' step rest = record {
 }
 
 -- the grid and the numbers behind the next compound
-grid_left : (l : Combinator) (xl yl : List Combinator) (v : Nodes) → Grid (l ∷ xl) yl v → Grid xl yl (λ k i j. v k (suc i) j)
+pub grid_left : (l : Combinator) (xl yl : List Combinator) (v : Nodes) → Grid (l ∷ xl) yl v → Grid xl yl (λ k i j. v k (suc i) j)
 grid_left l xl yl v g = record {
   go = λ k i j t hi hj more. elim (g.go k (suc i) j t (omega arith) hj (omega arith)) [
     | inl way ↦ inl ((let h = way.0 in omega arith), way.1)
@@ -98,7 +98,7 @@ grid_left l xl yl v g = record {
   both = λ i j hi hj t. g.both (suc i) j (omega arith) hj t;
 }
 
-grid_right : (m : Combinator) (xl yl : List Combinator) (v : Nodes) → Grid xl (m ∷ yl) v → Grid xl yl (λ k i j. v k i (suc j))
+pub grid_right : (m : Combinator) (xl yl : List Combinator) (v : Nodes) → Grid xl (m ∷ yl) v → Grid xl yl (λ k i j. v k i (suc j))
 grid_right m xl yl v g = record {
   go = λ k i j t hi hj more. elim (g.go k i (suc j) t hi (omega arith) (omega arith)) [
     | inl way ↦ inl way

@@ -1,6 +1,0 @@
-use Rattle.std.proofs.Common.{arith}
-use Rattle.clause_encode.proofs.Sizes.FormulaSizes.{formula_size}
-use Rattle.clause_encode.proofs.deciding.formula_is_small.Goals as goal
-
-pub returns : goal.returns
-returns c = λ width x y allowed wide few few'. formula_size width x y allowed wide (omega arith) (omega arith)
