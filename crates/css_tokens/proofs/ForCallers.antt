@@ -5,6 +5,7 @@ pub use Rattle.css_tokens.proofs.LexedLemmas.{lexed_are_parts, parts_are_lexed}
 pub use Rattle.css_tokens.proofs.Marks.{mark_len}
 pub use Rattle.css_tokens.proofs.PartLemmas.{Holds, part_len, part_rule, white_some}
 pub use Rattle.css_tokens.proofs.RestartLemmas.{tokens_restart}
+pub use Rattle.css_tokens.proofs.RuleLemmas.{symbol_number}
 pub use Rattle.css_tokens.proofs.RunLemmas.{run_from-drop, run_none, run_unit}
 pub use Rattle.css_tokens.proofs.SaidLemmas.{wide_unlike}
 pub use Rattle.css_tokens.proofs.Utf8Length.{not_utf8_longer, whole_is_utf8}

@@ -6,6 +6,7 @@ pub mod Cases
 pub mod CommonMultiples
 pub mod Digits
 pub mod FirstPassing
+pub mod ForCallers
 pub mod Meanings
 pub mod Multiples
 pub mod Numbers

@@ -245,7 +245,7 @@ fn counted_gap(depth: usize, kind: TokenKind, gap: Gap, next: Option<TokenKind>)
             if is_delim_of(u32::from(b'.'), kind) || is_sign_of(b':', kind) {
                 white_alone(gap)
             } else if depth > 0 {
-                if op_of(kind).is_some() {
+                if op_of(kind).is_some() && !is_sign_of(b')', next) {
                     gap
                 } else {
                     Gap::Nothing
