@@ -47,7 +47,7 @@ fn solved(rt: &impl Abort, alloc: Global, list: &str) -> Result<Result<Fits, Val
 }
 
 #[test]
-fn which_value_passes(rt: HostRuntime) -> Result<(), Fail> {
+fn which_value_is_asked_for(rt: HostRuntime) -> Result<(), Fail> {
     let alloc = rt.alloc();
     for (list, value) in [
         // the value of the first Equal
@@ -72,7 +72,21 @@ fn which_value_passes(rt: HostRuntime) -> Result<(), Fail> {
         ("|en-a,|en", "en-a"),
         ("|,?", ""),
         ("|,|", ""),
-        // what is built
+    ] {
+        let wanted = value.chars().collect(alloc)?;
+        assert_eq!(rt;
+            solved(&rt, alloc, list)?,
+            Ok(Fits::Value(Text::new(wanted))),
+            "at {list}"
+        );
+    }
+    Ok(())
+}
+
+#[test]
+fn which_value_is_built(rt: HostRuntime) -> Result<(), Fail> {
+    let alloc = rt.alloc();
+    for (list, value) in [
         ("^icon-,~b", "icon-a b a"),
         ("^ab,$bc", "abdbc"),
         ("*b", "aba"),
@@ -99,7 +113,21 @@ fn which_value_passes(rt: HostRuntime) -> Result<(), Fail> {
         ("*é", "aéa"),
         ("*\u{1f600},!*\u{1f601}", "a\u{1f600}a"),
         ("^abcdefghijklmnopqrstuvwxyz", "abcdefghijklmnopqrstuvwxyz{"),
-        // the first white space that no Part refuses
+    ] {
+        let wanted = value.chars().collect(alloc)?;
+        assert_eq!(rt;
+            solved(&rt, alloc, list)?,
+            Ok(Fits::Value(Text::new(wanted))),
+            "at {list}"
+        );
+    }
+    Ok(())
+}
+
+#[test]
+fn which_white_space_stands_beside_words(rt: HostRuntime) -> Result<(), Fail> {
+    let alloc = rt.alloc();
+    for (list, value) in [
         ("~a,!* ", "b\ta\tb"),
         ("~a,!*\t", "b a b"),
         ("~a,~b,!* ,!*\t", "c\na\nb\nc"),
@@ -151,6 +179,12 @@ fn which_tests_pass_with_no_value(rt: HostRuntime) -> Result<(), Fail> {
     ] {
         assert_eq!(rt; solved(&rt, alloc, list)?, Ok(Fits::Nothing), "at {list}");
     }
+    Ok(())
+}
+
+#[test]
+fn where_no_white_space_is_left(rt: HostRuntime) -> Result<(), Fail> {
+    let alloc = rt.alloc();
     for list in [
         "~b,!* \t\n\u{c}\r",
         "!*\r,!*\u{c},~b,!*\n,!*\t,!* ",

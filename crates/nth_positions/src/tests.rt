@@ -50,32 +50,21 @@ fn texts_of_the_notation_are_read(rt: HostRuntime) {
 #[test]
 fn other_texts_are_not_in_the_notation(rt: HostRuntime) {
     for text in [
-        "",
-        " ",
-        "3 n",
-        "+ 2n",
-        "+ 2",
-        "2n+ -1",
-        "10n+-1",
-        "n- +1",
-        "2 n",
-        "2n 1",
-        "2n-",
-        "--n",
-        "+-n",
-        "+",
-        "-",
-        "nn",
-        "2.5n",
-        "1e1",
-        "2e1n",
-        "oddx",
-        "odd1",
-        "+odd",
-        "-even",
-        "o dd",
-        "odd+1",
-        "2n+odd",
+        "", " ", "3 n", "+ 2n", "+ 2", "2n+ -1", "10n+-1", "n- +1", "2 n", "2n 1", "2n-", "--n",
+        "+-n", "+", "-", "nn", "2.5n", "1e1", "2e1n", "oddx", "odd1", "+odd", "-even", "o dd",
+        "odd+1", "2n+odd",
+    ] {
+        assert_eq!(rt;
+            read_anb(text.as_bytes()),
+            Err(AnbFault::NotAnB),
+            "at {text}"
+        );
+    }
+}
+
+#[test]
+fn comments_and_other_signs_are_not_in_the_notation(rt: HostRuntime) {
+    for text in [
         "2/**/n",
         "+/**/n",
         "/*",
@@ -197,6 +186,10 @@ fn bounds_reduce_gaps(rt: HostRuntime) {
     ] {
         assert_eq!(rt; reduce(gap, &bound), want, "at {gap}");
     }
+}
+
+#[test]
+fn bounds_are_those_of_all_steps_and_offsets(rt: HostRuntime) {
     assert_eq!(rt;
         bounds(&[]),
         Bounds {
