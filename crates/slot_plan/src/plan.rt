@@ -5,6 +5,7 @@ ghost use Rattle.std.specs.List.{All};
 ghost use Rattle.css_model.specs.Positions.Range.{IsInRange};
 ghost use Rattle.css_model.specs.Sheets.Limits.{max_stepped};
 ghost use Rattle.nth_positions.specs.Gaps.{bounds_of};
+ghost use Rattle.nth_positions.specs.declared.limits.TheConstants.{MAX_WIDTH};
 ghost use Rattle.slot_plan.specs.Parts.{pair_parts, stepped_count};
 ghost use Rattle.slot_plan.specs.declared.plan.PlanError.TheVariants.{NthParts};
 
@@ -47,8 +48,9 @@ pub struct PairPlan<'a> {
 }
 
 impl<'a> Model for PairPlan<'a> {
-    ghost use Rattle.std.specs.Prelude.{◌≡◌};
+    ghost use Rattle.std.specs.Prelude.{◌≡◌, ◌≤◌};
     ghost use Rattle.nth_positions.specs.Gaps.{bounds_of};
+    ghost use Rattle.nth_positions.specs.declared.limits.TheConstants.{MAX_WIDTH};
     ghost use Rattle.slot_plan.specs.PairParts.{PairParts};
     ghost use Rattle.slot_plan.specs.Parts.{pair_parts};
 
@@ -56,7 +58,8 @@ impl<'a> Model for PairPlan<'a> {
 
     ghost view = { λ p. record { left = p.left.now; right = p.right.now } };
 
-    ghost invariant = { λ p. p.bounds ≡ bounds_of (pair_parts p.left.now p.right.now) };
+    ghost invariant = { λ p. (p.bounds ≡ bounds_of (pair_parts p.left.now p.right.now))
+        × (p.bounds.width ≤ MAX_WIDTH) };
 }
 
 impl<'a> PairPlan<'a> {
@@ -109,7 +112,8 @@ impl<'a> PairPlan<'a> {
     /// How far the gaps between siblings have to be looked at, and how many bits hold a number of siblings.
     /// Takes no memory.
     pub fn bounds(&self) -> Bounds
-        ensures { result ≡ bounds_of (pair_parts self.now.left self.now.right) }
+        ensures value { result ≡ bounds_of (pair_parts self.now.left self.now.right) }
+        ensures small { result.width ≤ MAX_WIDTH }
     {
         self.bounds
     }
