@@ -1,0 +1,5 @@
+mod Elements
+mod Expanding
+mod Paths
+mod Rules
+pub mod ForCallers
