@@ -15,7 +15,7 @@ use Rattle.list_facts.proofs.Members.{Contains-here, Contains-there}
 use Rattle.shape_laws.proofs.Elements.Siblings.{placed_same}
 
 -- a test that is not structural says the same of an element alone
-alone_same : (doc : Document) (path : List ℕ) (here : ElementAt) (t : Test) → is_structural t ≡ false → TestHolds doc path here t ≡ HoldsOf here.element t
+pub alone_same : (doc : Document) (path : List ℕ) (here : ElementAt) (t : Test) → is_structural t ≡ false → TestHolds doc path here t ≡ HoldsOf here.element t
 alone_same doc path here Any plain = refl
 alone_same doc path here (Kind name) plain = refl
 alone_same doc path here (Id name) plain = refl

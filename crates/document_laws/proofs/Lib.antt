@@ -1,0 +1,9 @@
+mod Climbing
+mod Elements
+mod Marked
+mod Matching
+mod Paths
+mod Rows
+mod Showing
+mod Standing
+mod Tests
