@@ -1,5 +1,6 @@
 mod Climbing
 mod Elements
+pub mod ForCallers
 mod Marked
 mod Matching
 mod Paths

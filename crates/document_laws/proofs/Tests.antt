@@ -20,7 +20,7 @@ use Rattle.slot_plan.specs.Positions.{PositionFits, PositionHolds, is_position}
 use Rattle.slot_plan.specs.ValidShape.{EmptyFits, is_empty_test}
 
 -- a member that passes is found
-any_in : {X : Type 0} (p : X → Bool) (xs : List X) (x : X) → Contains xs x → p x ≡ true → list_any p xs ≡ true
+pub any_in : {X : Type 0} (p : X → Bool) (xs : List X) (x : X) → Contains xs x → p x ≡ true → list_any p xs ≡ true
 any_in p [] x h e = absurd (Contains-nil x h)
 any_in p (y ∷ ys) x h e = elim (Contains-cons_cases y ys x h) [
   | inl same ↦ ap (λ b. b || list_any p ys) (ap p same ∙ e)

@@ -7,7 +7,8 @@ use Rattle.css_model.specs.Documents.Features.{element_of}
 use Rattle.css_model.specs.Documents.RunDocuments.{repeated}
 use Rattle.line_laws.specs.Runs.{AllRuns, Runs, done, elements_on, run}
 
-all_append : {X : Type 0} (P : X → Type 0) (xs ys : List X) → AllByRecursion P xs → AllByRecursion P ys → AllByRecursion P (xs ++ ys)
+-- what holds of the members of two lists holds of those of both, one behind the other
+pub all_append : {X : Type 0} (P : X → Type 0) (xs ys : List X) → AllByRecursion P xs → AllByRecursion P ys → AllByRecursion P (xs ++ ys)
 all_append P [] ys h h' = h'
 all_append P (x ∷ xs) ys (here, h) h' = (here, all_append P xs ys h h')
 

@@ -1,0 +1,2 @@
+-- What the proofs of other crates may cite.
+pub use Rattle.element_laws.proofs.Fresh.{elements_suit}

@@ -1,0 +1,4 @@
+pub mod Chosen
+pub mod Ids
+pub mod Laws
+pub mod Names
