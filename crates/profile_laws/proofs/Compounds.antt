@@ -12,6 +12,7 @@ use Rattle.css_model.specs.declared.selector.Simple.{Simple}
 use Rattle.css_model.specs.declared.selector.Test.{Test}
 use Rattle.css_model.specs.declared.selector.Test.TheVariants.{Attr}
 use Rattle.css_model.specs.declared.token.TokenFault.{TokenFault}
+use Rattle.css_model.specs.declared.token.TokenFlaw.{TokenFlaw}
 use Rattle.css_model.specs.Documents.SelectorParts.{SelectorParts}
 use Rattle.css_model.specs.Lists.{same_text}
 use Rattle.css_model.specs.Selectors.Profile.{IsInProfile}
@@ -19,8 +20,8 @@ use Rattle.css_model.specs.Selectors.Reading.{selector_of_lexemes, selector_of_t
 use Rattle.css_model.specs.Selectors.Terms.{terms}
 use Rattle.css_model.specs.Sheets.Limits.{max_bytes}
 use Rattle.css_model.specs.Text.Lexemes.{lexemes}
-use Rattle.css_model.specs.Text.Tokens.{parts, text_of, tokens}
-use Rattle.css_tokens.proofs.ForCallers.{parts_join}
+use Rattle.css_model.specs.Text.Tokens.{fault_behind, parts, text_of, tokens}
+use Rattle.css_tokens.proofs.ForCallers.{parts_are_lexed, parts_join}
 use Rattle.token_laws.proofs.ForCallers.{solids_are_lexemes}
 use Rattle.token_laws.specs.Solids.{solids}
 use Rattle.selector_laws.proofs.ForCallers.{derived, read_keeps}
@@ -29,13 +30,25 @@ use Rattle.compound_fit.specs.Conditions.{has_plain_tests, is_plain_id}
 use Rattle.compound_fit.specs.Ids.{is_plain}
 use Rattle.profile_laws.proofs.DerivedChains.{IsWithin, selector_wide, simples_wide}
 use Rattle.profile_laws.proofs.DerivedTests.{room}
+use Rattle.profile_laws.proofs.NamedChains.{selector_named}
+use Rattle.profile_laws.proofs.NamedTokens.{terms_named}
 use Rattle.profile_laws.proofs.Sizes.{terms_of_parts}
+use Rattle.profile_laws.specs.Named.{ProfileHasNames}
 
 -- what is read of a text whose tokens have no fault
 read_whole : (fault : Option TokenFault) (read : Result SelectorParts Reason) (x : SelectorParts) → unless_fault fault read ≡ Ok x → read ≡ Ok x
 read_whole None read x e = e
 read_whole (Some fault) (Ok selector) x e = absurd (let bad : ⊥ = cc in bad)
 read_whole (Some fault) (Err reason) x e = absurd (let bad : ⊥ = cc in bad)
+
+no_fault : (fault : Option TokenFault) (read : Result SelectorParts Reason) (x : SelectorParts) → unless_fault fault read ≡ Ok x → fault ≡ None
+no_fault None read x e = refl
+no_fault (Some fault) (Ok selector) x e = absurd (let bad : ⊥ = cc in bad)
+no_fault (Some fault) (Err reason) x e = absurd (let bad : ⊥ = cc in bad)
+
+no_flaw : (at : ℕ) (flaw : Option TokenFlaw) → fault_behind at flaw ≡ None → flaw ≡ None
+no_flaw at None e = refl
+no_flaw at (Some flaw) e = absurd (let bad : ⊥ = cc in bad)
 
 read : (x : SelectorParts) (p : IsInProfile x) → selector_of_lexemes p.text (lexemes (tokens p.text false).tokens) ≡ Ok x
 read x p = read_whole (tokens p.text false).fault (selector_of_lexemes p.text (lexemes (tokens p.text false).tokens)) x p.reads
@@ -88,3 +101,11 @@ all_fine n (c ∷ cs) most within keeps =
 
 pub chain_fine : (x : SelectorParts) → IsInProfile x → AllByRecursion IsFine x.chain
 chain_fine x p = let s = few_wide x p in all_fine s.0 x.chain s.1 s.2 (limits x p).compounds
+
+-- the names of its tests
+pub chain_named : ProfileHasNames
+chain_named x p =
+    let ps = (parts p.text).parts in
+    let same = solids_are_lexemes p.text 0 in
+    let reads : selector_of_terms (terms (solids ps)) ≡ Ok x = subst (λ ss. selector_of_terms (terms ss) ≡ Ok x) same (read x p) in
+    selector_named (terms (solids ps)) x (terms_named ps (parts_are_lexed p.text (no_flaw _ (parts p.text).flaw (no_fault (tokens p.text false).fault _ x p.reads)))) (derived (terms (solids ps)) x reads)

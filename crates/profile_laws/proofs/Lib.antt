@@ -3,6 +3,9 @@ mod Decoded
 mod DerivedChains
 mod DerivedTests
 mod Fitted
+mod NamedChains
+mod NamedTests
+mod NamedTokens
 mod Sizes
 mod Spelled
 mod Wide

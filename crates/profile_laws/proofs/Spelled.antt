@@ -7,7 +7,7 @@ use Rattle.std.specs.List.{filter}
 use Rattle.std.specs.Str.{IsUtf8, chars, encode_utf8_all, is_utf8}
 use Rattle.std.specs.Str.Lossy.{after_first_chunk, error_len_after_one, error_len_after_two, error_len_of_some, replacement_bytes, second_byte_max, second_byte_min, utf8_error_len, utf8_invalid_len, utf8_lossy, utf8_valid_len, valid_len_up_to}
 use Rattle.std.proofs.lemmas.Bool.{le-leb, lt-leb, ltb-true, ltb-false}
-use Rattle.std.proofs.lemmas.List.{take-append-drop, drop-drop, length-drop}
+use Rattle.std.proofs.lemmas.List.{take-append-drop, drop-drop, length-append, length-drop}
 use Rattle.std.proofs.lemmas.Str.{IsUtf8-append, IsUtf8-encode, IsUtf8-from_is_utf8, IsUtf8-nil, chars-encodes, utf8_lossy-IsUtf8, utf8_lossy_step, utf8_valid_len_le}
 use Rattle.css_model.specs.Text.Names.{code_points, replacement}
 use Rattle.css_tokens.proofs.ForCallers.{whole_is_utf8}
@@ -218,3 +218,16 @@ pub wide_decoded : (bs : List ℕ) → wide (code_points bs) ≤ count 0 bs
 wide_decoded bs =
     let l = lossy (length bs) bs (omega arith) in
     omega (arith, wide_text (utf8_lossy bs) l.utf8, l.few)
+
+pub lossy_utf8 : (bs : List ℕ) → IsUtf8 (utf8_lossy bs)
+lossy_utf8 bs = (lossy (length bs) bs (omega arith)).utf8
+
+pub lossy_some : (bs : List ℕ) → 0 < length bs → 0 < length (utf8_lossy bs)
+lossy_some bs some = by (whole_or_not bs)
+  where
+    by : (utf8_valid_len bs ≡ length bs) ⊎ (utf8_valid_len bs ≡ length bs → ⊥) → 0 < length (utf8_lossy bs)
+    by (inl is) = rw (utf8_lossy-IsUtf8 bs (whole_is_utf8 bs is)) some
+    by (inr not) =
+        let front = take (utf8_valid_len bs) bs in
+        let rest = utf8_lossy (after_first_chunk bs) in
+        rw (utf8_lossy_step bs not) (let size = length-append front (replacement_bytes ++ rest) in let some : 0 < length (replacement_bytes ++ rest) = omega arith in omega (arith, size, some))

@@ -1,2 +1,3 @@
 pub mod Fittable
 pub mod Limited
+pub mod Named

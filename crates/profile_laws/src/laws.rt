@@ -2,6 +2,7 @@
 
 ghost use Rattle.profile_laws.specs.Fittable.{CompoundsAreFittable, PairsAreFittable, TablesAreFittable};
 ghost use Rattle.profile_laws.specs.Limited.{ProfileKeepsTheLimits};
+ghost use Rattle.profile_laws.specs.Named.{ProfileHasNames};
 
 /// Each selector of the profile keeps to the limits of a selector that is read.
 pub fn profile_keeps_the_limits()
@@ -15,4 +16,9 @@ pub fn profile_is_fittable()
     ensures one { CompoundsAreFittable }
     ensures two { PairsAreFittable }
     ensures table { TablesAreFittable }
+{}
+
+/// No test in a selector of the profile names a type or an attribute by an empty name.
+pub fn profile_has_names()
+    ensures { ProfileHasNames }
 {}

@@ -3,4 +3,4 @@
 
 mod laws;
 
-pub use laws::{profile_is_fittable, profile_keeps_the_limits};
+pub use laws::{profile_has_names, profile_is_fittable, profile_keeps_the_limits};
