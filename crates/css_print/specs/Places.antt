@@ -4,8 +4,9 @@ use Rattle.std.specs.List.{Contains}
 use Rattle.css_model.specs.declared.sheet.Piece.{Piece}
 use Rattle.css_model.specs.declared.token.Lexeme.{Lexeme}
 use Rattle.css_model.specs.Sheets.Spelling.{lexemes_of}
+use Rattle.css_model.specs.Text.Kept.{Solid}
 use Rattle.css_model.specs.Text.Tokens.{stream}
-use Rattle.css_print.specs.Words.{WordTexts, up_to, solids, words}
+use Rattle.css_print.specs.Words.{solids_to}
 
 -- a token of a sheet that is no white space begins here
 pub record BeginsAt (source : List ℕ) (at : ℕ) : Type 0 where
@@ -14,5 +15,5 @@ pub record BeginsAt (source : List ℕ) (at : ℕ) : Type 0 where
   pub begins : token.span.start ≡ at
 
 -- the tokens from where a piece begins, up to its end
-abbrev pub words_in : List ℕ → Piece → List WordTexts
-words_in source piece = words (solids source (up_to piece.«end» (stream piece.start (drop piece.start source)).tokens))
+abbrev pub solids_in : List ℕ → Piece → List Solid
+solids_in source piece = solids_to piece.«end» source (stream piece.start (drop piece.start source)).tokens

@@ -1,44 +1,41 @@
--- The tokens of a text that are no white space, each with what is printed behind it.
-use Rattle.std.specs.Prelude.{ℕ, nat_le, Bool, true, not, if◌then◌else◌, List, [], ◌∷◌, Option, Some, None}
+-- The tokens of a text that are no white space, up to a place.
+use Rattle.std.specs.Prelude.{ℕ, nat_le, ◌&&◌, Bool, true, not, if◌then◌else◌, List, [], ◌∷◌, Option, Some, None}
 use Rattle.css_model.specs.declared.token.Token.{Token}
-use Rattle.css_model.specs.Text.Kept.{Solid, between, behind_last}
+use Rattle.css_model.specs.declared.token.TokenKind.{TokenKind}
+use Rattle.css_model.specs.Text.Kept.{Solid}
 use Rattle.css_model.specs.Text.Lexemes.{is_white_kind, gap_of}
 use Rattle.css_model.specs.Text.Source.{text_at}
 
--- the tokens that end before a place, or there
-abbrev pub up_to : ℕ → List Token → List Token
-up_to place [] = []
-up_to place (t ∷ ts) = if nat_le t.span.«end» place then t ∷ up_to place ts else []
+-- a token that was read ahead, before others
+abbrev pub front : Option Token → List Token → List Token
+front None ts = []
+front (Some t) ts = t ∷ ts
 
--- one that was read ahead, and those of the others up to a place
-abbrev pub seen : Option Token → ℕ → List Token → List Token
-seen None place ts = []
-seen (Some t) place ts = t ∷ up_to place ts
+-- a token, where it ends before a place or there
+abbrev pub cut : ℕ → Option Token → Option Token
+cut place None = None
+cut place (Some t) = if nat_le t.span.«end» place then Some t else None
 
-abbrev pub is_solid : Option Token → Bool
-is_solid None = true
-is_solid (Some t) = not (is_white_kind t.kind)
+-- a token that was read ahead is no white space, and ends before a place or there
+abbrev pub is_ahead : ℕ → Option Token → Bool
+is_ahead place None = true
+is_ahead place (Some t) = nat_le t.span.«end» place && not (is_white_kind t.kind)
 
-abbrev pub after_white : List Token → List Token
-after_white [] = []
-after_white (t ∷ ts) = if is_white_kind t.kind then after_white ts else t ∷ ts
+abbrev pub solid_of : List ℕ → Token → List Token → Solid
+solid_of source t ts = record { kind = t.kind; bytes = text_at source t.span; gap = gap_of ts }
 
-abbrev pub solids : List ℕ → List Token → List Solid
-solids source [] = []
-solids source (t ∷ ts) =
-    if is_white_kind t.kind then solids source ts
-    else record { kind = t.kind; bytes = text_at source t.span; gap = gap_of ts } ∷ solids source ts
+-- the tokens that end before a place or there and are no white space
+abbrev pub solids_to : ℕ → List ℕ → List Token → List Solid
+solids_to place source [] = []
+solids_to place source (t ∷ ts) =
+    if nat_le t.span.«end» place then (if is_white_kind t.kind then solids_to place source ts else solid_of source t ts ∷ solids_to place source ts)
+    else []
 
--- a token's text, and what is printed behind it
-pub record WordTexts : Type 0 where
-  pub text : List ℕ
-  pub behind : List ℕ
+abbrev pub kind_of_first : List Solid → Option TokenKind
+kind_of_first [] = None
+kind_of_first (s ∷ ss) = Some s.kind
 
--- what is printed behind a token, before others or as the last
-abbrev pub behind_before : Solid → List Solid → List ℕ
-behind_before s [] = behind_last s
-behind_before s (t ∷ ss) = between s
-
-abbrev pub words : List Solid → List WordTexts
-words [] = []
-words (s ∷ ss) = record { text = s.bytes; behind = behind_before s ss } ∷ words ss
+-- the tokens from the first on that ends before a place or there and is no white space
+abbrev pub past_white : ℕ → List Token → List Token
+past_white place [] = []
+past_white place (t ∷ ts) = if nat_le t.span.«end» place then (if is_white_kind t.kind then past_white place ts else t ∷ ts) else []

@@ -7,5 +7,6 @@ mod KeptStates
 mod KeptTerms
 mod KeptTests
 mod Lists
+mod PositionLemmas
 mod ReadStates
 mod ReadTests

@@ -2,6 +2,7 @@
 
 ghost use Rattle.selector_laws.specs.Grammar.{ReadSelectorsAreDerived, SelectorsAreReadExactly};
 ghost use Rattle.selector_laws.specs.Limits.{ReadSelectorsKeepTheLimits};
+ghost use Rattle.selector_laws.specs.Positions.{WrittenAreTested};
 
 /// Each selector that is read is derived by the grammar of Selectors 3, from the very terms that it was read from.
 pub fn read_selectors_are_derived()
@@ -20,4 +21,10 @@ pub fn read_selectors_keep_the_limits()
 /// keeps to the limits.
 pub fn selectors_are_read_exactly()
     ensures { SelectorsAreReadExactly }
+{}
+
+/// The arguments of `:nth-child()` and `:nth-last-child()` in the terms of a selector that is read, and the first or
+/// last position for each `:first-child` and `:last-child`, are the positions that the selector tests, in this order.
+pub fn written_positions_are_tested()
+    ensures { WrittenAreTested }
 {}

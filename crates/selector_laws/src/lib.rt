@@ -6,4 +6,5 @@ mod laws;
 
 pub use laws::{
     read_selectors_are_derived, read_selectors_keep_the_limits, selectors_are_read_exactly,
+    written_positions_are_tested,
 };

@@ -1,0 +1,4 @@
+pub mod ForCallers
+pub mod Shapes
+pub mod Shortest
+pub mod Tokens

@@ -1,0 +1,4 @@
+pub mod Back
+pub mod Closed
+pub mod Text
+pub mod Together
