@@ -5,6 +5,7 @@ mod Places
 mod Placing
 mod Preludes
 mod ReadSteps
+mod Rooms
 mod SheetSteps
 mod Sorting
 mod TokenSteps

@@ -1,12 +1,12 @@
 -- Open brackets, of which the last is the innermost, and the lexemes that are still to come inside them.
-use Rattle.std.proofs.Common.{ℕ, suc, ◌≡◌, ◌≤◌, ◌&&◌, ◌++◌, Bool, true, false, cond, eqb, List, [], ◌∷◌, length, drop, get_or, reverse, Option, Some, None, refl, sym, ap, ◌∙◌, arith}
+use Rattle.std.proofs.Common.{ℕ, suc, ◌≡◌, ◌≤◌, ◌&&◌, ◌++◌, Bool, true, false, cond, eqb, List, [], ◌∷◌, length, drop, reverse, Option, Some, None, refl, ap, ◌∙◌, arith}
 use Rattle.std.specs.List.{last_or}
 use Rattle.std.proofs.lemmas.List.{reverse-append}
 use Rattle.css_model.specs.declared.limits.TheConstants.{MAX_DEPTH}
 use Rattle.css_model.specs.declared.token.Bracket.{Bracket}
 use Rattle.css_model.specs.declared.token.Lexeme.{Lexeme}
 use Rattle.css_model.specs.declared.token.Token.{Token}
-use Rattle.css_model.specs.Text.Lexemes.{is_white_kind, closer_of, closes, opened, after, after_all, lexeme, lexemes_in}
+use Rattle.css_model.specs.Text.Lexemes.{closer_of, closes, opened, after, lexeme}
 use Rattle.css_model.specs.Lists.{is_some}
 use Rattle.css_model.specs.Sheets.Sheet.{too_deep}
 use Rattle.sheet_read.specs.Steps.{is_too_deep}

@@ -1,8 +1,8 @@
 -- A list at the first place where a test passes.
-use Rattle.std.proofs.Common.{◌≡◌, ℕ, zero, suc, ◌+◌, ◌-◌, ◌<◌, ◌≤◌, Bool, List, [], ◌∷◌, true, false, length, take, drop, Some, None, sym, ◌∙◌, ap, arith, cond, ltb}
+use Rattle.std.proofs.Common.{◌≡◌, ℕ, zero, suc, ◌+◌, ◌-◌, ◌<◌, ◌≤◌, Bool, List, [], ◌∷◌, length, take, drop, Some, None, sym, ◌∙◌, ap, arith, cond, ltb}
 use Rattle.css_model.specs.declared.token.Lexeme.{Lexeme}
 use Rattle.css_model.specs.Text.Lexemes.{end_of, piece_of}
-use Rattle.std.specs.List.{slice_get, position_from, position_or_len, before_first, after_first, slice_split, AllByRecursion, onto_first}
+use Rattle.std.specs.List.{slice_get, position_from, position_or_len, before_first, after_first, slice_split}
 use Rattle.std.proofs.lemmas.Iterator.Adapters.{position_from-zero}
 use Rattle.std.proofs.lemmas.List.{take_rest, take_all, drop_all}
 use Rattle.std.proofs.lemmas.List.Sums.{fails_before_first}

@@ -1,22 +1,13 @@
 -- The tokens of a sheet stand in it.
-use Rattle.std.proofs.Common.{ℕ, ◌≡◌, ◌≤◌, ◌<◌, ◌+◌, ◌-◌, ◌&&◌, ◌++◌, Bool, true, false, cond, List, [], ◌∷◌, length, drop, Option, Some, None, Ok, refl, sym, ap, ◌∙◌, subst, arith}
+use Rattle.std.proofs.Common.{ℕ, ◌≡◌, ◌≤◌, ◌<◌, Bool, true, false, cond, List, [], ◌∷◌, length, drop, Option, None, refl, subst, arith}
 use Rattle.std.specs.Prelude.{nat_eq}
 use Rattle.std.specs.List.{AllByRecursion, starts_with}
-use Rattle.std.proofs.lemmas.Bool.{false≢true}
-use Rattle.std.proofs.Math.Seq.{drop-append_seam}
-use Rattle.std.proofs.lemmas.List.{append-nil, drop-drop}
-use Rattle.std.proofs.lemmas.List.Concat.{flat_map-cons}
 use Rattle.css_model.specs.declared.token.Bracket.{Bracket}
 use Rattle.css_model.specs.declared.token.Token.{Token}
 use Rattle.css_model.specs.declared.token.TokenFault.{TokenFault}
-use Rattle.css_model.specs.declared.token.TokenFlaw.{TokenFlaw}
-use Rattle.css_model.specs.declared.token.TokenKind.{TokenKind}
 use Rattle.css_model.specs.Text.Lexemes.{is_white_kind, after, lexeme, lexemes_in}
-use Rattle.css_model.specs.Lists.{is_some}
-use Rattle.css_model.specs.Text.TokenAt.{part_at, done}
-use Rattle.css_model.specs.Text.Tokens.{Part, parts, text_of, is_comment, token_then, tokens_at, fault_behind, byte_order_mark, stream, tokens}
-use Rattle.css_tokens.specs.Laws.{Cover, TokensCover, PartsJoin, place_of}
-use Rattle.css_tokens.specs.Lexed.{IsLexed, PartsAreLexed}
+use Rattle.css_model.specs.Text.Tokens.{byte_order_mark, stream, tokens}
+use Rattle.css_tokens.specs.Laws.{Cover, TokensCover, place_of}
 use Rattle.css_tokens.proofs.ForCallers.{mark_len}
 use Rattle.sheet_read.specs.Placed.{ArePlaced}
 

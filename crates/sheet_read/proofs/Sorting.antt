@@ -1,9 +1,8 @@
 -- The tokens of a stream as they are sorted: what is still to come, and what the whole stream gives.
-use Rattle.std.proofs.Common.{ℕ, ◌≡◌, Bool, true, false, List, [], ◌∷◌, length, Option, Some, None, Result, Ok, Err, refl, sym, ap, ◌∙◌, subst}
+use Rattle.std.proofs.Common.{ℕ, ◌≡◌, false, List, [], ◌∷◌, length, Option, Some, None, Ok, Err, refl, sym, ap, ◌∙◌}
 use Rattle.std.specs.Prelude.{MatchOption}
 use Rattle.std.specs.List.{cons_option}
 use Rattle.css_model.specs.declared.fault.FaultKind.TheVariants.{EndInside, TooDeep}
-use Rattle.css_model.specs.declared.fault.SheetFault.{SheetFault}
 use Rattle.css_model.specs.declared.sheet.Piece.{Piece}
 use Rattle.css_model.specs.declared.token.Bracket.{Bracket}
 use Rattle.css_model.specs.declared.token.Gap.{Gap}
@@ -12,7 +11,7 @@ use Rattle.css_model.specs.declared.token.Token.{Token}
 use Rattle.css_model.specs.declared.token.TokenFault.{TokenFault}
 use Rattle.css_model.specs.Sheets.Fault.{fault_of, unless}
 use Rattle.css_model.specs.Sheets.Sheet.{token_fault, too_deep, unclosed}
-use Rattle.css_model.specs.Text.Lexemes.{is_white_kind, after, after_all, gap_of, white_of, lexeme, lexemes, lexemes_in}
+use Rattle.css_model.specs.Text.Lexemes.{is_white_kind, after, gap_of, white_of, lexeme, lexemes, lexemes_in}
 use Rattle.css_model.specs.Text.Tokens.{Stream}
 use Rattle.sheet_read.specs.Reading.{GivesNext}
 use Rattle.sheet_read.specs.Steps.{all_tokens, lexed, sorted, fault_before}

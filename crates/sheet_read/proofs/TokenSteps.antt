@@ -1,12 +1,8 @@
 -- The tokens of a source that is UTF-8, and the fault of one that is not.
-use Rattle.std.proofs.Common.{ℕ, ◌≡◌, ◌<◌, ◌++◌, true, List, [], length, Option, Some, None, Ok, Err, refl, sym, ap, ◌∙◌, arith, lt-ltb, le-ltb}
+use Rattle.std.proofs.Common.{ℕ, ◌≡◌, ◌<◌, true, List, length, Err, refl, arith, lt-ltb, le-ltb}
 use Rattle.std.specs.Str.Lossy.{utf8_valid_len}
-use Rattle.std.proofs.lemmas.List.{append-nil}
 use Rattle.css_model.specs.declared.fault.FaultKind.TheVariants.{NotUtf8}
-use Rattle.css_model.specs.declared.token.Token.{Token}
-use Rattle.css_model.specs.declared.token.TokenFault.{TokenFault}
-use Rattle.css_model.specs.Sheets.Sheet.{token_fault}
-use Rattle.css_model.specs.Text.Tokens.{Stream, tokens}
+use Rattle.css_model.specs.Text.Tokens.{tokens}
 use Rattle.sheet_read.specs.Steps.{all_tokens, tokens_of}
 
 pub not_utf8 : (source : List ℕ) → utf8_valid_len source < length source → tokens_of source ≡ Err (record { kind = NotUtf8; at = utf8_valid_len source })

@@ -1,3 +1,4 @@
+pub mod Cut
 pub mod Messages
 pub mod Placed
 pub mod Reading

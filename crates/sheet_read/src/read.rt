@@ -1,10 +1,15 @@
 //! A style sheet from its bytes, or its fault.
 
-ghost use Rattle.std.specs.Prelude.{◌≡◌, ◌≤◌, ◌<◌, ◌+◌, ◌-◌, true, if◌then◌else◌, map, length, Result, IfOk};
-ghost use Rattle.std.specs.Option.{option_map};
+ghost use Rattle.std.specs.Prelude.{◌≡◌, ◌≤◌, ◌<◌, ◌+◌, ◌-◌, true, if◌then◌else◌, map, length, Ok, IfOk};
 ghost use Rattle.std.specs.Str.{IsAscii};
+ghost use Rattle.css_model.specs.declared.sheet.Item.TheVariants as kinds;
+ghost use Rattle.css_model.specs.declared.sheet.Piece.{Piece};
+ghost use Rattle.css_model.specs.Sheets.Limits.{max_bytes};
+ghost use Rattle.css_model.specs.Sheets.Selectors.{selectors};
 ghost use Rattle.css_model.specs.Sheets.Sheet as spec;
 ghost use Rattle.css_model.specs.Sheets.Sheet.{sheet_of};
+ghost use Rattle.css_model.specs.Text.Lexemes.{piece_of};
+ghost use Rattle.sheet_read.specs.Cut.{GivesItems, MayStandFor};
 ghost use Rattle.sheet_read.specs.Placed.{ArePlaced};
 ghost use Rattle.sheet_read.specs.Reading.{Answers};
 ghost use Rattle.sheet_read.specs.Steps as steps;
@@ -13,17 +18,15 @@ use crate::declarations::declarations;
 use crate::fault::SheetError;
 use crate::items::{is_at_keyword, is_at_rule, next_item};
 use crate::lexing::lexemes_of;
-use crate::selectors::selectors;
+use crate::selectors::first_selectors;
 use crate::signs::piece_of;
 use css_model::{
     Decl, DeclItem, FaultKind, Item, KeptRule, Lexeme, MAX_BYTES, MAX_ITEMS, MAX_PAIRS, Piece,
     Rule, SelItem, Sheet, SheetFault,
 };
 use css_tokens::{is_named, tokens_cover};
+use sel_parse::SelError;
 use std::alloc::{AllocError, Global};
-
-/// Why a rule is kept one of whose selectors is not read.
-const NOT_READ: u32 = 14;
 
 /// Whether this is an at-rule whose name is this word of ASCII.
 fn is_at_rule_named(word: &[u8], source: &[u8], item: &[Lexeme]) -> bool
@@ -79,45 +82,71 @@ fn decls_of(alloc: Global, items: Vec<DeclItem>) -> Result<Vec<Decl>, AllocError
     items.into_iter().map(|item| item.decl).collect(alloc)
 }
 
-/// A qualified rule whose selectors are read, or else are not, and that has these declarations.
-fn rule_of(
+/// A rule that is kept as it stands, with its declarations, for the reason of this number.
+fn kept_rule(
     alloc: Global,
     piece: Piece,
-    selectors: Option<Vec<SelItem>>,
     decls: Vec<DeclItem>,
-) -> Result<Option<Item>, AllocError>
-    ensures { IfOk result (λ item. item ≡ spec.rule_of piece (option_map (λ read. read.items) selectors) decls.items) }
+    reason: u32,
+) -> Result<Item, AllocError>
+    ensures { IfOk result (λ item. item ≡ kinds.KeptRule (record { piece = piece; decls = map (λ d. d.decl) decls.items; reason = reason })) }
 {
-    match selectors {
-        None => Ok(Some(Item::KeptRule(KeptRule {
-            piece,
-            decls: decls_of(alloc, decls)?,
-            reason: NOT_READ,
-        }))),
-        Some(selectors) => {
-            if decls.is_empty() {
-                Ok(None)
-            } else {
-                Ok(Some(Item::Rule(Rule { selectors, decls })))
-            }
-        }
+    Ok(Item::KeptRule(KeptRule {
+        piece,
+        decls: decls_of(alloc, decls)?,
+        reason,
+    }))
+}
+
+/// A style rule, if it declares anything.
+fn style_rule(selectors: Vec<SelItem>, decls: Vec<DeclItem>) -> Option<Item>
+    ensures { (piece : Piece) → result ≡ spec.rule_of piece (Ok selectors.items) decls.items }
+{
+    if decls.is_empty() {
+        None
+    } else {
+        Some(Item::Rule(Rule { selectors, decls }))
     }
 }
 
-/// An item, if it is not dropped.
-fn item_of(alloc: Global, source: &[u8], item: &[Lexeme]) -> Result<Option<Item>, AllocError>
-    requires { ArePlaced source.now item.now }
-    ensures { IfOk result (λ read. read ≡ spec.item_of source.now item.now) }
+/// A qualified rule with these declarations, if it is not dropped, with room for so many pairs.
+fn rule_of(
+    alloc: Global,
+    source: &[u8],
+    item: &[Lexeme],
+    decls: Vec<DeclItem>,
+    room: u64,
+) -> Result<Option<Item>, AllocError>
+    requires placed { ArePlaced source.now item.now }
+    requires short { length source.now ≤ max_bytes }
+    ensures { IfOk result (λ read. MayStandFor room read (spec.rule_of (piece_of item.now) (selectors source.now item.now) decls.items)) }
+{
+    match first_selectors(alloc, source, item, decls.len(), room) {
+        Ok(selectors) => Ok(style_rule(selectors, decls)),
+        Err(SelError::Outside(reason)) => {
+            Ok(Some(kept_rule(alloc, piece_of(item), decls, reason)?))
+        }
+        Err(SelError::NoMemory) => Err(AllocError),
+    }
+}
+
+/// An item, if it is not dropped, with room for so many pairs.
+fn item_of(
+    alloc: Global,
+    source: &[u8],
+    item: &[Lexeme],
+    room: u64,
+) -> Result<Option<Item>, AllocError>
+    requires placed { ArePlaced source.now item.now }
+    requires short { length source.now ≤ max_bytes }
+    ensures { IfOk result (λ read. MayStandFor room read (spec.item_of source.now item.now)) }
 {
     if is_at_rule(item) {
         return Ok(Some(Item::KeptBlock(piece_of(item))));
     }
     match declarations(alloc, source, item)? {
         None => Ok(Some(Item::KeptBlock(piece_of(item)))),
-        Some(decls) => {
-            let selectors = selectors(alloc, source, item)?;
-            rule_of(alloc, piece_of(item), selectors, decls)
-        }
+        Some(decls) => rule_of(alloc, source, item, decls, room),
     }
 }
 
@@ -142,14 +171,16 @@ fn item_before(
     source: &[u8],
     item: &[Lexeme],
     imports: usize,
+    room: u64,
 ) -> Result<Option<Item>, AllocError>
-    requires { ArePlaced source.now item.now }
-    ensures { IfOk result (λ read. read ≡ steps.item_before source.now item.now imports) }
+    requires placed { ArePlaced source.now item.now }
+    requires short { length source.now ≤ max_bytes }
+    ensures { IfOk result (λ read. MayStandFor room read (steps.item_before source.now item.now imports)) }
 {
     if imports > 0 {
         Ok(Some(Item::KeptBlock(piece_of(item))))
     } else {
-        item_of(alloc, source, item)
+        item_of(alloc, source, item, room)
     }
 }
 
@@ -166,7 +197,21 @@ fn imports_behind(source: &[u8], item: &[Lexeme], imports: usize) -> usize
     }
 }
 
-/// The items of a sheet with so many `@import` rules.
+/// How many pairs there is room for behind an item.
+fn room_behind(room: u64, item: &Item) -> u64
+    ensures { result ≡ room - spec.pairs_of item.now }
+{
+    match item {
+        Item::Rule(rule) => {
+            let pairs = (rule.selectors.len() as u64).saturating_mul(rule.decls.len() as u64);
+            room.saturating_sub(pairs)
+        }
+        _ => room,
+    }
+}
+
+/// The items of a sheet with so many `@import` rules. A rule with which the pairs become too many may lack
+/// selectors: it is refused, and may have very many.
 fn items_of(
     alloc: Global,
     source: &[u8],
@@ -174,21 +219,24 @@ fn items_of(
     imports: usize,
 ) -> Result<Vec<Item>, SheetError>
     requires placed { ArePlaced source.now lexemes.now }
+    requires short { length source.now ≤ max_bytes }
     requires imports { imports ≡ steps.count_imports source.now (steps.whole_items lexemes.now) }
-    ensures { Answers (λ items. items.items) result (steps.items_of source.now (steps.whole_items lexemes.now)) }
+    ensures { GivesItems (λ items. items.items) result (steps.items_of source.now (steps.whole_items lexemes.now)) }
 {
     let mut items = Vec::new(alloc);
     let mut imports_left = imports;
+    let mut room = u64::from(MAX_PAIRS);
     let mut rest = lexemes;
     'items: while let Some((item, behind)) = next_item(rest) {
         imports_left = imports_behind(source, item, imports_left);
-        if let Some(read) = item_before(alloc, source, item, imports_left)? {
+        if let Some(read) = item_before(alloc, source, item, imports_left, room)? {
             if items.len() == MAX_ITEMS as usize {
                 return Err(SheetError::Fault(SheetFault {
                     kind: FaultKind::TooManyItems,
                     at: start_of(&read),
                 }));
             }
+            room = room_behind(room, &read);
             items.push(read)?;
         }
         rest = behind;

@@ -1,171 +1,83 @@
-//! The selectors of a rule: of a type, a class or an id, each alone (Selectors 3, sections 6.1, 6.4 and 6.5).
+//! The selectors of a rule (Selectors 3, section 5).
 
-ghost use Rattle.std.specs.Prelude.{◌≡◌, ◌<◌, ◌≤◌, ◌&&◌, not, drop, length, codes, IfOk};
-ghost use Rattle.std.specs.Option.{option_map};
-ghost use Rattle.css_model.specs.declared.selector.Test.TheVariants.{Id};
-ghost use Rattle.css_model.specs.Text.Lexemes.{is_delim_of, is_ident};
-ghost use Rattle.css_model.specs.Lists.{same_text};
-ghost use Rattle.css_model.specs.Text.Kept.{is_white_gap};
-ghost use Rattle.css_model.specs.Sheets.Selectors as list;
-ghost use Rattle.css_model.specs.Text.Source.{IsWithin, text_at};
-ghost use Rattle.css_model.specs.Text.Names.{decoded};
-ghost use Rattle.sheet_read.specs.Placed.{IsPlaced, ArePlaced};
+ghost use Rattle.std.specs.Prelude.{◌≡◌, ◌≤◌, ◌++◌, ◌∷◌, [], if◌then◌else◌, length, OnOk};
+ghost use Rattle.css_model.specs.Sheets.Limits.{max_bytes};
+ghost use Rattle.css_model.specs.Sheets.Selectors as spec;
+ghost use Rattle.sel_parse.specs.Answers.{Answers};
+ghost use Rattle.sheet_read.specs.Cut as cut;
+ghost use Rattle.sheet_read.specs.Cut.{GivesFirst};
+ghost use Rattle.sheet_read.specs.Placed.{ArePlaced};
 
-use crate::names::lower;
-use crate::signs::{cut, is_delim_of, is_ident, is_white_gap, piece_of, prelude};
-use css_model::{
-    AttrTest, Compound, Lexeme, Op, Piece, SelItem, Selector, Simple, Test, Text, TokenKind,
-};
-use css_tokens::decode;
-use smallvec::SmallVec;
+use crate::signs::{cut, piece_of, prelude};
+use css_model::{Lexeme, SelItem};
+use sel_parse::{SelError, read_selector};
 use std::alloc::{AllocError, Global};
 
-fn class_name(alloc: Global) -> Result<Text, AllocError>
-    ensures { IfOk result (λ t. t ≡ codes "class") }
+/// A part of a prelude as a selector, without room that it does not use: a sheet may have many.
+fn selector_item(alloc: Global, source: &[u8], part: &[Lexeme]) -> Result<SelItem, SelError>
+    requires placed { ArePlaced source.now part.now }
+    requires short { length source.now ≤ max_bytes }
+    ensures { Answers result (spec.selector_item source.now part.now) }
 {
-    Ok(Text::new(vec![in alloc; 'c', 'l', 'a', 's', 's']?))
-}
-
-/// The selector of one simple selector.
-pub(crate) fn of_one_test(alloc: Global, test: Test) -> Result<Selector, AllocError>
-    ensures { IfOk result (λ s. s ≡ list.of_one_test test) }
-{
-    let mut simples = SmallVec::new(alloc);
-    simples.push(Simple {
-        negated: false,
-        test,
-    })?;
-    let mut chain = Vec::with_capacity(alloc, 1)?;
-    chain.push(Compound { simples })?;
-    Ok(Selector {
-        chain,
-        links: Vec::new(alloc),
-        pseudo: None,
-    })
-}
-
-/// A type, by its name.
-fn type_test(alloc: Global, source: &[u8], name: Piece) -> Result<Option<Test>, AllocError>
-    requires { IsWithin source.now name }
-    ensures { IfOk result (λ t. t ≡ list.type_test (text_at source.now name)) }
-{
-    if name.text(source).starts_with(b"--") {
-        return Ok(None);
-    }
-    let name = decode(alloc, source, &name)?;
-    Ok(Some(Test::Kind(lower(alloc, &name)?)))
-}
-
-/// An id, by its hash with its name.
-fn id_test(alloc: Global, source: &[u8], hash: Piece) -> Result<Test, AllocError>
-    requires some { hash.start < hash.«end» }
-    requires inside { hash.«end» ≤ length source.now }
-    ensures { IfOk result (λ t. t ≡ Id (decoded (drop 1 (text_at source.now hash)))) }
-{
-    let name = Piece {
-        start: hash.start + 1,
-        end: hash.end,
-    };
-    Ok(Test::Id(decode(alloc, source, &name)?))
-}
-
-/// The test of one token: a type or an id.
-fn test_of_one(alloc: Global, source: &[u8], x: &Lexeme) -> Result<Option<Test>, AllocError>
-    requires { IsPlaced source.now x.now }
-    ensures { IfOk result (λ t. t ≡ list.test_of_one x.now.kind (text_at source.now x.now.span)) }
-{
-    match x.kind {
-        TokenKind::Ident => type_test(alloc, source, x.span),
-        TokenKind::IdHash => Ok(Some(id_test(alloc, source, x.span)?)),
-        _ => Ok(None),
+    match read_selector(alloc, source, part) {
+        Ok(mut selector) => {
+            selector.chain.shrink_to_fit();
+            selector.links.shrink_to_fit();
+            Ok(SelItem {
+                selector,
+                piece: piece_of(part),
+            })
+        }
+        Err(error) => Err(error),
     }
 }
 
-/// Whether these are two hyphens and nothing else.
-fn is_two_hyphens(text: &[u8]) -> bool
-    ensures { result ≡ same_text text.now (codes "--") }
+/// Whether so many selectors of a rule with so many declarations leave room for the pairs of another one.
+fn has_room(decls: usize, room: u64, selectors: usize) -> bool
+    ensures { result ≡ cut.has_room decls room selectors }
 {
-    matches!(text, b"--")
+    decls > 0 && (selectors as u128) * (decls as u128) <= u128::from(room)
 }
 
-/// Whether this is a dot and a name that are read as a class.
-fn is_class(source: &[u8], sign: &Lexeme, name: &Lexeme) -> bool
-    requires { IsPlaced source.now name.now }
-    ensures { result ≡ (is_delim_of 0x2E sign.now.kind && not (is_white_gap sign.now.gap) && is_ident name.now.kind && not (same_text (text_at source.now name.now.span) (codes "--"))) }
+/// Puts a selector behind others, where there is room for it.
+fn push_where_room(
+    selectors: &mut Vec<SelItem>,
+    selector: SelItem,
+    decls: usize,
+    room: u64,
+) -> Result<(), AllocError>
+    ensures { OnOk result (selectors.new.items ≡ (if cut.has_room decls room (length selectors.old.items)
+        then selectors.old.items ++ selector ∷ [] else selectors.old.items)) }
 {
-    is_delim_of(0x2E, sign.kind)
-        && !is_white_gap(sign.gap)
-        && is_ident(name.kind)
-        && !is_two_hyphens(name.span.text(source))
-}
-
-/// The test of a class: a dot and a name.
-fn class_of(
-    alloc: Global,
-    source: &[u8],
-    sign: &Lexeme,
-    name: &Lexeme,
-) -> Result<Option<Test>, AllocError>
-    requires { IsPlaced source.now name.now }
-    ensures { IfOk result (λ t. t ≡ list.class_of source.now sign.now name.now) }
-{
-    if !is_class(source, sign, name) {
-        return Ok(None);
+    if has_room(decls, room, selectors.len()) {
+        selectors.push(selector)?;
     }
-    Ok(Some(Test::Attr(AttrTest {
-        name: class_name(alloc)?,
-        op: Op::Word,
-        value: decode(alloc, source, &name.span)?,
-    })))
+    Ok(())
 }
 
-fn simple_of(alloc: Global, source: &[u8], part: &[Lexeme]) -> Result<Option<Test>, AllocError>
-    requires { ArePlaced source.now part.now }
-    ensures { IfOk result (λ t. t ≡ list.simple_of source.now part.now) }
-{
-    match part {
-        [x] => test_of_one(alloc, source, x),
-        [sign, name] => class_of(alloc, source, sign, name),
-        _ => Ok(None),
-    }
-}
-
-/// A part of a prelude as a selector.
-fn selector_item(
-    alloc: Global,
-    source: &[u8],
-    part: &[Lexeme],
-) -> Result<Option<SelItem>, AllocError>
-    requires { ArePlaced source.now part.now }
-    ensures { IfOk result (λ s. s ≡ list.selector_item source.now part.now) }
-{
-    match simple_of(alloc, source, part)? {
-        Some(test) => Ok(Some(SelItem {
-            selector: of_one_test(alloc, test)?,
-            piece: piece_of(part),
-        })),
-        None => Ok(None),
-    }
-}
-
-/// The selectors of a rule; `None` exactly where one of them is not read.
-pub(crate) fn selectors(
+/// The selectors of a rule with so many declarations, or so many of the first ones that there is no room for the
+/// pairs of more; `Outside` exactly where one of them is outside the profile, for the reason against the first such
+/// one.
+pub(crate) fn first_selectors(
     alloc: Global,
     source: &[u8],
     item: &[Lexeme],
-) -> Result<Option<Vec<SelItem>>, AllocError>
-    requires { ArePlaced source.now item.now }
-    ensures { IfOk result (λ r. option_map (λ v. v.items) r ≡ list.selectors source.now item.now) }
+    decls: usize,
+    room: u64,
+) -> Result<Vec<SelItem>, SelError>
+    requires placed { ArePlaced source.now item.now }
+    requires short { length source.now ≤ max_bytes }
+    ensures { GivesFirst (λ read. read.items) decls room result (spec.selectors source.now item.now) }
 {
     let mut selectors = Vec::new(alloc);
     let mut rest = Some(prelude(item));
     while let Some(parts) = rest {
         let (part, behind) = cut(b',', 0, parts);
-        let Some(selector) = selector_item(alloc, source, part)? else {
-            return Ok(None);
-        };
-        selectors.push(selector)?;
+        let selector = selector_item(alloc, source, part)?;
+        if push_where_room(&mut selectors, selector, decls, room).is_err() {
+            return Err(SelError::NoMemory);
+        }
         rest = behind;
     }
-    Ok(Some(selectors))
+    Ok(selectors)
 }

@@ -91,7 +91,7 @@ const PAIRS: [(Repeated<'static>, &str); 4] = [
         "TooManyPairs at 3073",
     ),
     (
-        &[("a,", 512), ("*{", 1), ("b:c;", 512), ("}", 1)],
+        &[("a,", 512), ("a|b{", 1), ("b:c;", 512), ("}", 1)],
         "1 items",
     ),
 ];
@@ -99,7 +99,7 @@ const PAIRS: [(Repeated<'static>, &str); 4] = [
 /// Long sheets that are one long part.
 const PARTS: [(Repeated<'static>, &str); 9] = [
     (&[("a,", 262_143), ("a{b:c}", 1)], "1 items"),
-    (&[("a,", 524_284), ("a{b:c}", 1)], "TooManyPairs at 0"),
+    (&[("a,", 262_144), ("a{b:c}", 1)], "TooManyPairs at 0"),
     (&[("a{", 1), ("b:c;", 262_143), ("}", 1)], "1 items"),
     (&[("a{", 1), (";", 1_048_573), ("}", 1)], "0 items"),
     (&[("a{b:", 1), ("1 ", 524_285), ("}", 1)], "1 items"),

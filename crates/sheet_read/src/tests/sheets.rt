@@ -50,24 +50,62 @@ const RULES: [(&str, &str); 20] = [
     ("a{;}", "nothing"),
 ];
 
-/// Rules with a selector that is not read.
-const KEPT_RULES: [(&str, &str); 11] = [
-    ("a b{top:0}", "kept 0-10 14 {top:0}"),
+/// Rules of selectors of more than one part.
+const SELECTORS: [(&str, &str); 10] = [
+    ("*{top:0}", "rule 0-1 {2-5 top:6-7 0}"),
+    ("a b{top:0}", "rule 0-3 {4-7 top:8-9 0}"),
+    ("a:hover{top:0}", "rule 0-7 {8-11 top:12-13 0}"),
     (
-        "a,b c{top:0;left:0!important}",
-        "kept 0-29 14 {top:0; left:0 !}",
+        " a > b , c::before {top:0}",
+        "rule 1-6,9-18 {20-23 top:24-25 0}",
     ),
-    ("*{top:0}", "kept 0-8 14 {top:0}"),
-    ("a:hover{top:0}", "kept 0-14 14 {top:0}"),
-    (". a{top:0}", "kept 0-10 14 {top:0}"),
-    ("--a{top:0}", "kept 0-10 14 {top:0}"),
-    ("{top:0}", "kept 0-7 14 {top:0}"),
-    ("a,{top:0}", "kept 0-9 14 {top:0}"),
-    ("a b{}", "kept 0-5 14 {}"),
-    ("a[{}]{top:0}", "kept 0-12 14 {top:0}"),
+    ("a/**/ b{top:0}", "rule 0-7 {8-11 top:12-13 0}"),
+    ("[id=\"b,{c\"]{top:0}", "rule 0-11 {12-15 top:16-17 0}"),
     (
-        " a b{top:0} c{top:0}",
-        "kept 1-11 14 {top:0} / rule 12-13 {14-17 top:18-19 0}",
+        ":not( [a|=b] ),:nth-child( 2n + 1 ){top:0}",
+        "rule 0-14,15-35 {36-39 top:40-41 0}",
+    ),
+    (
+        "a a a a a a a a a a a a{top:0}",
+        "rule 0-23 {24-27 top:28-29 0}",
+    ),
+    (
+        "a:nth-child(2n):nth-child(3n):nth-child(4n):nth-child(5n){top:0}",
+        "rule 0-57 {58-61 top:62-63 0}",
+    ),
+    ("a b{}", "nothing"),
+];
+
+/// Rules with a selector outside the profile, and the reason against the first such one.
+const KEPT_RULES: [(&str, &str); 20] = [
+    ("a:is(b,c){top:0}", "kept 0-16 1 {top:0}"),
+    ("a::marker{top:0}", "kept 0-16 2 {top:0}"),
+    ("a|b{top:0}", "kept 0-10 3 {top:0}"),
+    ("[a=b i]{top:0}", "kept 0-14 4 {top:0}"),
+    ("[id^=a]{top:0}", "kept 0-14 5 {top:0}"),
+    ("a a a a a a a a a a a a a{top:0}", "kept 0-32 6 {top:0}"),
+    (":nth-child(33n){top:0}", "kept 0-22 8 {top:0}"),
+    (
+        "a:nth-child(2n):nth-child(3n):nth-child(4n):nth-child(5n) b:nth-child(6n){top:0}",
+        "kept 0-80 9 {top:0}",
+    ),
+    (". a{top:0}", "kept 0-10 10 {top:0}"),
+    ("--a{top:0}", "kept 0-10 10 {top:0}"),
+    ("{top:0}", "kept 0-7 10 {top:0}"),
+    ("a,{top:0}", "kept 0-9 10 {top:0}"),
+    ("a,/**/,b:is(c){top:0}", "kept 0-21 10 {top:0}"),
+    ("a[{}]{top:0}", "kept 0-12 10 {top:0}"),
+    ("a:is(b){}", "kept 0-9 1 {}"),
+    (
+        "a,b:is(c){top:0;left:0!important}",
+        "kept 0-33 1 {top:0; left:0 !}",
+    ),
+    ("a:is(b),c|d{top:0}", "kept 0-18 1 {top:0}"),
+    ("a b,c|d,a:is(b){top:0}", "kept 0-22 3 {top:0}"),
+    ("a,c|d:is(b){top:0}", "kept 0-18 3 {top:0}"),
+    (
+        " a:is(b){top:0} c{top:0}",
+        "kept 1-15 1 {top:0} / rule 16-17 {18-21 top:22-23 0}",
     ),
 ];
 
@@ -75,14 +113,14 @@ const KEPT_RULES: [(&str, &str); 11] = [
 const ITEMS: [(&str, &str); 24] = [
     ("a", "nothing"),
     ("a{top:0}b", "rule 0-1 {2-5 top:6-7 0}"),
-    ("a;b{top:0}", "kept 0-10 14 {top:0}"),
-    (";a{top:0}", "kept 0-9 14 {top:0}"),
+    ("a;b{top:0}", "kept 0-10 10 {top:0}"),
+    (";a{top:0}", "kept 0-9 10 {top:0}"),
     ("}", "nothing"),
-    ("a}b{top:0}", "kept 0-10 14 {top:0}"),
-    (")a{top:0}", "kept 0-9 14 {top:0}"),
+    ("a}b{top:0}", "kept 0-10 10 {top:0}"),
+    (")a{top:0}", "kept 0-9 10 {top:0}"),
     (
         "a{top:0}}b{left:0}",
-        "rule 0-1 {2-5 top:6-7 0} / kept 8-18 14 {left:0}",
+        "rule 0-1 {2-5 top:6-7 0} / kept 8-18 10 {left:0}",
     ),
     ("@media print{a{top:0}}", "block 0-22"),
     ("@charset \"x\";", "block 0-13"),
@@ -103,7 +141,7 @@ const ITEMS: [(&str, &str); 24] = [
     ),
     ("<!-- a{top:0}", "rule 5-6 {7-10 top:11-12 0}"),
     ("-->", "nothing"),
-    ("a <!-- b{top:0}", "kept 0-15 14 {top:0}"),
+    ("a <!-- b{top:0}", "kept 0-15 10 {top:0}"),
     ("a{<!--top:0}", "nothing"),
     ("@a<!--;", "block 0-7"),
 ];
@@ -130,14 +168,14 @@ const IMPORTS: [(&str, &str); 11] = [
         "rule 0-1 {2-5 top:6-7 0} / block 8-21",
     ),
     ("a{top:0}@import", "block 0-8 / block 8-15"),
-    ("a@import \"x\";b{top:0}", "kept 0-21 14 {top:0}"),
+    ("a@import \"x\";b{top:0}", "kept 0-21 10 {top:0}"),
     (
         "a{top:0}@media print{@import \"x\";}",
         "rule 0-1 {2-5 top:6-7 0} / block 8-34",
     ),
     (
         "b@import{} a{top:0}",
-        "kept 0-10 14 {} / rule 11-12 {13-16 top:17-18 0}",
+        "kept 0-10 10 {} / rule 11-12 {13-16 top:17-18 0}",
     ),
 ];
 
@@ -241,6 +279,11 @@ const FAULTS: [(&str, &str); 19] = [
 #[test]
 fn reads_rules_and_their_pieces(rt: HostRuntime) -> Result<(), Fail> {
     are_read(&rt, rt.alloc(), &RULES)
+}
+
+#[test]
+fn reads_selectors_and_their_pieces(rt: HostRuntime) -> Result<(), Fail> {
+    are_read(&rt, rt.alloc(), &SELECTORS)
 }
 
 #[test]

@@ -8,7 +8,7 @@ use Rattle.css_model.specs.declared.token.Lexeme.{Lexeme}
 use Rattle.css_model.specs.declared.token.Token.{Token}
 use Rattle.css_model.specs.declared.token.TokenFault.{TokenFault}
 use Rattle.css_model.specs.Sheets.Sheet.{too_deep}
-use Rattle.css_model.specs.Text.Lexemes.{after, after_all, lexeme, lexemes, lexemes_in}
+use Rattle.css_model.specs.Text.Lexemes.{after, after_all, lexeme, lexemes_in}
 use Rattle.css_tokens.specs.Left.{left}
 use Rattle.sheet_read.specs.Steps.{is_too_deep, fault_before}
 use Rattle.sheet_read.proofs.Nesting.{deep_here, deep_later, after_short}

@@ -6,6 +6,7 @@ use Rattle.css_model.specs.declared.token.Lexeme.{Lexeme}
 use Rattle.css_model.specs.Sheets.Sheet.{sheet_of, too_many_pairs}
 use Rattle.css_model.specs.Sheets.Fault.{unless, fault_of}
 use Rattle.sheet_read.specs.Steps as steps
+use Rattle.sheet_read.proofs.Rooms.{stand_pairs}
 use Rattle.sheet_read.proofs.SheetSteps.{lexed_read, lexed_fault, lexed_placed, imports_read, imports_counted, imports_fault, items_read, items_fault, refused}
 use Rattle.sheet_read.proofs.read.read_sheet.Goals as goal
 
@@ -71,12 +72,14 @@ returns-in-Some c =
     ap (λ (xs : List Lexeme). steps.imports_of source (steps.whole_items xs)) (sym c.as_slice.ensures.value) ∙ sym c.in_ok-imports.ensures
     in
     let named = whole ∙ imports_read source raw c.in_ok-imports.imports read_imports in
-    let items = c.in_ok-items.items.items in
+    let given = c.in_ok-items.ensures in
+    let items = given.0 in
     let read : steps.items_of source raw ≡ Ok items =
-    ap (λ (xs : List Lexeme). steps.items_of source (steps.whole_items xs)) (sym c.as_slice-2.ensures.value) ∙ c.in_ok-items.ensures
+    ap (λ (xs : List Lexeme). steps.items_of source (steps.whole_items xs)) (sym c.as_slice-2.ensures.value) ∙ given.1
     in
     let counted = named ∙ items_read source raw items read in
-    let pairs : too_many_pairs 0 items ≡ Some c.in-Some.at = ap (too_many_pairs 0) (sym c.as_slice-3.ensures.value) ∙ sym c.in-Some.ensures in
+    let stand = stand_pairs 0 c.in_ok-items.items.items items (omega arith) given.2 in
+    let pairs : too_many_pairs 0 items ≡ Some c.in-Some.at = sym stand.0 ∙ ap (too_many_pairs 0) (sym c.as_slice-3.ensures.value) ∙ sym c.in-Some.ensures in
     counted ∙ ap (λ (at : Option ℕ). unless (fault_of TooManyPairs at ∷ []) items) pairs
 
 pub returns : goal.returns
@@ -90,10 +93,12 @@ returns c =
     ap (λ (xs : List Lexeme). steps.imports_of source (steps.whole_items xs)) (sym c.as_slice.ensures.value) ∙ sym c.in_ok-imports.ensures
     in
     let named = whole ∙ imports_read source raw c.in_ok-imports.imports read_imports in
-    let items = c.in_ok-items.items.items in
+    let given = c.in_ok-items.ensures in
+    let items = given.0 in
     let read : steps.items_of source raw ≡ Ok items =
-    ap (λ (xs : List Lexeme). steps.items_of source (steps.whole_items xs)) (sym c.as_slice-2.ensures.value) ∙ c.in_ok-items.ensures
+    ap (λ (xs : List Lexeme). steps.items_of source (steps.whole_items xs)) (sym c.as_slice-2.ensures.value) ∙ given.1
     in
     let counted = named ∙ items_read source raw items read in
-    let pairs : too_many_pairs 0 items ≡ None = ap (too_many_pairs 0) (sym c.as_slice-3.ensures.value) ∙ sym c.in-None.ensures in
-    counted ∙ ap (λ (at : Option ℕ). unless (fault_of TooManyPairs at ∷ []) items) pairs
+    let stand = stand_pairs 0 c.in_ok-items.items.items items (omega arith) given.2 in
+    let pairs : too_many_pairs 0 items ≡ None = sym stand.0 ∙ ap (too_many_pairs 0) (sym c.as_slice-3.ensures.value) ∙ sym c.in-None.ensures in
+    counted ∙ ap (λ (at : Option ℕ). unless (fault_of TooManyPairs at ∷ []) items) pairs ∙ ap Ok (sym (stand.1 pairs))
