@@ -1,13 +1,16 @@
 -- What small sheets are read as, and what is printed of them: each theorem is by computation.
-use Rattle.std.proofs.Common.{◌≡◌, ℕ, Bool, true, false, List, [], ◌∷◌, ◌++◌, map, Result, Ok, Err, refl}
+use Rattle.std.proofs.Common.{◌≡◌, ℕ, Bool, true, false, List, [], ◌∷◌, ◌++◌, map, None, Result, Ok, Err, refl}
 use Rattle.std.specs.Prelude.{codes}
 use Rattle.std.specs.Char.{encode_utf8}
 use Rattle.std.specs.Str.{chars, is_utf8}
 use Rattle.std.specs.Str.Lossy.{utf8_valid_len, utf8_lossy}
 use Rattle.css_model.specs.declared.fault.FaultKind.TheVariants.{NotUtf8, BadString, EndInside, Namespace}
 use Rattle.css_model.specs.declared.fault.SheetFault.{SheetFault}
+use Rattle.css_model.specs.declared.selector.Combinator.TheVariants.{Child, Inside}
+use Rattle.css_model.specs.declared.selector.Op.TheVariants.{Equal, Word}
+use Rattle.css_model.specs.declared.selector.Simple.{Simple}
 use Rattle.css_model.specs.declared.selector.Test.{Test}
-use Rattle.css_model.specs.declared.selector.Test.TheVariants.{Kind, Id}
+use Rattle.css_model.specs.declared.selector.Test.TheVariants.{Any, Attr, Id, Kind}
 use Rattle.css_model.specs.declared.sheet.Decl.{Decl}
 use Rattle.css_model.specs.declared.sheet.DeclItem.{DeclItem}
 use Rattle.css_model.specs.declared.sheet.Item.{Item}
@@ -19,8 +22,7 @@ use Rattle.css_model.specs.Text.Characters.{backslash, carriage_return, line_fee
 use Rattle.css_model.specs.Sheets.Printed.{printed}
 use Rattle.css_model.specs.Sheets.Spelling.{lexemes_of}
 use Rattle.css_model.specs.Text.Tokens.{byte_order_mark}
-use Rattle.css_model.specs.Sheets.Selectors.{class_test, of_one_test}
-use Rattle.css_model.specs.Sheets.Sheet.{sheet_of, not_read}
+use Rattle.css_model.specs.Sheets.Sheet.{sheet_of}
 
 -- ---- How to write sheets
 
@@ -30,9 +32,15 @@ piece start «end» = record { start = start; «end» = «end» }
 abbrev decl : List ℕ → List ℕ → Bool → Decl
 decl name value important = record { name = name; value = value; important = important }
 
--- a selector at a place, and a declaration whose name and value stand at places
+abbrev simple : Test → Simple
+simple test = record { negated = false; test = test }
+
+abbrev class : List ℕ → Test
+class name = Attr (record { name = codes "class"; op = Word; value = name })
+
+-- a selector of one test at a place, and a declaration whose name and value stand at places
 abbrev selector : Test → Piece → SelItem
-selector test at = record { selector = of_one_test test; piece = at }
+selector test at = record { selector = record { chain = (simple test ∷ []) ∷ []; links = []; pseudo = None }; piece = at }
 
 abbrev declares : Decl → Piece → Piece → DeclItem
 declares d name value = record { decl = d; name = name; value = value }
@@ -40,8 +48,8 @@ declares d name value = record { decl = d; name = name; value = value }
 abbrev rule : List SelItem → List DeclItem → Item
 rule selectors decls = Rule (record { selectors = selectors; decls = decls })
 
-abbrev kept_rule : Piece → List Decl → Item
-kept_rule at decls = KeptRule (record { piece = at; decls = decls; reason = not_read })
+abbrev kept_rule : Piece → ℕ → List Decl → Item
+kept_rule at reason decls = KeptRule (record { piece = at; decls = decls; reason = reason })
 
 -- what is printed of a sheet that is read
 abbrev print_read : List ℕ → Result (List Item) SheetFault → Result (List ℕ) SheetFault
@@ -74,7 +82,7 @@ unfolding utf8_valid_len is_utf8 chars encode_utf8 utf8_lossy
 spaced_print = refl
 
 -- several selectors and declarations
-several : sheet_of (codes ".a,#b{top:0;left:1px}") ≡ Ok (rule (selector (class_test (codes "a")) (piece 0 2) ∷ selector (Id (codes "b")) (piece 3 5) ∷ []) (declares (decl (codes "top") (codes "0") false) (piece 6 9) (piece 10 11) ∷ declares (decl (codes "left") (codes "1px") false) (piece 12 16) (piece 17 20) ∷ []) ∷ [])
+several : sheet_of (codes ".a,#b{top:0;left:1px}") ≡ Ok (rule (selector (class (codes "a")) (piece 0 2) ∷ selector (Id (codes "b")) (piece 3 5) ∷ []) (declares (decl (codes "top") (codes "0") false) (piece 6 9) (piece 10 11) ∷ declares (decl (codes "left") (codes "1px") false) (piece 12 16) (piece 17 20) ∷ []) ∷ [])
 unfolding utf8_valid_len is_utf8 chars encode_utf8 utf8_lossy
 several = refl
 
@@ -92,11 +100,11 @@ unfolding utf8_valid_len is_utf8 chars encode_utf8 utf8_lossy
 capitals_print = refl
 
 -- comments around and in a selector
-comment_behind : sheet_of (codes ".a/**/{b:c}") ≡ Ok (rule (selector (class_test (codes "a")) (piece 0 2) ∷ []) (declares (decl (codes "b") (codes "c") false) (piece 7 8) (piece 9 10) ∷ []) ∷ [])
+comment_behind : sheet_of (codes ".a/**/{b:c}") ≡ Ok (rule (selector (class (codes "a")) (piece 0 2) ∷ []) (declares (decl (codes "b") (codes "c") false) (piece 7 8) (piece 9 10) ∷ []) ∷ [])
 unfolding utf8_valid_len is_utf8 chars encode_utf8 utf8_lossy
 comment_behind = refl
 
-comment_inside : sheet_of (codes "./**/a{b:c}") ≡ Ok (rule (selector (class_test (codes "a")) (piece 0 6) ∷ []) (declares (decl (codes "b") (codes "c") false) (piece 7 8) (piece 9 10) ∷ []) ∷ [])
+comment_inside : sheet_of (codes "./**/a{b:c}") ≡ Ok (rule (selector (class (codes "a")) (piece 0 6) ∷ []) (declares (decl (codes "b") (codes "c") false) (piece 7 8) (piece 9 10) ∷ []) ∷ [])
 unfolding utf8_valid_len is_utf8 chars encode_utf8 utf8_lossy
 comment_inside = refl
 
@@ -108,6 +116,16 @@ comment_print = refl
 comment_in_value : sheet_of (codes "a{b/**/:/**/c/**/d}") ≡ Ok (rule (selector (Kind (codes "a")) (piece 0 1) ∷ []) (declares (decl (codes "b") (codes "c/**/d") false) (piece 2 3) (piece 12 18) ∷ []) ∷ [])
 unfolding utf8_valid_len is_utf8 chars encode_utf8 utf8_lossy
 comment_in_value = refl
+
+-- selectors of several compounds
+combinators : sheet_of (codes "a b>.c{d:e}") ≡ Ok (rule (record { selector = record { chain = (simple (class (codes "c")) ∷ []) ∷ (simple (Kind (codes "b")) ∷ []) ∷ (simple (Kind (codes "a")) ∷ []) ∷ []; links = Child ∷ Inside ∷ []; pseudo = None }; piece = piece 0 6 } ∷ []) (declares (decl (codes "d") (codes "e") false) (piece 7 8) (piece 9 10) ∷ []) ∷ [])
+unfolding utf8_valid_len is_utf8 chars encode_utf8 utf8_lossy
+combinators = refl
+
+-- a comma inside a bracket parts no selectors
+bracket : sheet_of (codes "[a='b,c'],*{d:e}") ≡ Ok (rule (selector (Attr (record { name = codes "a"; op = Equal; value = codes "b,c" })) (piece 0 9) ∷ selector Any (piece 10 11) ∷ []) (declares (decl (codes "d") (codes "e") false) (piece 12 13) (piece 14 15) ∷ []) ∷ [])
+unfolding utf8_valid_len is_utf8 chars encode_utf8 utf8_lossy
+bracket = refl
 
 -- `important` with an escape
 important : sheet_of (codes "a{b:c ! " ++ backslash ∷ codes "69mportant }") ≡ Ok (rule (selector (Kind (codes "a")) (piece 0 1) ∷ []) (declares (decl (codes "b") (codes "c") true) (piece 2 3) (piece 4 5) ∷ []) ∷ [])
@@ -176,37 +194,55 @@ without_block : sheet_of (codes "a{b:c}d") ≡ Ok (rule (selector (Kind (codes "
 unfolding utf8_valid_len is_utf8 chars encode_utf8 utf8_lossy
 without_block = refl
 
--- ---- Kept rules: with a selector that is not read
+-- ---- Kept rules: with a selector outside the profile
 
-combinator : sheet_of (codes "a b{c:d}") ≡ Ok (kept_rule (piece 0 8) (decl (codes "c") (codes "d") false ∷ []) ∷ [])
+unknown_pseudo_class : sheet_of (codes "a:is(b){c:d}") ≡ Ok (kept_rule (piece 0 12) 1 (decl (codes "c") (codes "d") false ∷ []) ∷ [])
 unfolding utf8_valid_len is_utf8 chars encode_utf8 utf8_lossy
-combinator = refl
+unknown_pseudo_class = refl
 
-empty_selector : sheet_of (codes "a,{b:c}") ≡ Ok (kept_rule (piece 0 7) (decl (codes "b") (codes "c") false ∷ []) ∷ [])
+unknown_pseudo_element : sheet_of (codes "a::marker{c:d}") ≡ Ok (kept_rule (piece 0 14) 2 (decl (codes "c") (codes "d") false ∷ []) ∷ [])
+unfolding utf8_valid_len is_utf8 chars encode_utf8 utf8_lossy
+unknown_pseudo_element = refl
+
+with_namespace : sheet_of (codes "a|b{c:d}") ≡ Ok (kept_rule (piece 0 8) 3 (decl (codes "c") (codes "d") false ∷ []) ∷ [])
+unfolding utf8_valid_len is_utf8 chars encode_utf8 utf8_lossy
+with_namespace = refl
+
+empty_selector : sheet_of (codes "a,{b:c}") ≡ Ok (kept_rule (piece 0 7) 10 (decl (codes "b") (codes "c") false ∷ []) ∷ [])
 unfolding utf8_valid_len is_utf8 chars encode_utf8 utf8_lossy
 empty_selector = refl
 
-no_prelude : sheet_of (codes "{b:c}") ≡ Ok (kept_rule (piece 0 5) (decl (codes "b") (codes "c") false ∷ []) ∷ [])
+no_prelude : sheet_of (codes "{b:c}") ≡ Ok (kept_rule (piece 0 5) 10 (decl (codes "b") (codes "c") false ∷ []) ∷ [])
 unfolding utf8_valid_len is_utf8 chars encode_utf8 utf8_lossy
 no_prelude = refl
 
 -- a `;` does not end a qualified rule
-semicolon : sheet_of (codes "a;b{c:d}") ≡ Ok (kept_rule (piece 0 8) (decl (codes "c") (codes "d") false ∷ []) ∷ [])
+semicolon : sheet_of (codes "a;b{c:d}") ≡ Ok (kept_rule (piece 0 8) 10 (decl (codes "c") (codes "d") false ∷ []) ∷ [])
 unfolding utf8_valid_len is_utf8 chars encode_utf8 utf8_lossy
 semicolon = refl
 
 -- a `)` that closes nothing
-stray : sheet_of (codes "a){b:c}") ≡ Ok (kept_rule (piece 0 7) (decl (codes "b") (codes "c") false ∷ []) ∷ [])
+stray : sheet_of (codes "a){b:c}") ≡ Ok (kept_rule (piece 0 7) 10 (decl (codes "b") (codes "c") false ∷ []) ∷ [])
 unfolding utf8_valid_len is_utf8 chars encode_utf8 utf8_lossy
 stray = refl
 
 -- white space between `.` and a name
-apart : sheet_of (codes ". a{b:c}") ≡ Ok (kept_rule (piece 0 8) (decl (codes "b") (codes "c") false ∷ []) ∷ [])
+apart : sheet_of (codes ". a{b:c}") ≡ Ok (kept_rule (piece 0 8) 10 (decl (codes "b") (codes "c") false ∷ []) ∷ [])
 unfolding utf8_valid_len is_utf8 chars encode_utf8 utf8_lossy
 apart = refl
 
+-- the reason is that against the first such selector
+first_reason : sheet_of (codes "a b,c|d,e:is(f){g:h}") ≡ Ok (kept_rule (piece 0 20) 3 (decl (codes "g") (codes "h") false ∷ []) ∷ [])
+unfolding utf8_valid_len is_utf8 chars encode_utf8 utf8_lossy
+first_reason = refl
+
+-- one that declares nothing is kept too
+kept_without_declaration : sheet_of (codes "a:is(b){}") ≡ Ok (kept_rule (piece 0 9) 1 [] ∷ [])
+unfolding utf8_valid_len is_utf8 chars encode_utf8 utf8_lossy
+kept_without_declaration = refl
+
 -- a kept rule is printed as it stands, with one space for white space
-kept_print : print (codes "a  >  b { c : d ; }") ≡ Ok (codes "a > b { c : d ; }")
+kept_print : print (codes "a:is( b )  >  b { c : d ; }") ≡ Ok (codes "a:is( b ) > b { c : d ; }")
 unfolding utf8_valid_len is_utf8 chars encode_utf8 utf8_lossy
 kept_print = refl
 
