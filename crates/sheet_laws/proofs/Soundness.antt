@@ -1,9 +1,10 @@
 -- What a source is read as is sound for it.
 use Rattle.std.specs.Prelude.{◌||◌}
 use Rattle.std.proofs.lemmas.Bool.{true≢false}
-use Rattle.std.proofs.Common.{cond, ◌≡◌, ◌≢◌, ℕ, suc, nat_lt, Bool, true, false, List, [], ◌∷◌, map, length, Option, Some, None, Ok, Err, refl, sym, ap, ◌∙◌, subst, arith}
+use Rattle.std.proofs.Common.{cond, ◌≡◌, ◌≢◌, ℕ, suc, nat_lt, Bool, true, false, List, [], ◌∷◌, map, length, Option, Some, None, Result, Ok, Err, refl, sym, ap, ◌∙◌, subst, arith}
 use Rattle.std.specs.List.{AllByRecursion, Contains, cons_option, filter_map, list_any, onto_first, slice_split}
 use Rattle.css_model.specs.declared.fault.SheetFault.{SheetFault}
+use Rattle.css_model.specs.declared.reason.Reason.{Reason}
 use Rattle.css_model.specs.declared.sheet.DeclItem.{DeclItem}
 use Rattle.css_model.specs.declared.sheet.Item.{Item}
 use Rattle.css_model.specs.declared.sheet.Item.TheVariants.{Rule, KeptRule, KeptBlock}
@@ -21,7 +22,8 @@ use Rattle.css_model.specs.Text.Tokens.{tokens}
 use Rattle.css_model.specs.Text.Lexemes.{piece_of, is_sign_at}
 use Rattle.css_model.specs.declared.sheet.Decl.{Decl}
 use Rattle.css_model.specs.declared.token.TokenFault.{TokenFault}
-use Rattle.css_model.specs.Sheets.Sheet.{not_read, is_import, too_deep, unclosed, namespace_at, too_many_items, too_many_pairs}
+use Rattle.css_model.specs.Selectors.Reasons.{number_of}
+use Rattle.css_model.specs.Sheets.Sheet.{is_import, too_deep, unclosed, namespace_at, too_many_items, too_many_pairs}
 use Rattle.css_model.specs.Sheets.Fault.{fault_of}
 use Rattle.css_model.specs.Text.Lexemes.{lexemes}
 use Rattle.css_model.specs.Sheets.Declarations.{is_nested}
@@ -37,27 +39,30 @@ use Rattle.list_facts.proofs.Members.{Contains-here, Contains-there}
 Some-is : {A : Type 0} (x y : A) → Some x ≡ Some y → x ≡ y
 Some-is x y e = cc
 
--- each member of `all_of` comes from a member of the list
-all_of-from : {A B : Type 0} (f : A → Option B) (P : B → Type 0) (xs : List A) → ((x : A) (y : B) → Contains xs x → f x ≡ Some y → P y)
-    → (ys : List B) → all_of f xs ≡ Some ys → AllByRecursion P ys
-all_of-from f P [] h [] e = tt
-all_of-from f P [] h (y ∷ ys) e = absurd (let n : length (y ∷ ys) ≡ 0 = ap length (sym (Some-is [] (y ∷ ys) e)) in omega arith)
-all_of-from {B = B} f P (x ∷ xs) h ys e = from (f x) refl (all_of f xs) refl e (all_of-from f P xs (λ z y c. h z y (Contains-there x xs z c)))
-  where
-    from : (o : Option B) → f x ≡ o → (rest : Option (List B)) → all_of f xs ≡ rest → before_all o rest ≡ Some ys
-        → ((zs : List B) → all_of f xs ≡ Some zs → AllByRecursion P zs) → AllByRecursion P ys
-    from None is rest more e later = absurd cc
-    from (Some y) is None more e later = absurd cc
-    from (Some y) is (Some zs) more e later = subst (AllByRecursion P) (Some-is (y ∷ zs) ys e) (h x y (Contains-here x xs) is, later zs more)
+Ok-is : {A E : Type 0} (x y : A) → ◌≡◌ {A = Result A E} (Ok x) (Ok y) → x ≡ y
+Ok-is x y e = cc
 
-all_of-some : {A B : Type 0} (f : A → Option B) (xs : List A) → xs ≢ [] → all_of f xs ≢ Some []
-all_of-some f [] some e = some refl
-all_of-some {B = B} f (x ∷ xs) some e = from (f x) (all_of f xs) e
+-- each member of `all_of` comes from a member of the list
+all_of-from : {A B E : Type 0} (f : A → Result B E) (P : B → Type 0) (xs : List A) → ((x : A) (y : B) → Contains xs x → f x ≡ Ok y → P y)
+    → (ys : List B) → all_of f xs ≡ Ok ys → AllByRecursion P ys
+all_of-from f P [] h [] e = tt
+all_of-from f P [] h (y ∷ ys) e = absurd (let n : length (y ∷ ys) ≡ 0 = ap length (sym (Ok-is [] (y ∷ ys) e)) in omega arith)
+all_of-from {B = B} {E = E} f P (x ∷ xs) h ys e = from (f x) refl (all_of f xs) refl e (all_of-from f P xs (λ z y c. h z y (Contains-there x xs z c)))
   where
-    from : (o : Option B) (rest : Option (List B)) → before_all o rest ≡ Some [] → ⊥
-    from None rest e = absurd cc
-    from (Some y) None e = absurd cc
-    from (Some y) (Some zs) e = absurd (let n : length (y ∷ zs) ≡ 0 = ap length (Some-is (y ∷ zs) [] e) in omega arith)
+    from : (r : Result B E) → f x ≡ r → (rest : Result (List B) E) → all_of f xs ≡ rest → before_all r rest ≡ Ok ys
+        → ((zs : List B) → all_of f xs ≡ Ok zs → AllByRecursion P zs) → AllByRecursion P ys
+    from (Err error) is rest more e later = absurd cc
+    from (Ok y) is (Err error) more e later = absurd cc
+    from (Ok y) is (Ok zs) more e later = subst (AllByRecursion P) (Ok-is (y ∷ zs) ys e) (h x y (Contains-here x xs) is, later zs more)
+
+all_of-some : {A B E : Type 0} (f : A → Result B E) (xs : List A) → xs ≢ [] → all_of f xs ≢ Ok []
+all_of-some f [] some e = some refl
+all_of-some {B = B} {E = E} f (x ∷ xs) some e = from (f x) (all_of f xs) e
+  where
+    from : (r : Result B E) (rest : Result (List B) E) → before_all r rest ≡ Ok [] → ⊥
+    from (Err error) rest e = absurd cc
+    from (Ok y) (Err error) e = absurd cc
+    from (Ok y) (Ok zs) e = absurd (let n : length (y ∷ zs) ≡ 0 = ap length (Ok-is (y ∷ zs) [] e) in omega arith)
 
 -- each member of `filter_map` comes from a member of the list, none of which passes the test
 filter_map-from : {A B : Type 0} (f : A → Option B) (test : A → Bool) (P : B → Type 0) (xs : List A) → list_any test xs ≡ false
@@ -89,7 +94,7 @@ unless-none [] x y e = cc
 unless-none (None ∷ faults) x y e = unless-none faults x y e
 unless-none (Some f ∷ faults) x y e = absurd cc
 
-selectors-sound : (source : List ℕ) (item : List Lexeme) → Contains (raw_items source) item → (read : List SelItem) → selectors source item ≡ Some read
+selectors-sound : (source : List ℕ) (item : List Lexeme) → Contains (raw_items source) item → (read : List SelItem) → selectors source item ≡ Ok read
     → AllByRecursion (IsSoundSelector source) read
 selectors-sound source item h read e =
     all_of-from (selector_item source) (IsSoundSelector source) (selector_parts item)
@@ -108,17 +113,17 @@ item-sound source item h x e = at (is_at_rule item) refl
     block : IsSoundBlock source (piece_of item)
     block = record { item = item; item_in = h; stands = refl }
 
-    rule : (o : Option (List SelItem)) → selectors source item ≡ o → (ds : List DeclItem) → AllByRecursion (IsSoundDeclaration source) ds
-        → rule_of (piece_of item) o ds ≡ Some x → IsSoundItem source x
-    rule None is ds decls here = kept (map (λ d. d.decl) ds) here
+    rule : (r : Result (List SelItem) Reason) → selectors source item ≡ r → (ds : List DeclItem) → AllByRecursion (IsSoundDeclaration source) ds
+        → rule_of (piece_of item) r ds ≡ Some x → IsSoundItem source x
+    rule (Err reason) is ds decls here = kept (map (λ d. d.decl) ds) here
       where
-        kept : (own : List Decl) → Some (KeptRule (record { piece = piece_of item; decls = own; reason = not_read })) ≡ Some x → IsSoundItem source x
+        kept : (own : List Decl) → Some (KeptRule (record { piece = piece_of item; decls = own; reason = number_of reason })) ≡ Some x → IsSoundItem source x
         kept own same = subst (IsSoundItem source) (Some-is _ x same) (record { item = item; item_in = h; reads = e ∙ sym same })
-    rule (Some read) is [] decls here = absurd cc
-    rule (Some read) is (d ∷ ds) decls here =
+    rule (Ok read) is [] decls here = absurd cc
+    rule (Ok read) is (d ∷ ds) decls here =
         subst (IsSoundItem source) (Some-is (Rule (record { selectors = read; decls = d ∷ ds })) x here)
         (record {
-          has_selectors = λ none. all_of-some (selector_item source) (selector_parts item) (split-some (is_sign_at comma 0) (before_first opens_block item)) (is ∙ ap Some none);
+          has_selectors = λ none. all_of-some (selector_item source) (selector_parts item) (split-some (is_sign_at comma 0) (before_first opens_block item)) (is ∙ ap Ok none);
           has_declarations = λ none. absurd (let n : length (d ∷ ds) ≡ 0 = ap length none in omega arith);
           selectors = selectors-sound source item h read is;
           decls = decls;

@@ -12,7 +12,7 @@ use Rattle.css_model.specs.Text.Source.{text_at}
 use Rattle.css_model.specs.Text.TokenAt.{part_at}
 use Rattle.token_laws.specs.SpaceBehind.{IsRead}
 use Rattle.token_laws.proofs.ForCallers.{ends_nil, is_plain, delim-text, space_closes, space_ends, part_again, lone_is}
-use Rattle.sheet_laws.proofs.ForCallers.{IsClosable, IsNamed, has_name, is_closable, IsShut}
+use Rattle.sheet_laws.proofs.ForCallers.{IsClosable, IsNamed, TakesSpace, ends_with_sign, has_name, is_closable, IsShut}
 use Rattle.print_laws.proofs.Tokens.Lexed.{IsReadAs}
 use Rattle.print_laws.proofs.Source.Tokens.{IsGoodLexeme}
 
@@ -38,10 +38,18 @@ named-of v k solid_ other plain read =
       near = λ open_. (space_closes v [] [] k here open_).0;
     }
 
+takes-of : (v : List ℕ) (k : TokenKind) → is_white_kind k ≡ false → is_lone k ≡ false → IsReadAs v k → TakesSpace k v
+takes-of v k solid_ other read = λ open_. (space_closes v read.old [] k (record { no_white = solid_; no_lone = other; read = read.read }) open_).0
+
 pub closable-of : (source : List ℕ) (x : Lexeme) → is_white_kind x.kind ≡ false → IsGoodLexeme source x → IsClosable source x
 closable-of source x solid_ g =
-    is_closable source x (shut-of (text_at source x.span) x.kind solid_ g.good.read) (named x.kind solid_ g.good.read)
+    is_closable source x (shut-of (text_at source x.span) x.kind solid_ g.good.read) (named x.kind solid_ g.good.read) (takes x.kind solid_ g.good.read)
   where
+    takes : (k : TokenKind) → is_white_kind k ≡ false → IsReadAs (text_at source x.span) k → ends_with_sign k ≡ true → TakesSpace k (text_at source x.span)
+    takes kind.Function solid_ read is = takes-of (text_at source x.span) kind.Function refl refl read
+    takes kind.Str solid_ read is = takes-of (text_at source x.span) kind.Str refl refl read
+    takes _ solid_ read is = absurd (false≢true is)
+
     named : (k : TokenKind) → is_white_kind k ≡ false → IsReadAs (text_at source x.span) k → has_name k ≡ true → IsNamed k (text_at source x.span)
     named kind.Ident solid_ read is = named-of (text_at source x.span) kind.Ident refl refl refl read
     named kind.AtKeyword solid_ read is = named-of (text_at source x.span) kind.AtKeyword refl refl refl read

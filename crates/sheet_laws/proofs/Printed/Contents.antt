@@ -11,6 +11,7 @@ use Rattle.css_model.specs.Text.Characters.{comma, colon, semicolon, open_curly,
 use Rattle.css_model.specs.Sheets.Items.{items, is_whole}
 use Rattle.css_model.specs.Text.Kept.{solid, kept}
 use Rattle.css_model.specs.Sheets.Printed.{printed_selector, importance, printed_declaration, printed_item, behind_mark, printed}
+use Rattle.css_model.specs.Sheets.PrintedSelector.{selector_text}
 use Rattle.css_model.specs.Sheets.Sheet.{is_namespace, read_items, pairs_of}
 use Rattle.css_model.specs.Text.Source.{text_at}
 use Rattle.css_model.specs.Sheets.Spelling.{Style, Kept, Block, content, all_content, lexemes_of, tokens_in, kept_text}
@@ -28,8 +29,8 @@ InOrder source = AreAscending 0 (lexemes_of source)
 
 selector_prints : (new old : List ℕ) → InOrder new → (s' s : SelItem) → IsSelectorAgain new old (lexemes_of new) s' s → printed_selector new s' ≡ printed_selector old s
 selector_prints new old order s' s again =
-    ap (λ p. flat_map (λ x. text_at new x.span) (tokens_in new p)) again.stands
-    ∙ ap (flat_map (λ x. text_at new x.span)) (stand_alone 0 (lexemes_of new) again.tokens order again.inside)
+    ap (λ p. selector_text (map (solid new) (tokens_in new p))) again.stands
+    ∙ ap (λ xs. selector_text (map (solid new) xs)) (stand_alone 0 (lexemes_of new) again.tokens order again.inside)
     ∙ again.text
 
 selectors_print : (new old : List ℕ) → InOrder new → (ss' ss : List SelItem) → AllZip (IsSelectorAgain new old (lexemes_of new)) ss' ss

@@ -1,6 +1,6 @@
 -- A printed sheet is read without a fault.
 use Rattle.std.proofs.Common.{◌≡◌, ℕ, suc, ◌+◌, ◌==◌, ◌≤◌, Bool, true, false, List, [], ◌∷◌, ◌++◌, length, map, Option, Some, None, Result, Ok, Err, refl, sym, ◌∙◌, ap, arith}
-use Rattle.std.proofs.lemmas.Bool.{le-ltb}
+use Rattle.std.proofs.lemmas.Bool.{le-ltb, ne_eqb}
 use Rattle.std.proofs.lemmas.Option.{slice_get_past}
 use Rattle.std.specs.Prelude.{◌&&◌, if◌then◌else◌, nat_lt}
 use Rattle.std.specs.List.{AllByRecursion, filter, find}
@@ -17,6 +17,9 @@ use Rattle.css_model.specs.declared.sheet.SelItem.{SelItem}
 use Rattle.css_model.specs.declared.token.Lexeme.{Lexeme}
 use Rattle.css_model.specs.declared.token.Token.{Token}
 use Rattle.css_model.specs.Text.Characters.{comma, semicolon, open_curly, close_curly}
+use Rattle.css_model.specs.Selectors.Terms.{depth_behind}
+use Rattle.css_model.specs.Selectors.Tokens.{selector_token}
+use Rattle.css_model.specs.Text.Kept.{Solid, solid}
 use Rattle.css_model.specs.Text.Lexemes.{piece_of}
 use Rattle.css_model.specs.Sheets.Printed.{printed}
 use Rattle.css_model.specs.Sheets.Sheet.{is_namespace, read_items, start_of, pairs_of, too_many_pairs, too_deep, unclosed, namespace_at, too_many_items, sheet_of_tokens, sheet_of_stream, sheet_of}
@@ -30,8 +33,10 @@ use Rattle.list_facts.proofs.Cuts.{None_of, none_append}
 use Rattle.sheet_laws.proofs.Printed.Joins.{none_joined}
 use Rattle.list_facts.proofs.Zips.{cons_head, cons_tail, cons_not_empty, some_not_none}
 use Rattle.sheet_laws.proofs.Printed.Contents.{InOrder, IsReadBack, items_read_back}
+use Rattle.sheet_laws.proofs.Printed.Preludes.{IsOfSelector}
 use Rattle.sheet_laws.proofs.Printed.Sheet.{IsFrom, AreInOrder}
-use Rattle.sheet_laws.proofs.Shown.Tokens.{Shown, shown, all_shown, inner, last_of_value, last_of_item, kept_shown, value_shown, joined, sign_shown, selector_token, selector_shown, importance_shown, declaration_shown, item_shown, sheet_shown}
+use Rattle.selector_text_laws.specs.Back.{AreShallow, back}
+use Rattle.sheet_laws.proofs.Shown.Tokens.{Shown, shown, all_shown, inner, last_of_value, last_of_item, kept_shown, value_shown, joined, sign_shown, selector_shown, with_levels, importance_shown, declaration_shown, item_shown, sheet_shown}
 
 -- a token that opens a bracket too many, and one that is shown so
 abbrev pub is_deep : Lexeme → Bool
@@ -54,13 +59,20 @@ deep_all_shown others last o l [] fail = tt
 deep_all_shown others last o l (x ∷ []) fail = (l x ∙ fail.0, tt)
 deep_all_shown others last o l (x ∷ next ∷ xs) fail = (o x ∙ fail.0, deep_all_shown others last o l (next ∷ xs) fail.1)
 
-deep_selector : (source : List ℕ) (xs : List Lexeme) → None_of is_shown_deep (map (selector_token source) xs)
-deep_selector source [] = tt
-deep_selector source (x ∷ xs) = (and_false (opens x.kind), deep_selector source xs)
+not_so_deep : (depth : ℕ) → depth ≤ 2 → (depth == MAX_DEPTH) ≡ false
+not_so_deep depth few = ne_eqb depth MAX_DEPTH (λ e. absurd (omega (arith, few, e)))
 
-deep_selectors : (source : List ℕ) (ss : List SelItem) → AllByRecursion (None_of is_shown_deep) (map (selector_shown source) ss)
-deep_selectors source [] = tt
-deep_selectors source (s ∷ ss) = (deep_selector source (tokens_in source s.piece), deep_selectors source ss)
+deep_levels : (depth : ℕ) (ss : List Solid) → AreShallow depth ss → None_of is_shown_deep (with_levels depth ss)
+deep_levels depth [] few = tt
+deep_levels depth (s ∷ ss) few = (
+  ap (λ (b : Bool). opens s.kind && b) (not_so_deep depth few.0) ∙ and_false (opens s.kind),
+  deep_levels (depth_behind depth (selector_token s)) ss few.1,
+)
+
+deep_selectors : (source : List ℕ) (ss : List SelItem) → AllByRecursion (IsOfSelector source) ss → AllByRecursion (None_of is_shown_deep) (map (selector_shown source) ss)
+deep_selectors source [] sound = tt
+deep_selectors source (s ∷ ss) sound =
+    (deep_levels 0 (back (map (solid source) (tokens_in source s.piece))) sound.0.again.depths, deep_selectors source ss sound.1)
 
 deep_importance : (important : Bool) → None_of is_shown_deep (importance_shown important)
 deep_importance false = tt
@@ -84,21 +96,22 @@ deep_declarations source fail (d ∷ ds) = (
 deep_kept : (source : List ℕ) → None_of is_deep (lexemes_of source) → (piece : Piece) → None_of is_shown_deep (kept_shown source (tokens_in source piece))
 deep_kept source fail piece = deep_all_shown (inner source) (last_of_item source) (λ x. refl) (λ x. refl) (tokens_in source piece) (deep_filter (stands_in piece) (lexemes_of source) fail)
 
-deep_item : (source : List ℕ) → None_of is_deep (lexemes_of source) → (item : Item) → None_of is_shown_deep (item_shown source item)
-deep_item source fail (KeptRule k) = deep_kept source fail k.piece
-deep_item source fail (KeptBlock piece) = deep_kept source fail piece
-deep_item source fail (Rule r) =
+deep_item : (source : List ℕ) → None_of is_deep (lexemes_of source) → (item : Item) → IsFrom source item → None_of is_shown_deep (item_shown source item)
+deep_item source fail (KeptRule k) from = deep_kept source fail k.piece
+deep_item source fail (KeptBlock piece) from = deep_kept source fail piece
+deep_item source fail (Rule r) from =
     let prelude = joined (sign_shown comma 0) (map (selector_shown source) r.selectors) in
     let block = joined (sign_shown semicolon 1) (map (declaration_shown source) r.decls) in
     none_append is_shown_deep (prelude ++ sign_shown open_curly 0 ∷ block) (sign_shown close_curly 1 ∷ [])
     (none_append is_shown_deep prelude (sign_shown open_curly 0 ∷ block)
-    (none_joined is_shown_deep (sign_shown comma 0) (map (selector_shown source) r.selectors) refl (deep_selectors source r.selectors))
+    (none_joined is_shown_deep (sign_shown comma 0) (map (selector_shown source) r.selectors) refl (deep_selectors source r.selectors from.selectors))
     (refl, none_joined is_shown_deep (sign_shown semicolon 1) (map (declaration_shown source) r.decls) refl (deep_declarations source fail r.decls)))
     (refl, tt)
 
-deep_sheet : (source : List ℕ) → None_of is_deep (lexemes_of source) → (its : List Item) → None_of is_shown_deep (sheet_shown source its)
-deep_sheet source fail [] = tt
-deep_sheet source fail (item ∷ its) = none_append is_shown_deep (item_shown source item) (sheet_shown source its) (deep_item source fail item) (deep_sheet source fail its)
+deep_sheet : (source : List ℕ) → None_of is_deep (lexemes_of source) → (its : List Item) → AllByRecursion (IsFrom source) its → None_of is_shown_deep (sheet_shown source its)
+deep_sheet source fail [] from = tt
+deep_sheet source fail (item ∷ its) from =
+    none_append is_shown_deep (item_shown source item) (sheet_shown source its) (deep_item source fail item from.0) (deep_sheet source fail its from.1)
 
 not_deep : (source : List ℕ) (ys : List Lexeme) (ss : List Shown) → map (shown source) ys ≡ ss → None_of is_shown_deep ss → find is_deep ys ≡ None
 not_deep source [] ss e fail = refl
@@ -172,7 +185,7 @@ sheet_reads_back new old its sound order fit shallow print =
     ts = (tokens new true).tokens
 
     not_deep_at : too_deep (lexemes_of new) ≡ None
-    not_deep_at = ap (option_map (λ x. x.span.start)) (not_deep new (lexemes_of new) (sheet_shown old its) print.shown_as (deep_sheet old (find_none is_deep (lexemes_of old) shallow) its))
+    not_deep_at = ap (option_map (λ x. x.span.start)) (not_deep new (lexemes_of new) (sheet_shown old its) print.shown_as (deep_sheet old (find_none is_deep (lexemes_of old) shallow) its sound))
 
     names : namespace_at new (raw_items new) ≡ None
     names = ap (λ raw. option_map (λ item. (piece_of item).start) (find (is_namespace new) raw)) back.is_raw ∙ ap (option_map (λ item. (piece_of item).start)) back.no_namespace

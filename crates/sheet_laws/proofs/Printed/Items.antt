@@ -9,7 +9,7 @@ use Rattle.css_model.specs.Text.Characters.{comma, semicolon, open_curly, close_
 use Rattle.css_model.specs.Sheets.Items.{is_at_keyword, is_between_items, opens_block, closes_block, ends_prelude, end_len, item_len, items_from, items, is_at_rule, selector_parts, entries}
 use Rattle.css_model.specs.Text.Lexemes.{is_sign_at}
 use Rattle.css_model.specs.Lists.{less_one}
-use Rattle.sheet_laws.proofs.Shown.Alike.{IsLike}
+use Rattle.sheet_laws.proofs.Shown.Alike.{IsLike, or_true}
 use Rattle.list_facts.proofs.Cuts.{position_here, position_later, before_some, after_some, before_stop}
 use Rattle.sheet_laws.proofs.Printed.Entries.{sign_like}
 use Rattle.list_facts.proofs.Zips.{zip_position, zip_drop}
@@ -232,10 +232,6 @@ block_end (x ∷ xs) ends = which (block_end xs) (closes_block x) refl
     which again false is =
         let rest = again (ap (λ (b : Bool). if b then is_nil xs else ends_with_block xs) (sym is) ∙ ends) in
         record { front = x ∷ rest.front; last = rest.last; whole = ap (λ zs. x ∷ zs) rest.whole; closes = rest.closes }
-
-pub or_true : (b : Bool) → (b || true) ≡ true
-or_true true = refl
-or_true false = refl
 
 closed_in : (xs : List Lexeme) → ends_in false xs ≡ true → IsClosedRule xs
 closed_in [] ends = absurd (false≢true ends)

@@ -1,7 +1,8 @@
 -- A kept item says what it says in the source.
-use Rattle.std.proofs.Common.{◌≡◌, subst, ℕ, Bool, true, false, List, [], ◌∷◌, ◌++◌, map, Option, Some, None, refl, ◌∙◌, ap}
+use Rattle.std.proofs.Common.{◌≡◌, subst, ℕ, Bool, true, false, List, [], ◌∷◌, ◌++◌, map, Option, Some, None, Result, Ok, Err, refl, ◌∙◌, ap}
 use Rattle.std.specs.Prelude.{if◌then◌else◌}
 use Rattle.std.specs.List.{AllZip, list_any, filter_map}
+use Rattle.css_model.specs.declared.reason.Reason.{Reason}
 use Rattle.css_model.specs.declared.sheet.DeclItem.{DeclItem}
 use Rattle.css_model.specs.declared.sheet.Item.{Item}
 use Rattle.css_model.specs.declared.sheet.Item.TheVariants.{Rule, KeptRule, KeptBlock}
@@ -13,13 +14,14 @@ use Rattle.css_model.specs.Sheets.Declarations.{declaration, declarations, is_ne
 use Rattle.css_model.specs.Sheets.Items.{is_at_rule, opens_block, closes_block, selector_parts, entries}
 use Rattle.css_model.specs.Text.Lexemes.{piece_of}
 use Rattle.css_model.specs.Lists.{all_of}
+use Rattle.css_model.specs.Selectors.Reasons.{number_of}
 use Rattle.css_model.specs.Sheets.Selectors.{selector_item}
 use Rattle.css_model.specs.Sheets.Sheet.{rule_of, rule_or_block, item_of}
 use Rattle.sheet_laws.proofs.Shown.Alike.{IsLike, AreClosable, like_last_of_item, item_like}
 use Rattle.sheet_laws.proofs.Printed.Entries.{IsPrinted, SaySame, at_rule_like, sign_like, like_of}
 use Rattle.sheet_laws.proofs.Printed.Items.{IsClosedRule, is_ended, closed_rule, parts_without_last, entries_without_last}
 use Rattle.list_facts.proofs.Zips.{AreBoth, AllLast, zip_any}
-use Rattle.sheet_laws.proofs.Printed.Selectors.{TestSame, selectors_printed, declarations_printed}
+use Rattle.sheet_laws.proofs.Printed.Selectors.{AreBothRead, TestSame, selectors_printed, declarations_printed}
 use Rattle.sheet_laws.proofs.Shown.Values.{IsInner, IsLastOfItem}
 
 -- items at these places that say the same, where the text of a kept one is not looked at
@@ -40,17 +42,17 @@ decls_same [] (d ∷ ds) z = absurd z
 decls_same (d' ∷ ds') [] z = absurd z
 decls_same (d' ∷ ds') (d ∷ ds) z = ap (λ x. x ∷ map (λ d. d.decl) ds') z.0 ∙ ap (λ xs. d.decl ∷ xs) (decls_same ds' ds z.1)
 
-rule_same : (piece' piece : Piece) (read' read : Option (List SelItem)) (ds' ds : List DeclItem) → AreBoth (AllZip TestSame) read' read → AllZip SaySame ds' ds
+rule_same : (piece' piece : Piece) (read' read : Result (List SelItem) Reason) (ds' ds : List DeclItem) → AreBothRead (AllZip TestSame) read' read → AllZip SaySame ds' ds
     → AreBoth (SameAt piece' piece) (rule_of piece' read' ds') (rule_of piece read ds)
-rule_same piece' piece None None ds' ds both z = (refl, refl, decls_same ds' ds z, refl)
-rule_same piece' piece None (Some read) ds' ds both z = absurd both
-rule_same piece' piece (Some read') None ds' ds both z = absurd both
-rule_same piece' piece (Some read') (Some read) [] [] both z = tt
-rule_same piece' piece (Some read') (Some read) [] (d ∷ ds) both z = absurd z
-rule_same piece' piece (Some read') (Some read) (d' ∷ ds') [] both z = absurd z
-rule_same piece' piece (Some read') (Some read) (d' ∷ ds') (d ∷ ds) both z = (both, z)
+rule_same piece' piece (Err reason') (Err reason) ds' ds both z = (refl, refl, decls_same ds' ds z, ap number_of both)
+rule_same piece' piece (Err reason') (Ok read) ds' ds both z = absurd both
+rule_same piece' piece (Ok read') (Err reason) ds' ds both z = absurd both
+rule_same piece' piece (Ok read') (Ok read) [] [] both z = tt
+rule_same piece' piece (Ok read') (Ok read) [] (d ∷ ds) both z = absurd z
+rule_same piece' piece (Ok read') (Ok read) (d' ∷ ds') [] both z = absurd z
+rule_same piece' piece (Ok read') (Ok read) (d' ∷ ds') (d ∷ ds) both z = (both, z)
 
-rule_or_block_same : (piece' piece : Piece) (read' read : Option (List SelItem)) (ds' ds : Option (List DeclItem)) → AreBoth (AllZip TestSame) read' read → AreBoth (AllZip SaySame) ds' ds
+rule_or_block_same : (piece' piece : Piece) (read' read : Result (List SelItem) Reason) (ds' ds : Option (List DeclItem)) → AreBothRead (AllZip TestSame) read' read → AreBoth (AllZip SaySame) ds' ds
     → AreBoth (SameAt piece' piece) (rule_or_block piece' read' ds') (rule_or_block piece read ds)
 rule_or_block_same piece' piece read' read None None both z = (refl, refl)
 rule_or_block_same piece' piece read' read None (Some ds) both z = absurd z

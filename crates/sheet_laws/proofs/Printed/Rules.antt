@@ -1,5 +1,5 @@
 -- A rule is read as it was from what is printed for it.
-use Rattle.std.proofs.Common.{◌≡◌, ◌≢◌, subst, ℕ, Bool, true, false, not, List, [], ◌∷◌, ◌++◌, map, Some, None, refl, sym, ◌∙◌, ap, append_assoc}
+use Rattle.std.proofs.Common.{◌≡◌, ◌≢◌, subst, ℕ, Bool, true, false, not, List, [], ◌∷◌, ◌++◌, map, Some, None, Ok, refl, sym, ◌∙◌, ap, append_assoc}
 use Rattle.std.proofs.lemmas.Bool.{false≢true}
 use Rattle.std.specs.Prelude.{◌||◌, if◌then◌else◌}
 use Rattle.std.specs.List.{AllZip, AllByRecursion, before_first, slice_split, list_any, filter_map}
@@ -15,11 +15,12 @@ use Rattle.css_model.specs.Sheets.RuleParts.{RuleParts}
 use Rattle.css_model.specs.Sheets.Sheet.{item_of, rule_or_block}
 use Rattle.sheet_laws.proofs.Printed.Blocks.{IsOfDeclaration, IsDeclarationAgain, AreDeclarationsAgain, declarations_again, declarations_no_semicolon, declarations_no_close}
 use Rattle.list_facts.proofs.Cuts.{None_of, before_at, after_at}
-use Rattle.sheet_laws.proofs.Printed.Items.{or_true, begins_item, ends_in, ends_with_block, is_ended, is_nil}
+use Rattle.sheet_laws.proofs.Printed.Items.{begins_item, ends_in, ends_with_block, is_ended, is_nil}
 use Rattle.sheet_laws.proofs.Printed.Joins.{StandsIn, AreCut, is_shown_sign, none_shown, none_joined, cut_joined, stands_front, wider}
 use Rattle.sheet_laws.proofs.Printed.Kept.{qualified_at}
 use Rattle.list_facts.proofs.Zips.{cut_at, cons_head, cons_tail, cons_not_empty}
 use Rattle.sheet_laws.proofs.Printed.Preludes.{IsOfSelector, IsSelectorAgain, AreSelectorsAgain, selectors_again, selectors_no_sign, selectors_start, selector_no_at, starts_rule, starts_append}
+use Rattle.sheet_laws.proofs.Shown.Alike.{or_true}
 use Rattle.sheet_laws.proofs.Shown.Tokens.{Shown, shown, joined, sign_shown, selector_shown, declaration_shown, rule_shown}
 
 -- tokens that are shown as those of a rule begin an item that is no at-rule
@@ -107,7 +108,7 @@ pub record IsReadRule (new old : List ℕ) (ys : List Lexeme) (r : RuleParts) : 
   pub whole : is_whole ys ≡ true
 
 rule_reads : (new old : List ℕ) (ys : List Lexeme) (read : List SelItem) (items : List DeclItem) (d : DeclItem) (ds : List DeclItem) → AllZip (IsDeclarationAgain new old) items (d ∷ ds)
-    → rule_or_block (piece_of ys) (Some read) (Some items) ≡ Some (Rule (record { selectors = read; decls = items }))
+    → rule_or_block (piece_of ys) (Ok read) (Some items) ≡ Some (Rule (record { selectors = read; decls = items }))
 rule_reads new old ys read [] d ds z = absurd z
 rule_reads new old ys read (item ∷ items) d ds z = refl
 
@@ -138,13 +139,13 @@ rule_by_lists new old ys s ss d ds selectors decls e =
         (ap starts_rule e ∙ starts_append (prelude ++ sign_shown open_curly 0 ∷ block) (sign_shown close_curly 1 ∷ []) (selectors_start old (sign_shown comma 0) s ss (sign_shown open_curly 0 ∷ block) selectors.0))
 
     no_open : None_of opens_block cut.front
-    no_open = none_shown new open_curly 0 cut.front prelude cut.is_front (none_joined (is_shown_sign open_curly 0) (sign_shown comma 0) (map (selector_shown old) (s ∷ ss)) refl (selectors_no_sign old open_curly 0 (s ∷ ss) selectors))
+    no_open = none_shown new open_curly 0 cut.front prelude cut.is_front (none_joined (is_shown_sign open_curly 0) (sign_shown comma 0) (map (selector_shown old) (s ∷ ss)) refl (selectors_no_sign old open_curly 0 (s ∷ ss) refl selectors))
 
     no_close : None_of closes_block cut.inside
     no_close = none_shown new close_curly 1 cut.inside block cut.is_inside (none_joined (is_shown_sign close_curly 1) (sign_shown semicolon 1) (map (declaration_shown old) (d ∷ ds)) refl (declarations_no_close old (d ∷ ds) decls))
 
     parts : AreCut new comma 0 cut.front (map (selector_shown old) (s ∷ ss))
-    parts = cut_joined new comma 0 (sign_shown comma 0) refl cut.front (selector_shown old s) (map (selector_shown old) ss) cut.is_front (selectors_no_sign old comma 0 (s ∷ ss) selectors)
+    parts = cut_joined new comma 0 (sign_shown comma 0) refl cut.front (selector_shown old s) (map (selector_shown old) ss) cut.is_front (selectors_no_sign old comma 0 (s ∷ ss) refl selectors)
 
     entries_cut : AreCut new semicolon 1 cut.inside (map (declaration_shown old) (d ∷ ds))
     entries_cut = cut_joined new semicolon 1 (sign_shown semicolon 1) refl cut.inside (declaration_shown old d) (map (declaration_shown old) ds) cut.is_inside (declarations_no_semicolon old (d ∷ ds) decls)
@@ -177,8 +178,8 @@ rule_by_lists new old ys s ss d ds selectors decls e =
         ∙ ap (λ ps. qualified_at new (piece_of ys) ps (entries ys)) is_parts
         ∙ ap (λ es. qualified_at new (piece_of ys) parts.parts es) is_entries
         ∙ ap (λ x. rule_or_block (piece_of ys) x (if list_any (is_nested new) entries_cut.parts then None else Some (filter_map (declaration new) entries_cut.parts))) read.reads
-        ∙ ap (λ b. rule_or_block (piece_of ys) (Some read.items) (if b then None else Some (filter_map (declaration new) entries_cut.parts))) declared.plain
-        ∙ ap (λ xs. rule_or_block (piece_of ys) (Some read.items) (Some xs)) declared.reads
+        ∙ ap (λ b. rule_or_block (piece_of ys) (Ok read.items) (if b then None else Some (filter_map (declaration new) entries_cut.parts))) declared.plain
+        ∙ ap (λ xs. rule_or_block (piece_of ys) (Ok read.items) (Some xs)) declared.reads
         ∙ rule_reads new old ys read.items declared.items d ds declared.each
 
 -- Tokens that are shown as a rule's are read as this rule.

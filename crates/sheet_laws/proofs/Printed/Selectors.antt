@@ -1,101 +1,90 @@
--- The selectors of a kept rule are read as in the source, or not read as there.
-use Rattle.std.proofs.Common.{◌≡◌, ℕ, Bool, true, false, not, List, [], ◌∷◌, Option, Some, None, refl, ◌∙◌, ap}
-use Rattle.std.specs.Prelude.{◌&&◌, if◌then◌else◌, codes}
+-- The selectors of a kept rule are read as in the source, or refused for the same reason.
+use Rattle.std.proofs.Common.{◌≡◌, ℕ, Bool, true, false, List, [], ◌∷◌, map, Some, None, Result, Ok, Err, refl, ◌∙◌, ap}
+use Rattle.std.specs.Prelude.{if◌then◌else◌}
 use Rattle.std.specs.List.{AllZip, list_any, filter_map}
-use Rattle.std.specs.Option.{option_map}
-use Rattle.css_model.specs.declared.selector.Test.{Test}
-use Rattle.css_model.specs.declared.selector.Test.TheVariants.{Kind, Id}
+use Rattle.css_model.specs.declared.reason.Reason.{Reason}
 use Rattle.css_model.specs.declared.sheet.Piece.{Piece}
 use Rattle.css_model.specs.declared.sheet.SelItem.{SelItem}
+use Rattle.css_model.specs.declared.token.Gap.{Gap}
 use Rattle.css_model.specs.declared.token.Lexeme.{Lexeme}
 use Rattle.css_model.specs.declared.token.TokenKind.{TokenKind}
-use Rattle.css_model.specs.declared.token.TokenKind.TheVariants as kind
-use Rattle.css_model.specs.Lists.{begins_with}
-use Rattle.css_model.specs.Text.Characters.{dot, comma, semicolon, open_curly, close_curly}
-use Rattle.css_model.specs.Text.Lexemes.{is_ident, is_delim_of}
-use Rattle.css_model.specs.Text.Names.{lower}
-use Rattle.css_model.specs.Sheets.Declarations.{declaration, declarations, is_nested}
-use Rattle.css_model.specs.Lists.{same_text}
-use Rattle.css_model.specs.Sheets.Items.{opens_block, closes_block, selector_parts, entries}
-use Rattle.css_model.specs.Text.Kept.{is_white_gap}
-use Rattle.css_model.specs.Text.Lexemes.{is_sign_at, piece_of}
-use Rattle.css_model.specs.Sheets.Selectors.{class_test, of_one_test, type_test, test_of_one, class_of, simple_of, selector_item, selectors}
+use Rattle.css_model.specs.Documents.SelectorParts.{SelectorParts}
 use Rattle.css_model.specs.Lists.{before_all, all_of}
-use Rattle.css_model.specs.Text.Source.{text_at}
-use Rattle.css_model.specs.Text.Names.{unescaped, decoded, code_points}
-use Rattle.sheet_laws.proofs.Shown.Alike.{IsLike, name_in}
-use Rattle.sheet_laws.proofs.Printed.Entries.{IsPrinted, SaySame, printed_like, sign_like, ident_like, declaration_printed, nested_printed}
+use Rattle.css_model.specs.Selectors.Reading.{selector_of_lexemes, selector_of_terms}
+use Rattle.css_model.specs.Selectors.Terms.{terms_from}
+use Rattle.css_model.specs.Selectors.Tokens.{SelectorToken, selector_token}
+use Rattle.css_model.specs.Sheets.Declarations.{declaration, declarations, is_nested}
+use Rattle.css_model.specs.Sheets.Items.{opens_block, closes_block, selector_parts, entries}
+use Rattle.css_model.specs.Sheets.Selectors.{selector_item, selectors, with_piece}
+use Rattle.css_model.specs.Text.Characters.{comma, semicolon, open_curly, close_curly}
+use Rattle.css_model.specs.Text.Kept.{solid}
+use Rattle.css_model.specs.Text.Lexemes.{is_sign_at, piece_of}
 use Rattle.list_facts.proofs.Zips.{Agree, AreBoth, zip_before, zip_after, zip_split, zip_any, zip_filter_map}
+use Rattle.sheet_laws.proofs.Printed.Entries.{IsPrinted, SaySame, printed_like, sign_like, declaration_printed, nested_printed}
+use Rattle.sheet_laws.proofs.Shown.Alike.{selector_name}
 
-type_same : (new old : List ℕ) → unescaped new ≡ unescaped old → begins_with new (codes "--") ≡ begins_with old (codes "--") → type_test new ≡ type_test old
-type_same new old name dashed =
-    ap (λ (b : Bool). if b then None else Some (Kind (lower (decoded new)))) dashed
-    ∙ ap (λ (t : List ℕ). if begins_with old (codes "--") then None else Some (Kind (lower (code_points t)))) name
+-- a token of a selector, by what is looked at
+abbrev token_of : TokenKind → List ℕ → Bool → Bool → List ℕ → Gap → SelectorToken
+token_of k name dashed only bytes g = record { kind = k; name = name; dashed = dashed; only_dashes = only; bytes = bytes; gap = g }
 
-one_same : (k : TokenKind) (new old : List ℕ) → unescaped (name_in k new) ≡ unescaped (name_in k old) → begins_with new (codes "--") ≡ begins_with old (codes "--")
-    → test_of_one k new ≡ test_of_one k old
-one_same kind.Ident new old name dashed = type_same new old name dashed
-one_same kind.IdHash new old name dashed = ap (λ (t : List ℕ). Some (Id (code_points t))) name
-one_same _ new old name dashed = refl
+token_printed : (new old : List ℕ) (y x : Lexeme) → IsPrinted new old y x → selector_token (solid new y) ≡ selector_token (solid old x)
+token_printed new old y x p =
+    let like = printed_like new old y x p in
+    let t' = selector_token (solid new y) in
+    let t = selector_token (solid old x) in
+    let name : t'.name ≡ t.name = selector_name new old y x like in
+    ap (λ k. token_of k t'.name t'.dashed t'.only_dashes t'.bytes t'.gap) like.kind
+    ∙ ap (λ n. token_of t.kind n t'.dashed t'.only_dashes t'.bytes t'.gap) name
+    ∙ ap (λ d. token_of t.kind t.name d t'.only_dashes t'.bytes t'.gap) like.dashed
+    ∙ ap (λ d. token_of t.kind t.name t.dashed d t'.bytes t'.gap) like.dashes
+    ∙ ap (λ bytes. token_of t.kind t.name t.dashed t.only_dashes bytes t'.gap) like.plain
+    ∙ ap (λ g. token_of t.kind t.name t.dashed t.only_dashes t.bytes g) (ap (λ s. s.gap) p.0)
 
-class_cases : (a b c d' d : Bool) (t' t : Test) → (c ≡ true → (d' ≡ d) × (t' ≡ t)) → (if a && b && c && d' then Some t' else None) ≡ (if a && b && c && d then Some t else None)
-class_cases false b c d' d t' t h = refl
-class_cases true false c d' d t' t h = refl
-class_cases true true false d' d t' t h = refl
-class_cases true true true d' d t' t h = ap (λ (b : Bool). if b then Some t' else None) (h refl).0 ∙ ap (λ (x : Test). if d then Some x else None) (h refl).1
+tokens_printed : (new old : List ℕ) (ys xs : List Lexeme) → AllZip (IsPrinted new old) ys xs
+    → map selector_token (map (solid new) ys) ≡ map selector_token (map (solid old) xs)
+tokens_printed new old [] [] z = refl
+tokens_printed new old [] (x ∷ xs) z = absurd z
+tokens_printed new old (y ∷ ys) [] z = absurd z
+tokens_printed new old (y ∷ ys) (x ∷ xs) z =
+    ap (λ t. t ∷ map selector_token (map (solid new) ys)) (token_printed new old y x z.0)
+    ∙ ap (λ ts. selector_token (solid old x) ∷ ts) (tokens_printed new old ys xs z.1)
 
-class_printed : (new old : List ℕ) (y a x b : Lexeme) → y.gap ≡ x.gap → IsLike new old y x → IsLike new old a b → class_of new y a ≡ class_of old x b
-class_printed new old y a x b same sign name =
-    ap (λ k. if is_delim_of dot k && not (is_white_gap y.gap) && is_ident a.kind && not (same_text (text_at new a.span) (codes "--")) then Some (class_test (decoded (text_at new a.span))) else None) sign.kind
-    ∙ ap (λ g. if is_delim_of dot x.kind && not (is_white_gap g) && is_ident a.kind && not (same_text (text_at new a.span) (codes "--")) then Some (class_test (decoded (text_at new a.span))) else None) same
-    ∙ ap (λ k. if is_delim_of dot x.kind && not (is_white_gap x.gap) && is_ident k && not (same_text (text_at new a.span) (codes "--")) then Some (class_test (decoded (text_at new a.span))) else None) name.kind
-    ∙ class_cases (is_delim_of dot x.kind) (not (is_white_gap x.gap)) (is_ident b.kind) (not (same_text (text_at new a.span) (codes "--"))) (not (same_text (text_at old b.span) (codes "--")))
-    (class_test (decoded (text_at new a.span))) (class_test (decoded (text_at old b.span)))
-    (λ ident. (ap not name.dashes, ap (λ (t : List ℕ). class_test (code_points t)) (ident_like new old a b ident name)))
-
-pub simple_printed : (new old : List ℕ) (ys xs : List Lexeme) → AllZip (IsPrinted new old) ys xs → simple_of new ys ≡ simple_of old xs
-simple_printed new old [] [] z = refl
-simple_printed new old [] (x ∷ xs) z = absurd z
-simple_printed new old (y ∷ ys) [] z = absurd z
-simple_printed new old (y ∷ []) (x ∷ []) z =
-    let like = printed_like new old y x z.0 in
-    ap (λ k. test_of_one k (text_at new y.span)) like.kind ∙ one_same x.kind (text_at new y.span) (text_at old x.span) like.name like.dashed
-simple_printed new old (y ∷ []) (x ∷ b ∷ xs) z = absurd z.1
-simple_printed new old (y ∷ a ∷ ys) (x ∷ []) z = absurd z.1
-simple_printed new old (y ∷ a ∷ []) (x ∷ b ∷ []) z =
-    class_printed new old y a x b (ap (λ s. s.gap) z.0.0) (printed_like new old y x z.0) (printed_like new old a b z.1.0)
-simple_printed new old (y ∷ a ∷ []) (x ∷ b ∷ c ∷ xs) z = absurd z.1.1
-simple_printed new old (y ∷ a ∷ d ∷ ys) (x ∷ b ∷ []) z = absurd z.1.1
-simple_printed new old (y ∷ a ∷ d ∷ ys) (x ∷ b ∷ c ∷ xs) z = refl
+selector_printed_same : (new old : List ℕ) (ys xs : List Lexeme) → AllZip (IsPrinted new old) ys xs → selector_of_lexemes new ys ≡ selector_of_lexemes old xs
+selector_printed_same new old ys xs z = ap (λ ts. selector_of_terms (terms_from 0 0 ts)) (tokens_printed new old ys xs z)
 
 abbrev pub TestSame : SelItem → SelItem → Type 0
 TestSame s' s = s'.selector ≡ s.selector
 
-abbrev selector_at : Piece → Test → SelItem
-selector_at piece test = record { selector = of_one_test test; piece = piece }
+-- both are read and agree, or both are refused for the same reason
+abbrev pub AreBothRead : {A B E : Type 0} → (A → B → Type 0) → Result A E → Result B E → Type 0
+AreBothRead R (Ok y) (Ok x) = R y x
+AreBothRead R (Ok y) (Err e) = ⊥
+AreBothRead R (Err e) (Ok x) = ⊥
+AreBothRead R (Err e') (Err e) = e' ≡ e
 
-both_selectors : (piece' piece : Piece) (test' test : Option Test) → test' ≡ test → AreBoth TestSame (option_map (selector_at piece') test') (option_map (selector_at piece) test)
-both_selectors piece' piece test' test same = rw same (inside test)
+both_selectors : (piece' piece : Piece) (r' r : Result SelectorParts Reason) → r' ≡ r → AreBothRead TestSame (with_piece piece' r') (with_piece piece r)
+both_selectors piece' piece r' r same = rw same (inside r)
   where
-    inside : (test : Option Test) → AreBoth TestSame (option_map (selector_at piece') test) (option_map (selector_at piece) test)
-    inside None = tt
-    inside (Some test) = refl
+    inside : (r : Result SelectorParts Reason) → AreBothRead TestSame (with_piece piece' r) (with_piece piece r)
+    inside (Ok selector) = refl
+    inside (Err reason) = refl
 
-selector_printed : (new old : List ℕ) (ys xs : List Lexeme) → AllZip (IsPrinted new old) ys xs → AreBoth TestSame (selector_item new ys) (selector_item old xs)
-selector_printed new old ys xs z = both_selectors (piece_of ys) (piece_of xs) (simple_of new ys) (simple_of old xs) (simple_printed new old ys xs z)
+selector_printed : (new old : List ℕ) (ys xs : List Lexeme) → AllZip (IsPrinted new old) ys xs → AreBothRead TestSame (selector_item new ys) (selector_item old xs)
+selector_printed new old ys xs z =
+    both_selectors (piece_of ys) (piece_of xs) (selector_of_lexemes new ys) (selector_of_lexemes old xs) (selector_printed_same new old ys xs z)
 
-both_before : {A B : Type 0} (R : A → B → Type 0) (y : Option A) (x : Option B) (ys : Option (List A)) (xs : Option (List B))
-    → AreBoth R y x → AreBoth (AllZip R) ys xs → AreBoth (AllZip R) (before_all y ys) (before_all x xs)
-both_before R None None ys xs r z = tt
-both_before R None (Some x) ys xs r z = absurd r
-both_before R (Some y) None ys xs r z = absurd r
-both_before R (Some y) (Some x) None None r z = tt
-both_before R (Some y) (Some x) None (Some xs) r z = absurd z
-both_before R (Some y) (Some x) (Some ys) None r z = absurd z
-both_before R (Some y) (Some x) (Some ys) (Some xs) r z = (r, z)
+both_before : {A B E : Type 0} (R : A → B → Type 0) (y : Result A E) (x : Result B E) (ys : Result (List A) E) (xs : Result (List B) E)
+    → AreBothRead R y x → AreBothRead (AllZip R) ys xs → AreBothRead (AllZip R) (before_all y ys) (before_all x xs)
+both_before R (Err e') (Err e) ys xs r z = r
+both_before R (Err e') (Ok x) ys xs r z = absurd r
+both_before R (Ok y) (Err e) ys xs r z = absurd r
+both_before R (Ok y) (Ok x) (Err e') (Err e) r z = z
+both_before R (Ok y) (Ok x) (Err e') (Ok xs) r z = absurd z
+both_before R (Ok y) (Ok x) (Ok ys) (Err e) r z = absurd z
+both_before R (Ok y) (Ok x) (Ok ys) (Ok xs) r z = (r, z)
 
-pub zip_all_of : {A B C D : Type 0} (R : A → B → Type 0) (S : C → D → Type 0) (f : A → Option C) (g : B → Option D)
-    → ((y : A) (x : B) → R y x → AreBoth S (f y) (g x)) → (ys : List A) (xs : List B) → AllZip R ys xs → AreBoth (AllZip S) (all_of f ys) (all_of g xs)
+zip_all_of : {A B C D E : Type 0} (R : A → B → Type 0) (S : C → D → Type 0) (f : A → Result C E) (g : B → Result D E)
+    → ((y : A) (x : B) → R y x → AreBothRead S (f y) (g x)) → (ys : List A) (xs : List B) → AllZip R ys xs → AreBothRead (AllZip S) (all_of f ys) (all_of g xs)
 zip_all_of R S f g h [] [] z = tt
 zip_all_of R S f g h [] (x ∷ xs) z = absurd z
 zip_all_of R S f g h (y ∷ ys) [] z = absurd z
@@ -115,7 +104,7 @@ entries_printed new old ys xs z =
     (zip_before (IsPrinted new old) closes_block closes_block (sign_agrees new old close_curly 1) _ _
     (zip_after (IsPrinted new old) opens_block opens_block (sign_agrees new old open_curly 0) ys xs z))
 
-pub selectors_printed : (new old : List ℕ) (ys xs : List Lexeme) → AllZip (IsPrinted new old) ys xs → AreBoth (AllZip TestSame) (selectors new ys) (selectors old xs)
+pub selectors_printed : (new old : List ℕ) (ys xs : List Lexeme) → AllZip (IsPrinted new old) ys xs → AreBothRead (AllZip TestSame) (selectors new ys) (selectors old xs)
 selectors_printed new old ys xs z =
     zip_all_of (AllZip (IsPrinted new old)) TestSame (selector_item new) (selector_item old) (selector_printed new old) (selector_parts ys) (selector_parts xs) (parts_printed new old ys xs z)
 

@@ -1,13 +1,14 @@
 -- A white space that closes the open escape of a name changes no name.
 use Rattle.std.proofs.Common.{◌≡◌, ◌⊎◌, inl, inr, subst, ℕ, zero, suc, ◌+◌, ◌*◌, ◌==◌, Bool, true, false, List, [], ◌∷◌, ◌++◌, length, take, drop, Some, None, Result, Ok, Err, refl, sym, ◌∙◌, ap, arith}
-use Rattle.std.proofs.lemmas.Bool.{false≢true, eqb-true, ne_eqb}
-use Rattle.std.specs.Prelude.{⊤, ◌&&◌, if◌then◌else◌, nat_lt, encode_utf8}
+use Rattle.std.proofs.lemmas.Bool.{false≢true, eqb-true}
+use Rattle.std.proofs.Math.Seq.{drop-append_seam}
+use Rattle.std.specs.Prelude.{⊤, ◌&&◌, ◌||◌, if◌then◌else◌, nat_lt, encode_utf8}
 use Rattle.std.specs.Char.{is_ascii_hexdigit, digit_value}
 use Rattle.css_model.specs.declared.token.TokenKind.{TokenKind}
 use Rattle.css_model.specs.declared.token.TokenKind.TheVariants as kind
 use Rattle.css_model.specs.declared.token.TokenFlaw.{TokenFlaw}
 use Rattle.css_model.specs.declared.token.TokenFlaw.TheVariants as flaw
-use Rattle.css_model.specs.Text.Characters.{backslash, space, slash, star, dash, hash, at_sign, less_than, greater_than, percent, open_round, close_round, is_newline, is_white, is_name, is_sign, begins, first_passes}
+use Rattle.css_model.specs.Text.Characters.{backslash, space, slash, star, dash, hash, at_sign, apostrophe, quote, less_than, greater_than, percent, open_round, close_round, is_newline, is_white, is_name, is_sign, begins, first_passes}
 use Rattle.css_model.specs.declared.token.Lexeme.{Lexeme}
 use Rattle.css_model.specs.Text.Kept.{is_open}
 use Rattle.css_model.specs.Text.Source.{text_at}
@@ -157,8 +158,18 @@ unescaped_closed zero (c ∷ cs) alone near = which (λ left. unescaped_closed l
 pub name_closed : (v : List ℕ) → name_len v ≡ length v → name_len (v ++ space ∷ space ∷ []) ≡ suc (length v) → unescaped (v ++ space ∷ []) ≡ unescaped v
 name_closed v = unescaped_closed 0 v
 
--- where the name stands in a token of each kind that is read by its name
+-- the last of the first n bytes is a sign other than a space
+record EndsWithSign (text : List ℕ) (n : ℕ) : Type 0 where
+  before : ℕ
+  sign : ℕ
+  size : before + 1 ≡ n
+  last : begins sign (drop before text) ≡ true
+  other : (space == sign) ≡ false
+
+-- where the name stands in a token of each kind that is read by its name; a function and a string end with a sign
 abbrev NameIs : TokenKind → List ℕ → ℕ → Type 0
+NameIs kind.Function text n = EndsWithSign text n
+NameIs kind.Str text n = EndsWithSign text n
 NameIs kind.Ident text n = name_len text ≡ n
 NameIs kind.AtKeyword text n = 1 + name_len (drop 1 text) ≡ n
 NameIs kind.IdHash text n = 1 + name_len (drop 1 text) ≡ n
@@ -173,16 +184,29 @@ either_name : (text : List ℕ) (b : Bool) (x y : Result Shape TokenFlaw) → Ha
 either_name text true x y first second = first
 either_name text false x y first second = second
 
+-- the same, where the test is at hand
+either_given : (text : List ℕ) (b : Bool) (x y : Result Shape TokenFlaw) → (b ≡ true → HasName text x) → HasName text y → HasName text (if b then x else y)
+either_given text true x y first second = first refl
+either_given text false x y first second = second
+
 slash_name : (c : ℕ) (cs : List ℕ) → HasName (c ∷ cs) (slash_shape cs)
 slash_name c cs =
     either_name (c ∷ cs) (begins star cs) (comment_shape (drop 1 cs)) (done (kind.Delim slash) 1)
     (either_name (c ∷ cs) (begins star (drop (run comment_unit (drop 1 cs)) (drop 1 cs))) (Ok (None, 4 + run comment_unit (drop 1 cs))) (Err flaw.EndInside) tt tt) tt
 
-string_name : (c q : ℕ) (cs : List ℕ) → HasName (c ∷ cs) (string_shape q cs)
-string_name c q cs =
+quote_no_space : (q : ℕ) → is_quote q ≡ true → (space == q) ≡ false
+quote_no_space q is = which (q == quote) refl is
+  where
+    which : (b : Bool) → (q == quote) ≡ b → (b || q == apostrophe) ≡ true → (space == q) ≡ false
+    which true same is = ap (λ (n : ℕ). space == n) (eqb-true q quote same)
+    which false other is = ap (λ (n : ℕ). space == n) (eqb-true q apostrophe is)
+
+string_name : (q : ℕ) (cs : List ℕ) → is_quote q ≡ true → HasName (q ∷ cs) (string_shape q cs)
+string_name q cs is =
     let rest = drop (run (string_unit q) cs) cs in
-    either_name (c ∷ cs) (begins q rest) (done kind.Str (2 + run (string_unit q) cs)) (if first_passes is_newline rest then Err flaw.BadString else Err flaw.EndInside) tt
-    (either_name (c ∷ cs) (first_passes is_newline rest) (Err flaw.BadString) (Err flaw.EndInside) tt tt)
+    either_given (q ∷ cs) (begins q rest) (done kind.Str (2 + run (string_unit q) cs)) (if first_passes is_newline rest then Err flaw.BadString else Err flaw.EndInside)
+    (λ last. record { before = suc (run (string_unit q) cs); sign = q; size = omega arith; last = last; other = quote_no_space q is })
+    (either_name (q ∷ cs) (first_passes is_newline rest) (Err flaw.BadString) (Err flaw.EndInside) tt tt)
 
 hash_name : (c : ℕ) (cs : List ℕ) → HasName (c ∷ cs) (hash_shape cs)
 hash_name c cs =
@@ -214,11 +238,12 @@ url_shape_name text n rest =
     let behind = drop (run url_unit rest) rest in
     url_name text (n + run url_unit rest + run white_unit behind) (after_white behind)
 
-opened_name : (text name : List ℕ) (n : ℕ) (rest : List ℕ) → HasName text (opened_shape name n rest)
-opened_name text name n rest =
-    let url = url_shape (n + run white_unit rest) (after_white rest) in
-    either_name text (is_url name) (if first_passes is_quote (after_white rest) then done kind.Function n else url) (done kind.Function n)
-    (either_name text (first_passes is_quote (after_white rest)) (done kind.Function n) url tt (url_shape_name text (n + run white_unit rest) (after_white rest))) tt
+opened_name : (text name : List ℕ) (n : ℕ) (rest : List ℕ) → begins open_round (drop n text) ≡ true → HasName text (opened_shape name (n + 1) rest)
+opened_name text name n rest opened =
+    let called : EndsWithSign text (n + 1) = record { before = n; sign = open_round; size = refl; last = opened; other = refl } in
+    let url = url_shape (n + 1 + run white_unit rest) (after_white rest) in
+    either_name text (is_url name) (if first_passes is_quote (after_white rest) then done kind.Function (n + 1) else url) (done kind.Function (n + 1))
+    (either_name text (first_passes is_quote (after_white rest)) (done kind.Function (n + 1)) url called (url_shape_name text (n + 1 + run white_unit rest) (after_white rest))) called
 
 word_name : (c : ℕ) (cs : List ℕ) → HasName (c ∷ cs) (word_at (c ∷ cs))
 word_name c cs =
@@ -227,8 +252,8 @@ word_name c cs =
     either_name text (c == dash && (begins dash cs && begins greater_than (drop 1 cs))) (done kind.CommentClose 3)
     (if nat_lt 0 (name_start text) then named_shape text else done (if is_sign c then kind.Sign c else kind.Delim c) 1) tt
     (either_name text (nat_lt 0 (name_start text)) (named_shape text) (done (if is_sign c then kind.Sign c else kind.Delim c) 1)
-    (either_name text (begins open_round (drop n text)) (opened_shape (take n text) (n + 1) (drop (n + 1) text)) (done kind.Ident n)
-    (opened_name text (take n text) (n + 1) (drop (n + 1) text)) refl)
+    (either_given text (begins open_round (drop n text)) (opened_shape (take n text) (n + 1) (drop (n + 1) text)) (done kind.Ident n)
+    (opened_name text (take n text) n (drop (n + 1) text)) refl)
     (which (is_sign c)))
   where
     which : (b : Bool) → HasName (c ∷ cs) (done (if b then kind.Sign c else kind.Delim c) 1)
@@ -250,7 +275,7 @@ rule_name (c ∷ cs) =
     let whites = done kind.White (run white_unit text) in
     either_name text (c == slash) (slash_shape cs) (if is_white c then whites else if is_quote c then string_shape c cs else if c == hash then hash_shape cs else symbol_at text) (slash_name c cs)
     (either_name text (is_white c) whites (if is_quote c then string_shape c cs else if c == hash then hash_shape cs else symbol_at text) tt
-    (either_name text (is_quote c) (string_shape c cs) (if c == hash then hash_shape cs else symbol_at text) (string_name c c cs)
+    (either_given text (is_quote c) (string_shape c cs) (if c == hash then hash_shape cs else symbol_at text) (string_name c cs)
     (either_name text (c == hash) (hash_shape cs) (symbol_at text) (hash_name c cs) (symbol_name c cs))))
 
 within_name : (text : List ℕ) (r : Result Shape TokenFlaw) → HasName text r → HasName text (within text r)
@@ -277,18 +302,42 @@ less_both : (v : List ℕ) → 1 + name_len (drop 1 v) ≡ length v → 1 + name
 less_both [] alone near = refl
 less_both (c ∷ cs) alone near = name_closed cs (omega (arith, alone)) (omega (arith, near))
 
-name_same : (k : TokenKind) (v : List ℕ) → (has_name k ≡ true → IsNamed k v) → is_open v ≡ true → unescaped (name_in k (v ++ space ∷ [])) ≡ unescaped (name_in k v)
-name_same kind.Ident v named is =
+-- the kinds of tokens that end with a sign
+abbrev pub ends_with_sign : TokenKind → Bool
+ends_with_sign kind.Function = true
+ends_with_sign kind.Str = true
+ends_with_sign _ = false
+
+-- a token of this kind takes one of two spaces behind it where it is open
+abbrev pub TakesSpace : TokenKind → List ℕ → Type 0
+TakesSpace k v = is_open v ≡ true → part_at (v ++ space ∷ space ∷ []) ≡ done k (suc (length v))
+
+-- which one that ends with a sign does not
+no_sign_behind : (v : List ℕ) → EndsWithSign (v ++ space ∷ space ∷ []) (suc (length v)) → ⊥
+no_sign_behind v ends =
+    let len : ends.before ≡ length v = omega (arith, ends.size) in
+    let behind : drop ends.before (v ++ space ∷ space ∷ []) ≡ space ∷ space ∷ [] =
+    ap (λ (n : ℕ). drop n (v ++ space ∷ space ∷ [])) len ∙ drop-append_seam v (space ∷ space ∷ []) in
+    absurd (false≢true (sym ends.other ∙ sym (ap (begins ends.sign) behind) ∙ ends.last))
+
+name_same : (k : TokenKind) (v : List ℕ) → (has_name k ≡ true → IsNamed k v) → (ends_with_sign k ≡ true → TakesSpace k v) → is_open v ≡ true
+    → unescaped (name_in k (v ++ space ∷ [])) ≡ unescaped (name_in k v)
+name_same kind.Ident v named signed is =
     let both = named refl in
     name_closed v (part_name v kind.Ident (length v) both.alone) (part_name (v ++ space ∷ space ∷ []) kind.Ident (suc (length v)) (both.near is))
-name_same kind.AtKeyword v named is =
+name_same kind.AtKeyword v named signed is =
     let both = named refl in
     less_both v (part_name v kind.AtKeyword (length v) both.alone) (part_name (v ++ space ∷ space ∷ []) kind.AtKeyword (suc (length v)) (both.near is))
-name_same kind.IdHash v named is =
+name_same kind.IdHash v named signed is =
     let both = named refl in
     less_both v (part_name v kind.IdHash (length v) both.alone) (part_name (v ++ space ∷ space ∷ []) kind.IdHash (suc (length v)) (both.near is))
-name_same _ v named is = refl
+name_same kind.Function v named signed is =
+    absurd (no_sign_behind v (part_name (v ++ space ∷ space ∷ []) kind.Function (suc (length v)) (signed refl is)))
+name_same kind.Str v named signed is =
+    absurd (no_sign_behind v (part_name (v ++ space ∷ space ∷ []) kind.Str (suc (length v)) (signed refl is)))
+name_same _ v named signed is = refl
 
 -- White space behind a token closes its open escape, and changes no name.
-pub is_closable : (source : List ℕ) (x : Lexeme) → IsShut (text_at source x.span) → (has_name x.kind ≡ true → IsNamed x.kind (text_at source x.span)) → IsClosable source x
-is_closable source x shut named = record { shut = shut; name = name_same x.kind (text_at source x.span) named }
+pub is_closable : (source : List ℕ) (x : Lexeme) → IsShut (text_at source x.span) → (has_name x.kind ≡ true → IsNamed x.kind (text_at source x.span))
+    → (ends_with_sign x.kind ≡ true → TakesSpace x.kind (text_at source x.span)) → IsClosable source x
+is_closable source x shut named signed = record { shut = shut; name = name_same x.kind (text_at source x.span) named signed }

@@ -12,11 +12,14 @@ use Rattle.css_model.specs.declared.token.Lexeme.{Lexeme}
 use Rattle.css_model.specs.declared.token.TokenKind.{TokenKind}
 use Rattle.css_model.specs.declared.token.TokenKind.TheVariants as kind
 use Rattle.css_model.specs.Text.Characters.{comma, colon, semicolon, open_curly, close_curly, exclamation_mark, space}
-use Rattle.css_model.specs.Text.Kept.{is_open, is_lone, is_white_gap}
+use Rattle.css_model.specs.Selectors.Terms.{depth_behind}
+use Rattle.css_model.specs.Selectors.Tokens.{selector_token}
+use Rattle.css_model.specs.Text.Kept.{Solid, solid, is_open, is_lone, is_white_gap}
 use Rattle.css_model.specs.Sheets.RuleParts.{RuleParts}
 use Rattle.css_model.specs.Text.Source.{text_at}
 use Rattle.css_model.specs.Sheets.Spelling.{tokens_in}
 use Rattle.list_facts.proofs.Zips.{AllLast, cons_head, cons_tail, cons_not_empty}
+use Rattle.selector_text_laws.specs.Back.{back}
 
 -- a token apart from where it stands
 pub record Shown : Type 0 where
@@ -76,12 +79,15 @@ joined s (part ∷ next ∷ parts) = part ++ s ∷ joined s (next ∷ parts)
 abbrev pub sign_shown : ℕ → ℕ → Shown
 sign_shown b level = record { kind = kind.Sign b; bytes = b ∷ []; gap = gap.Nothing; level = level }
 
--- a token of a selector
-abbrev pub selector_token : List ℕ → Lexeme → Shown
-selector_token source x = record { kind = x.kind; bytes = text_at source x.span; gap = gap.Nothing; level = 0 }
+-- tokens with so many brackets open before the first
+abbrev pub with_levels : ℕ → List Solid → List Shown
+with_levels level [] = []
+with_levels level (s ∷ ss) =
+    record { kind = s.kind; bytes = s.bytes; gap = s.gap; level = level } ∷ with_levels (depth_behind level (selector_token s)) ss
 
+-- what the printed text of a selector is read back as
 abbrev pub selector_shown : List ℕ → SelItem → List Shown
-selector_shown source s = map (selector_token source) (tokens_in source s.piece)
+selector_shown source s = with_levels 0 (back (map (solid source) (tokens_in source s.piece)))
 
 -- what stands behind the colon of a declaration: white space where that alone is its value
 abbrev pub colon_gap : List ℕ → List Lexeme → Gap

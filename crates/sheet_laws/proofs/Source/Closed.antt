@@ -13,7 +13,7 @@ use Rattle.css_model.specs.Text.Characters.{open_curly, close_curly}
 use Rattle.css_model.specs.Sheets.Items.{opens_block, closes_block}
 use Rattle.css_model.specs.Text.Lexemes.{is_white_kind, is_sign_of, closer_of, closer_of_sign, closes, opened, after, after_all, lexeme, lexemes_in}
 use Rattle.css_model.specs.Sheets.Sheet.{unclosed}
-use Rattle.sheet_laws.proofs.Printed.Items.{or_true}
+use Rattle.sheet_laws.proofs.Shown.Alike.{or_true}
 use Rattle.list_facts.proofs.Zips.{cons_not_empty, some_not_none}
 
 -- each token that opens a block is before one that closes it

@@ -1,29 +1,30 @@
 -- The items of a sheet, as they are read, are those of its source.
-use Rattle.std.proofs.Common.{◌≡◌, ◌≢◌, subst, ℕ, ◌+◌, ◌-◌, Bool, true, false, List, [], ◌∷◌, length, take, map, Option, Some, None, refl, sym, ◌∙◌, ap}
+use Rattle.std.proofs.Common.{◌≡◌, ◌≢◌, subst, ℕ, ◌+◌, ◌-◌, Bool, true, false, List, [], ◌∷◌, ◌++◌, length, take, map, Option, Some, None, Result, Ok, Err, refl, sym, ◌∙◌, ap}
 use Rattle.std.proofs.lemmas.Bool.{true≢false}
 use Rattle.std.specs.Prelude.{◌&&◌, ◌||◌, if◌then◌else◌, codes}
 use Rattle.std.specs.List.{AllByRecursion, before_first, after_first, position_or_len, list_any, filter_map, cons_option}
-use Rattle.std.specs.Option.{option_map}
-use Rattle.css_model.specs.declared.selector.Test.{Test}
+use Rattle.css_model.specs.declared.reason.Reason.{Reason}
 use Rattle.css_model.specs.declared.sheet.DeclItem.{DeclItem}
 use Rattle.css_model.specs.declared.sheet.Item.{Item}
 use Rattle.css_model.specs.declared.sheet.Item.TheVariants.{Rule, KeptRule, KeptBlock}
 use Rattle.css_model.specs.declared.sheet.SelItem.{SelItem}
 use Rattle.css_model.specs.declared.token.Lexeme.{Lexeme}
-use Rattle.css_model.specs.Text.Characters.{comma, colon, semicolon}
+use Rattle.css_model.specs.Text.Characters.{comma, colon, semicolon, space}
 use Rattle.css_model.specs.Text.Lexemes.{is_ident}
 use Rattle.css_model.specs.Sheets.Declarations.{is_custom, is_important, property_of, without_importance, piece_of_value, decl_item, declaration, declarations, is_nested}
 use Rattle.css_model.specs.Sheets.Items.{item_len, is_at_rule, is_whole, opens_block, closes_block, selector_parts, block, entries}
-use Rattle.css_model.specs.Text.Kept.{is_white_gap}
+use Rattle.css_model.specs.Text.Kept.{solid, is_white_gap}
 use Rattle.css_model.specs.Sheets.KeptRuleParts.{KeptRuleParts}
 use Rattle.css_model.specs.Text.Lexemes.{is_sign_of, is_sign_at, piece_of}
-use Rattle.css_model.specs.Sheets.Selectors.{of_one_test, simple_of, selector_item, selectors}
+use Rattle.css_model.specs.Selectors.Reading.{selector_of_lexemes}
+use Rattle.css_model.specs.Selectors.Reasons.{number_of}
+use Rattle.css_model.specs.Sheets.Selectors.{selector_item, selectors}
 use Rattle.css_model.specs.Lists.{before_all, all_of}
-use Rattle.css_model.specs.Sheets.Sheet.{is_import, is_namespace, not_read, rule_or_block, item_of, read_items}
+use Rattle.css_model.specs.Sheets.Sheet.{is_import, is_namespace, rule_or_block, item_of, read_items}
 use Rattle.css_model.specs.Text.Source.{text_at}
 use Rattle.css_model.specs.Sheets.Spelling.{lexemes_of, tokens_in}
 use Rattle.css_model.specs.Text.Names.{decoded}
-use Rattle.sheet_laws.proofs.Shown.Alike.{IsClosable, AreClosable}
+use Rattle.sheet_laws.proofs.Shown.Alike.{IsClosable, AreClosable, name_of_selector}
 use Rattle.sheet_laws.proofs.Printed.Blocks.{IsOfDeclaration, plain_value, or_false}
 use Rattle.list_facts.proofs.Cuts.{None_of}
 use Rattle.sheet_laws.proofs.Printed.Items.{begins_item, is_ended}
@@ -31,7 +32,9 @@ use Rattle.sheet_laws.proofs.Printed.Joins.{StandsIn, stands_whole, stands_insid
 use Rattle.list_facts.proofs.Zips.{cons_not_empty, some_not_none}
 use Rattle.sheet_laws.proofs.Source.Parts.{IsPart, each_inside, stands_taken, stands_dropped, none_before, split_stands, split_some}
 use Rattle.sheet_laws.proofs.Source.Pieces.{AreAscending, AreSpaced, stand_alone, none_in_white, none_at_end}
-use Rattle.sheet_laws.proofs.Printed.Preludes.{IsOfSelector, some_same}
+use Rattle.sheet_laws.proofs.Printed.Preludes.{IsOfSelector, selector_in, some_same, ok_same, err_not_ok}
+use Rattle.selector_text_laws.specs.Back.{IsClosableSolid}
+use Rattle.selector_text_laws.proofs.ForCallers.{selectors_read_back}
 use Rattle.sheet_laws.proofs.Source.Raw.{IsRawItem, EndBefore}
 use Rattle.sheet_laws.proofs.Printed.Sheet.{not_named, IsOfItem, IsFrom, imports, ends_itself, IsBefore, EndsBefore, AreInOrder}
 
@@ -47,38 +50,49 @@ stand_alone_in source good xs stands = stand_alone 0 (lexemes_of source) xs good
 closable_in : (source : List ℕ) → HasGoodTokens source → (xs : List Lexeme) → StandsIn (lexemes_of source) xs → AreClosable source xs
 closable_in source good xs stands = each_inside (IsClosable source) (lexemes_of source) xs stands good.closable
 
+solids_closable : (source : List ℕ) (xs : List Lexeme) → AreClosable source xs → AllByRecursion IsClosableSolid (map (solid source) xs)
+solids_closable source [] each = tt
+solids_closable source (x ∷ xs) each = (
+  record { shut = each.0.shut; name = λ o. name_of_selector x.kind (text_at source x.span ++ space ∷ []) (text_at source x.span) (each.0.name o) },
+  solids_closable source xs each.1,
+)
+
 -- a selector of a part that stands in the source
-pub selector_from : (source : List ℕ) → HasGoodTokens source → (part : List Lexeme) (s : SelItem) → StandsIn (lexemes_of source) part → selector_item source part ≡ Some s → IsOfSelector source s
+pub selector_from : (source : List ℕ) → HasGoodTokens source → (part : List Lexeme) (s : SelItem) → StandsIn (lexemes_of source) part → selector_item source part ≡ Ok s → IsOfSelector source s
 selector_from source good part s stands reads =
-    record { part = part; reads = reads; alone = ap (tokens_in source) (sym (by_test (simple_of source part) reads)) ∙ stand_alone_in source good part stands }
-  where
-    by_test : (test : Option Test) → option_map (λ t. record { selector = of_one_test t; piece = piece_of part }) test ≡ Some s → piece_of part ≡ s.piece
-    by_test None e = absurd (some_not_none s (sym e))
-    by_test (Some t) e = ap (λ (s : SelItem). s.piece) (some_same (record { selector = of_one_test t; piece = piece_of part }) s e)
+    let read = selector_in source part s reads in
+    let alone = ap (tokens_in source) read.1 ∙ stand_alone_in source good part stands in
+    let whole = ap (selector_of_lexemes source) alone ∙ read.0 in
+    let closable = subst (AreClosable source) (sym alone) (closable_in source good part stands) in
+    record {
+      reads = whole;
+      closable = closable;
+      again = selectors_read_back (map (solid source) (tokens_in source s.piece)) s.selector whole (solids_closable source (tokens_in source s.piece) closable);
+    }
 
 selectors_from : (source : List ℕ) → HasGoodTokens source → (outer : List Lexeme) → StandsIn (lexemes_of source) outer → (p : Lexeme → Bool) (parts : List (List Lexeme)) (read : List SelItem)
-    → AllByRecursion (IsPart p outer) parts → all_of (selector_item source) parts ≡ Some read → AllByRecursion (IsOfSelector source) read
-selectors_from source good outer inside p [] read each reads = subst (AllByRecursion (IsOfSelector source)) (some_same [] read reads) tt
+    → AllByRecursion (IsPart p outer) parts → all_of (selector_item source) parts ≡ Ok read → AllByRecursion (IsOfSelector source) read
+selectors_from source good outer inside p [] read each reads = subst (AllByRecursion (IsOfSelector source)) (ok_same [] read reads) tt
 selectors_from source good outer inside p (part ∷ parts) read each reads =
     which (selectors_from source good outer inside p parts) (selector_item source part) refl (all_of (selector_item source) parts) refl reads
   where
-    which : ((read : List SelItem) → AllByRecursion (IsPart p outer) parts → all_of (selector_item source) parts ≡ Some read → AllByRecursion (IsOfSelector source) read)
-        → (first : Option SelItem) → selector_item source part ≡ first → (others : Option (List SelItem)) → all_of (selector_item source) parts ≡ others → before_all first others ≡ Some read
-        → AllByRecursion (IsOfSelector source) read
-    which again None is others are e = absurd (some_not_none read (sym e))
-    which again (Some s) is None are e = absurd (some_not_none read (sym e))
-    which again (Some s) is (Some ss) are e =
-        subst (AllByRecursion (IsOfSelector source)) (some_same (s ∷ ss) read e)
+    which : ((read : List SelItem) → AllByRecursion (IsPart p outer) parts → all_of (selector_item source) parts ≡ Ok read → AllByRecursion (IsOfSelector source) read)
+        → (first : Result SelItem Reason) → selector_item source part ≡ first → (others : Result (List SelItem) Reason) → all_of (selector_item source) parts ≡ others
+        → before_all first others ≡ Ok read → AllByRecursion (IsOfSelector source) read
+    which again (Err reason) is others are e = absurd (err_not_ok reason read e)
+    which again (Ok s) is (Err reason) are e = absurd (err_not_ok reason read e)
+    which again (Ok s) is (Ok ss) are e =
+        subst (AllByRecursion (IsOfSelector source)) (ok_same (s ∷ ss) read e)
         (selector_from source good part s (stands_inside (lexemes_of source) outer part inside each.0.stands) is, again ss each.1 are)
 
-some_selectors : (source : List ℕ) (parts : List (List Lexeme)) (read : List SelItem) → parts ≢ [] → all_of (selector_item source) parts ≡ Some read → read ≢ []
+some_selectors : (source : List ℕ) (parts : List (List Lexeme)) (read : List SelItem) → parts ≢ [] → all_of (selector_item source) parts ≡ Ok read → read ≢ []
 some_selectors source [] read some reads none = absurd (some refl)
-some_selectors source (part ∷ parts) read some reads none = which (selector_item source part) (all_of (selector_item source) parts) (reads ∙ ap (λ r. Some r) none)
+some_selectors source (part ∷ parts) read some reads none = which (selector_item source part) (all_of (selector_item source) parts) (reads ∙ ap (λ r. Ok r) none)
   where
-    which : (first : Option SelItem) (others : Option (List SelItem)) → before_all first others ≡ Some [] → ⊥
-    which None others e = absurd (some_not_none [] (sym e))
-    which (Some s) None e = absurd (some_not_none [] (sym e))
-    which (Some s) (Some ss) e = absurd (cons_not_empty s ss (some_same (s ∷ ss) [] e))
+    which : (first : Result SelItem Reason) (others : Result (List SelItem) Reason) → before_all first others ≡ Ok [] → ⊥
+    which (Err reason) others e = absurd (err_not_ok reason [] e)
+    which (Ok s) (Err reason) e = absurd (err_not_ok reason [] e)
+    which (Ok s) (Ok ss) e = absurd (cons_not_empty s ss (ok_same (s ∷ ss) [] e))
 
 -- the value of a declaration alone stands in its piece
 pub value_alone : (source : List ℕ) → HasGoodTokens source → (name sign : Lexeme) (value : List Lexeme) → StandsIn (lexemes_of source) (name ∷ sign ∷ value)
@@ -171,14 +185,14 @@ block_origin source good xs raw name is =
 
 -- a qualified rule that is no import, and what it is read as
 qualified_origin : (source : List ℕ) → HasGoodTokens source → (xs : List Lexeme) → IsRawItem (lexemes_of source) xs → is_namespace source xs ≡ false → is_at_rule xs ≡ false
-    → (read : Option (List SelItem)) → selectors source xs ≡ read → (ds : Option (List DeclItem)) → declarations source xs ≡ ds
+    → (read : Result (List SelItem) Reason) → selectors source xs ≡ read → (ds : Option (List DeclItem)) → declarations source xs ≡ ds
     → (item : Item) → item_of source xs ≡ Some item → rule_or_block (piece_of xs) read ds ≡ Some item → IsOrigin source xs item
 qualified_origin source good xs raw name qualified read reads None declares item is e =
     let same = some_same (KeptBlock (piece_of xs)) item e in
     subst (IsOrigin source xs) same (block_origin source good xs raw name (is ∙ ap (λ i. Some i) (sym same)))
-qualified_origin source good xs raw name qualified None reads (Some ds) declares item is e =
+qualified_origin source good xs raw name qualified (Err why) reads (Some ds) declares item is e =
     let alone = stand_alone_in source good xs raw.is_item.stands in
-    let k : KeptRuleParts = record { piece = piece_of xs; decls = map (λ d. d.decl) ds; reason = not_read } in
+    let k : KeptRuleParts = record { piece = piece_of xs; decls = map (λ d. d.decl) ds; reason = number_of why } in
     let same = some_same (KeptRule k) item e in
     subst (IsOrigin source xs) same (record {
       from = kept_from source good xs raw name;
@@ -186,8 +200,8 @@ qualified_origin source good xs raw name qualified None reads (Some ds) declares
       import = ap (is_import source) alone;
       ends = λ ended. ap is_ended alone ∙ ended;
     })
-qualified_origin source good xs raw name qualified (Some read) reads (Some []) declares item is e = absurd (some_not_none item (sym e))
-qualified_origin source good xs raw name qualified (Some read) reads (Some (d ∷ ds)) declares item is e =
+qualified_origin source good xs raw name qualified (Ok read) reads (Some []) declares item is e = absurd (some_not_none item (sym e))
+qualified_origin source good xs raw name qualified (Ok read) reads (Some (d ∷ ds)) declares item is e =
     subst (IsOrigin source xs) (some_same (Rule (record { selectors = read; decls = d ∷ ds })) item e) (record {
       from = record {
         has_selectors = some_selectors source (selector_parts xs) read (split_some (is_sign_at comma 0) (before_first opens_block xs)) reads;
