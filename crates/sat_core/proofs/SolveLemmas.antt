@@ -19,7 +19,6 @@ use Rattle.sat_core.specs.Search.{IsSearch}
 use Rattle.sat_watch.specs.Nonempty.{is_nonempty}
 use Rattle.sat_core.specs.Verdict.{Refutes}
 use Rattle.sat_core.proofs.CountLemmas.{lit-cases}
-use Rattle.sat_watch.proofs.ForCallers.{reasoned-push}
 use Rattle.sat_core.proofs.LedgerLemmas.{forced-empty, logged-empty, logged-push, holds-from_rest}
 
 -- ---- a model
@@ -96,30 +95,6 @@ model f ledger cs t vs same_clauses tv range h rest full size vals =
           | inl e ↦ let b = ltb-true (variable l) f.vars (all-among (is_below f.vars) c l parts.0 e) in omega arith
           | inr e ↦ in-formula cs l parts.1 e
         ]
-
--- ---- a decision
-
--- the negation of an open literal is open
-pub open-negation : (trail : List Lit) (l : Lit) → value_in trail l ≡ None → value_in trail (negation l) ≡ None
-open-negation trail l e =
-    let p = open-parts trail l e in
-    cond-false (is_among trail (negation l)) _ _ p.1
-    ∙ cond-false (is_among trail (negation (negation l))) _ _ (ap (is_among trail) (negation-twice l) ∙ p.0)
-
-pub sound-decide : (ns : List Numbered) (t : Assignment) (l : Lit) → IsTrail t → IsSound ns t → IsTrue (is_at_rest (clauses_of ns) (lits t.entries)) → IsSound ns (with_decided t l)
-sound-decide ns t l h s r =
-    let e : Entry = record { lit = l; level = t.level + 1; reason = None } in
-    record {
-      reasons = reasoned-push ns [] t.entries e s.reasons tt;
-      rests =
-          λ n b.
-          let P : List Entry → Type 0 = λ es. IsTrue (is_at_rest (clauses_of ns) (lits es)) in
-          let top : IsTrue (is_at_rest (clauses_of ns) (lits (up_to n t.entries))) = elim (cases_eq n t.level) [
-            | inl q ↦ subst P (sym (up_to-all 0 t.entries t.level n h.rise (omega arith))) r
-            | inr q ↦ s.rests n (omega arith)
-          ] in
-          subst P (sym (up_to-push n t.entries e b)) top;
-    }
 
 -- ---- no model
 

@@ -14,6 +14,7 @@ use Rattle.sat_trail.proofs.ForCallers.{in_some, some≢none, rise-none, up_to-p
 use Rattle.sat_watch.specs.Numbered.{Numbered, clauses_of, under}
 use Rattle.sat_watch.specs.Soundness.{Implies, Reasoned, IsSound}
 use Rattle.sat_watch.specs.Watch.{IsUnit}
+use Rattle.sat_watch.specs.Watches.{IsLonger}
 use Rattle.sat_watch.proofs.NumberLemmas.{under-append}
 
 pub reasoned-push : (ns : List Numbered) (before : List Lit) (es : List Entry) (e : Entry) → Reasoned ns before es → MatchOption e.reason (Unit {0}) (λ at. Implies ns (before ++ lits es) e.lit at) → Reasoned ns before (es ++ e ∷ [])
@@ -86,3 +87,11 @@ get-push (z ∷ zs) e x (suc k) h = get-push zs e x k h
 
 pub negation-injective : (a b : Lit) → negation a ≡ negation b → a ≡ b
 negation-injective a b e = sym (negation-twice a) ∙ (ap negation e ∙ negation-twice b)
+
+-- ---- trails that grow
+
+pub longer-none : (t : Assignment) → IsLonger t t
+longer-none t = ([], sym (append-nil t.entries))
+
+pub longer-trans : (t u v : Assignment) → IsLonger t u → IsLonger u v → IsLonger t v
+longer-trans t u v m n = (m.0 ++ n.0, n.1 ∙ (ap (λ es. es ++ n.0) m.1 ∙ append_assoc t.entries m.0 n.0))

@@ -71,6 +71,15 @@ within-high head count h =
     above : (a b : ℕ) → b < a → leb a b ≡ false
     above a b h = grind arith
 
+-- where a level is taken back, all that is left was looked at
+pub looked-undone : (a : WatchedClauses) (t : Assignment) (head m : ℕ) → m < t.level → IsReady a t head → head_within head (length (up_to m t.entries)) ≡ length (up_to m t.entries)
+looked-undone a t head m low r =
+    let front = front-same t head m r.trail r.present r.looked low in
+    let fewer = up_to-fewer (take head t.entries) m in
+    let n = ap length front in
+    let size = length-take-le head t.entries r.looked in
+    within-high head (length (up_to m t.entries)) (omega (arith, n, fewer, size))
+
 -- the watches are ready for what is left
 pub ready-undone : (a : WatchedClauses) (t : Assignment) (head m : ℕ) → m ≤ t.level → IsReady a t head → IsReady a (undone_to t m) (head_within head (length (up_to m t.entries)))
 ready-undone a t head m low r =
@@ -85,10 +94,7 @@ ready-undone a t head m low r =
       | inr ne ↦
           let es = up_to m t.entries in
           let front = front-same t head m r.trail r.present r.looked (omega arith) in
-          let fewer = up_to-fewer (take head t.entries) m in
-          let n = ap length front in
-          let size = length-take-le head t.entries r.looked in
-          let is = within-high head (length es) (omega (arith, n, fewer, size)) in
+          let is = looked-undone a t head m (omega arith) r in
           let H : ℕ → Type 0 = λ h. IsReady a (undone_to t m) h in
           subst H (sym is) (record {
             arena = r.arena;

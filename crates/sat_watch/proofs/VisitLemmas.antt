@@ -1,8 +1,8 @@
 -- Lemmas on the clauses that watch a literal, looked at one after the other.
-use Rattle.std.proofs.Common.{◌≡◌, ◌≢◌, ◌+◌, ◌<◌, ◌≤◌, ◌⊎◌, ℕ, Bool, true, false, cond, eqb, IsTrue, zero, suc, Option, None, Some, List, [], ◌∷◌, ◌++◌, length, map, get_or, refl, sym, ap, subst, ◌∙◌, inl, inr, arith}
+use Rattle.std.proofs.Common.{◌≡◌, ◌≢◌, ◌+◌, ◌<◌, ◌≤◌, ◌⊎◌, ℕ, Bool, true, false, cond, eqb, IsTrue, zero, suc, Option, None, Some, List, [], ◌∷◌, ◌++◌, length, map, get_or, refl, sym, ap, subst, ◌∙◌, inl, inr, arith, append_assoc}
 use Rattle.std.specs.List.{Contains, slice_get, list_all, IsDistinct}
 use Rattle.std.proofs.lemmas.Bool.{cases_eq, cases_Bool, cond-true, cond-false, eq-eqb, ne_eqb, false≢true, false_from_ne_true}
-use Rattle.std.proofs.lemmas.List.{length_push, get_or-append-add}
+use Rattle.std.proofs.lemmas.List.{length_push, get_or-append-add, append-nil}
 use Rattle.std.proofs.lemmas.Option.{slice_get-get_or, slice_get_within}
 use Rattle.cnf.specs.declared.lit.Lit.{Lit}
 use Rattle.cnf.specs.Lits.{negation, same, is_among, is_below}
@@ -15,7 +15,7 @@ use Rattle.sat_arena.proofs.ForCallers.{rest_from, IsWalk, Meets, walk-begin, wa
 use Rattle.sat_watch.specs.Numbered.{Numbered, with_number, numbered}
 use Rattle.sat_watch.specs.Soundness.{is_false, Implies, IsSound, IsConflict}
 use Rattle.sat_watch.specs.Watch.{partner, CanWatch}
-use Rattle.sat_watch.specs.Watches.{IsBacked, ShortAreTrue, ArePresent, IsReady}
+use Rattle.sat_watch.specs.Watches.{IsBacked, ShortAreTrue, ArePresent, IsReady, IsLonger}
 use Rattle.sat_watch.proofs.NumberLemmas.{under-index, contains-tail}
 use Rattle.sat_watch.proofs.StepLemmas.{sound-imply, get-push, negation-injective}
 use Rattle.sat_watch.proofs.WatchLemmas.{up_to-more, backed-more, backed-less, backed-swap, backed-advance, backed-true, backed-moved}
@@ -129,7 +129,7 @@ pub record IsVisit (a0 : WatchedClauses) (t0 : Assignment) (head : ℕ) (lit : L
   pub arena_vars : a.vars ≡ a0.vars
   pub vars : t.vars ≡ t0.vars
   pub level : t.level ≡ t0.level
-  pub grows : length t0.entries ≤ length t.entries
+  pub longer : IsLonger t0 t
   pub sound : IsSound (numbered a) t
   pub arena : IsArena a
   pub trail : IsTrail t
@@ -182,7 +182,7 @@ visit-begin a t head lit next s r e n short =
       arena_vars = refl;
       vars = refl;
       level = refl;
-      grows = omega arith;
+      longer = ([], sym (append-nil t.entries));
       sound = s;
       arena = r.arena;
       trail = r.trail;
@@ -238,7 +238,7 @@ visit-keep a0 t0 head lit a t before next c v e p =
       arena_vars = v.arena_vars;
       vars = v.vars;
       level = v.level;
-      grows = v.grows;
+      longer = v.longer;
       sound = v.sound;
       arena = v.arena;
       trail = v.trail;
@@ -269,13 +269,13 @@ visit-longer a0 t0 head lit a t before next l number v b o i =
     let inside = k.inside in
     let P : List Lit → Type 0 = λ ls. slice_get ls head ≡ Some (negation lit) in
     let longer = length_push t.entries e in
-    let low = v.grows in
+    let more = v.longer in
     record {
       same = v.same;
       arena_vars = v.arena_vars;
       vars = v.vars;
       level = v.level;
-      grows = omega (arith, longer, low);
+      longer = (more.0 ++ e ∷ [], ap (λ es. es ++ e ∷ []) more.1 ∙ append_assoc t0.entries more.0 (e ∷ []));
       sound = sound-imply (numbered a) t l number v.sound i;
       arena = v.arena;
       trail = trail-implied t l number v.trail b o;
@@ -325,7 +325,7 @@ visit-move a0 t0 head lit a b t before next c to v e can arena vars clauses list
       arena_vars = vars ∙ v.arena_vars;
       vars = v.vars;
       level = v.level;
-      grows = v.grows;
+      longer = v.longer;
       sound = subst S (sym same) v.sound;
       arena = arena;
       trail = v.trail;

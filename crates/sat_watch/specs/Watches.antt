@@ -1,5 +1,5 @@
 -- The watches of the clauses while propagation looks at one entry of the trail after the other.
-use Rattle.std.specs.Prelude.{◌≡◌, ◌≢◌, ◌<◌, ◌≤◌, ◌⊎◌, if◌then◌else◌, nat_le, ℕ, Option, List, take, length, slice_get, Contains, Some, None, IsTrue}
+use Rattle.std.specs.Prelude.{◌≡◌, ◌≢◌, ◌<◌, ◌≤◌, ◌⊎◌, if◌then◌else◌, nat_le, ℕ, Option, List, ◌++◌, take, length, slice_get, Contains, Some, None, IsTrue}
 use Rattle.cnf.specs.declared.lit.Lit.{Lit}
 use Rattle.cnf.specs.Lits.{negation, is_among}
 use Rattle.sat_trail.specs.declared.entry.Entry.{Entry}
@@ -31,6 +31,10 @@ pub record IsReady (a : WatchedClauses) (t : Assignment) (head : ℕ) : Type 0 w
   pub present : ArePresent t head
   pub backed : (c : ℕ) → Contains (indexes a) c → (clause_at a c).one ≢ (clause_at a c).other → IsBacked t.entries head (clause_at a c).one (clause_at a c).other
   pub short : 0 < t.level → ShortAreTrue a t.entries
+
+-- the entries of one trail, and maybe more behind them
+abbrev pub IsLonger : Assignment → Assignment → Type 0
+IsLonger old new = (more : List Entry) × (new.entries ≡ old.entries ++ more)
 
 -- a literal was true, or was open and is implied now
 abbrev pub IsMadeTrue : Assignment → Assignment → Lit → ℕ → Type 0

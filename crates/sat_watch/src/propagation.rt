@@ -7,7 +7,7 @@ ghost use Rattle.sat_trail.specs.Trail.{lits, IsTrail};
 ghost use Rattle.sat_watch.specs.Nonempty.{are_nonempty};
 ghost use Rattle.sat_watch.specs.Numbered.{numbered, clauses_of};
 ghost use Rattle.sat_watch.specs.Soundness.{is_false, IsSound, IsConflict, Propagated};
-ghost use Rattle.sat_watch.specs.Watches.{IsMadeTrue, IsReady, ShortAreTrue};
+ghost use Rattle.sat_watch.specs.Watches.{IsLonger, IsMadeTrue, IsReady, ShortAreTrue};
 
 use crate::watch::Watch;
 use cnf::Lit;
@@ -27,7 +27,7 @@ pub fn propagate(arena: &mut Arena, trail: &mut Trail, head: &mut u32) -> Option
     ensures sound { IsSound (numbered arena.new) trail.new }
     ensures vars { trail.new.vars ≡ trail.old.vars }
     ensures level { trail.new.level ≡ trail.old.level }
-    ensures grows { length trail.old.entries ≤ length trail.new.entries }
+    ensures longer { IsLonger trail.old trail.new }
     ensures found { Propagated (numbered arena.new) (lits trail.new.entries) result }
     ensures ready { IsReady arena.new trail.new head.new }
     ensures looked { IfNone result (head.new ≡ length trail.new.entries) }
@@ -52,7 +52,7 @@ pub fn propagate_entries(arena: &mut Arena, trail: &mut Trail, head: &mut u32) -
     ensures sound { IsSound (numbered arena.new) trail.new }
     ensures vars { trail.new.vars ≡ trail.old.vars }
     ensures level { trail.new.level ≡ trail.old.level }
-    ensures grows { length trail.old.entries ≤ length trail.new.entries }
+    ensures longer { IsLonger trail.old trail.new }
     ensures found { Propagated (numbered arena.new) (lits trail.new.entries) result }
     ensures ready { IsReady arena.new trail.new head.new }
     ensures looked { IfNone result (head.new ≡ length trail.new.entries) }
@@ -80,7 +80,7 @@ fn imply_short(arena: &Arena, trail: &mut Trail) -> Option<usize>
     ensures sound { IsSound (numbered arena.now) trail.new }
     ensures vars { trail.new.vars ≡ trail.old.vars }
     ensures level { trail.new.level ≡ trail.old.level }
-    ensures longer { (more : List Entry) × (trail.new.entries ≡ trail.old.entries ++ more) }
+    ensures longer { IsLonger trail.old trail.new }
     ensures above { 0 < trail.old.level → trail.new ≡ trail.old }
     ensures trail { IsTrail trail.new }
     ensures found { MatchOption result (ShortAreTrue arena.now trail.new.entries)
@@ -130,7 +130,7 @@ fn visit(arena: &mut Arena, trail: &mut Trail, head: u32, lit: Lit) -> Option<us
     ensures sound { IsSound (numbered arena.new) trail.new }
     ensures vars { trail.new.vars ≡ trail.old.vars }
     ensures level { trail.new.level ≡ trail.old.level }
-    ensures grows { length trail.old.entries ≤ length trail.new.entries }
+    ensures longer { IsLonger trail.old trail.new }
     ensures found { MatchOption result (IsReady arena.new trail.new (head + 1))
         (λ number. IsReady arena.new trail.new head
         × IsConflict (numbered arena.new) (lits trail.new.entries) number) }

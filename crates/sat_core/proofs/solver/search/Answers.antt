@@ -19,9 +19,9 @@ use Rattle.sat_core.specs.Search.{IsSearch}
 use Rattle.sat_core.specs.Verdict.{Refutes, UsesUp}
 use Rattle.sat_core.proofs.CountLemmas.{short}
 use Rattle.sat_core.proofs.LedgerLemmas.{no_values-from_empty, logged-in_range}
-use Rattle.sat_watch.proofs.ForCallers.{ready-start, ready-decided}
+use Rattle.sat_watch.proofs.ForCallers.{ready-start, ready-decided, longer-grows, open-negation, sound-decide}
 use Rattle.sat_watch.proofs.ForCallers.{clauses_of-numbered}
-use Rattle.sat_core.proofs.SolveLemmas.{model, positive-number, open-negation, sound-decide, refutes, kept, shorter}
+use Rattle.sat_core.proofs.SolveLemmas.{model, positive-number, refutes, kept, shorter}
 use Rattle.sat_core.proofs.solver.search.Goals as goal
 
 -- before anything is known
@@ -111,7 +111,7 @@ search-smaller-in-Some-next_free c =
     let longer = length_push t.entries e in
     let decided = rw c.in-Some-next_free.ensures.same at c.decide.ensures in
     let entries : length c.decide.new.self.entries ≡ length t.entries + 1 = ap (λ (t : Assignment). length t.entries) decided ∙ longer in
-    let fewer : c.args.f.now.vars - length c.decide.new.self.entries < c.args.f.now.vars - length c.search.trail.entries = omega (arith, s.trail_vars, p.vars, p.grows) in
+    let fewer : c.args.f.now.vars - length c.decide.new.self.entries < c.args.f.now.vars - length c.search.trail.entries = (let grows = longer-grows c.search.trail.entries t.entries p.longer in omega (arith, s.trail_vars, p.vars, grows)) in
     let all : (3 ^ c.args.f.now.vars - length c.search.ledger.items) * (c.args.f.now.vars + 1) + (c.args.f.now.vars - length c.decide.new.self.entries) < (3 ^ c.args.f.now.vars - length c.search.ledger.items) * (c.args.f.now.vars + 1) + (c.args.f.now.vars - length c.search.trail.entries) = omega arith in
     all
 

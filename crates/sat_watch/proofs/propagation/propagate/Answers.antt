@@ -1,4 +1,5 @@
 use Rattle.sat_watch.proofs.ShortLemmas.{ready-longer, short-above}
+use Rattle.sat_watch.proofs.StepLemmas.{longer-trans}
 use Rattle.sat_watch.proofs.propagation.propagate.Goals as goal
 
 pub propagate_entries-requires-clause-ready : goal.propagate_entries-requires-clause-ready
@@ -15,3 +16,6 @@ returns-in-Some-clause-ready c =
     let u = c.imply_short.new.trail in
     let s = c.imply_short.ensures in
     ready-longer a t u c.args.head.now c.requires.ready s.trail s.level s.longer s.above (short-above a t u c.args.head.now c.requires.ready s.level s.above)
+
+pub returns-in-None-clause-longer : goal.returns-in-None-clause-longer
+returns-in-None-clause-longer c = longer-trans c.args.trail.now c.imply_short.new.trail c.propagate_entries.new.trail c.imply_short.ensures.longer c.propagate_entries.ensures.longer

@@ -1,7 +1,7 @@
-use Rattle.std.proofs.Common.{◌≡◌, ◌≤◌, ◌-◌, length}
+use Rattle.std.proofs.Common.{◌≡◌, ◌-◌}
 use Rattle.sat_watch.specs.Numbered.{numbered}
 use Rattle.sat_watch.specs.Soundness.{IsSound}
-use Rattle.sat_watch.specs.Watches.{IsReady, ShortAreTrue}
+use Rattle.sat_watch.specs.Watches.{IsReady, IsLonger, ShortAreTrue}
 use Rattle.sat_watch.proofs.propagation.propagate_entries.Given as goal
 
 abbrev pub invariant-looks : goal.invariant-looks
@@ -11,7 +11,7 @@ invariant-looks l = record {
   sound : IsSound (numbered l.arena) l.trail;
   vars : l.trail.vars ≡ l.fn.trail.vars;
   level : l.trail.level ≡ l.fn.trail.level;
-  grows : length l.fn.trail.entries ≤ length l.trail.entries;
+  longer : IsLonger l.fn.trail l.trail;
   ready : IsReady l.arena l.trail l.head;
   short : ShortAreTrue l.arena l.trail.entries;
 }

@@ -1,0 +1,13 @@
+//! Logs of clauses that refute a formula, and a checker that follows them by unit propagation alone
+//! (reverse unit propagation, RUP).
+#![tactic(auto)]
+
+mod check;
+mod laws;
+mod log;
+mod root;
+mod step;
+
+pub use check::check_log;
+pub use laws::checked_log_refutes;
+pub use log::{Checked, Log};
