@@ -23,10 +23,13 @@ abbrev pub EachForced : List (List Lit) → List (List Lit) → Type 0
 EachForced formula [] = Unit {0}
 EachForced formula (step ∷ steps) = IsForced formula step × EachForced (formula ++ step ∷ []) steps
 
+-- the last step is empty
+abbrev pub IsLastEmpty : List (List Lit) → Type 0
+IsLastEmpty steps = (others : List (List Lit)) × (steps ≡ others ++ [] ∷ [])
+
 -- a clause of the formula is empty, or the last step is
 abbrev pub EndsEmpty : List (List Lit) → List (List Lit) → Type 0
-EndsEmpty formula steps =
-    (are_nonempty formula ≡ false) ⊎ ((others : List (List Lit)) × (steps ≡ others ++ [] ∷ []))
+EndsEmpty formula steps = (are_nonempty formula ≡ false) ⊎ IsLastEmpty steps
 
 -- each step is forced, and the log shows that the formula cannot be satisfied
 pub record IsRefutation (formula steps : List (List Lit)) : Type 0 where
@@ -53,6 +56,11 @@ pub record IsUnfinished (formula steps : List (List Lit)) (number : ℕ) : Type 
 abbrev pub IsChecked : List (List Lit) → List (List Lit) → Checked → Type 0
 IsChecked formula steps Yes = IsRefutation formula steps
 IsChecked formula steps (No number) = IsFault formula steps number ⊎ IsUnfinished formula steps number
+
+-- the answer where each step is forced, and no clause of the formula is empty
+abbrev pub IsAtEnd : List (List Lit) → Checked → Type 0
+IsAtEnd steps Yes = IsLastEmpty steps
+IsAtEnd steps (No number) = (IsLastEmpty steps → ⊥) × (number ≡ length steps + 1)
 
 -- no values satisfy a formula that a log refutes
 abbrev pub RefutationsRefute : Type 0

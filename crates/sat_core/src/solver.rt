@@ -12,7 +12,7 @@ use crate::verdict::Verdict;
 use cnf::{Clause, Formula, Ledger, Lit, NO_LIMIT};
 use sat_arena::Arena;
 use sat_trail::Trail;
-use sat_watch::propagate;
+use sat_watch::{has_empty, propagate};
 use std::alloc::{AllocError, Global};
 
 /// Decides a formula by clause learning, with a budget of learned clauses; `NO_LIMIT` stands for a
@@ -27,18 +27,6 @@ pub fn solve(alloc: Global, f: &Formula, budget: u32) -> Result<Verdict, AllocEr
         }));
     }
     search(alloc, f, budget)
-}
-
-/// Whether a clause has no literal. Takes no memory.
-fn has_empty(f: &Formula) -> bool
-    ensures { IsTrue result ↔ (are_nonempty f.now.clauses ≡ false) }
-{
-    for k in 0..f.len() {
-        if f.clause(k).is_empty() {
-            return true;
-        }
-    }
-    false
 }
 
 /// Decides a formula without an empty clause. `AllocError` where memory runs out.

@@ -13,5 +13,5 @@ pub use Rattle.sat_watch.proofs.NumberLemmas.{
 pub use Rattle.sat_watch.proofs.ReadyLemmas.{ready-start, ready-decided, ready-attached, backed-start, short-attached, sound-decide, open-negation}
 pub use Rattle.sat_watch.proofs.ShortLemmas.{longer-grows, rested}
 pub use Rattle.sat_watch.proofs.StepLemmas.{reasoned-push, reasoned-wider, reasoned-up_to, take-at, negation-injective}
-pub use Rattle.sat_watch.proofs.UndoLemmas.{trail-undone, front-same, looked-undone, ready-undone, sound-undone}
+pub use Rattle.sat_watch.proofs.UndoLemmas.{within-low, trail-undone, front-same, looked-undone, ready-undone, sound-undone}
 pub use Rattle.sat_watch.proofs.WatchLemmas.{backs-undo, backs-open, backed-less}

@@ -80,7 +80,7 @@ sound-decide ns t l h s r =
 -- ---- a clause that is attached at level 0
 
 -- it is watched well where no watch of it is false so far
-pub ready-attached : (a b : WatchedClauses) (t : Assignment) (head less c : ℕ) (ls : List Lit) → IsReady a t head → t.level ≡ 0 → IsArena b → b.clauses ≡ a.clauses ++ new_clause c ls ∷ [] → (Contains (indexes a) c → ⊥) → less ≤ head → IsBacked t.entries less (last_watch ls) (next_watch ls) → IsReady b t less
+pub ready-attached : (a b : WatchedClauses) (t : Assignment) (head less c : ℕ) (ls : List Lit) → IsReady a t head → t.level ≡ 0 → IsArena b → b.clauses ≡ a.clauses ++ new_clause c ls ∷ [] → (Contains (indexes a) c → ⊥) → less ≤ head → (last_watch ls ≢ next_watch ls → IsBacked t.entries less (last_watch ls) (next_watch ls)) → IsReady b t less
 ready-attached a b t head less c ls r flat arena clauses fresh low new =
     let k = new_clause c ls in
     let is : indexes b ≡ indexes a ++ c ∷ [] = ap (map (λ (x : WatchedClause). x.index)) clauses ∙ map_push (λ (x : WatchedClause). x.index) a.clauses k in
@@ -101,7 +101,11 @@ ready-attached a b t head less c ls r flat arena clauses fresh low new =
         | inl z ↦
             let T : WatchedClause → Type 0 = λ y. y.one ≢ y.other in
             subst B (sym (old x z)) (backed-less t.entries head less _ _ low (r.backed x z (subst T (old x z) two)))
-        | inr z ↦ let C : ℕ → Type 0 = λ y. B (clause_at b y) in subst C z (subst B (sym own) new)
+        | inr z ↦
+            let C : ℕ → Type 0 = λ y. B (clause_at b y) in
+            let T : WatchedClause → Type 0 = λ y. y.one ≢ y.other in
+            let U : ℕ → Type 0 = λ y. T (clause_at b y) in
+            subst C z (subst B (sym own) (new (subst T own (subst U (sym z) two))))
       ];
       short = λ p. absurd (omega arith);
     }

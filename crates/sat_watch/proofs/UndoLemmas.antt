@@ -58,7 +58,7 @@ up_to-fewer (x ∷ xs) m =
       | inr t ↦ let n = ap length (cond-false (is_up_to m x) (x ∷ up_to m xs) (up_to m xs) t) in omega (arith, n, rest)
     ]
 
-within-low : (head count : ℕ) → head ≤ count → head_within head count ≡ head
+pub within-low : (head count : ℕ) → head ≤ count → head_within head count ≡ head
 within-low head count h = cond-true (leb head count) head count (le-leb head count h)
 
 within-high : (head count : ℕ) → count ≤ head → head_within head count ≡ count

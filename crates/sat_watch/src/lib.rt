@@ -2,9 +2,12 @@
 //! checker of its logs both stand on.
 #![tactic(auto)]
 
+mod nonempty;
 mod propagation;
 mod undoing;
 mod watch;
 
-pub use propagation::{make_true, propagate, propagate_entries};
+pub use nonempty::has_empty;
+pub use propagation::{propagate, propagate_entries};
 pub use undoing::undo;
+pub use watch::is_false;

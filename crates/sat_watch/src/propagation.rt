@@ -101,7 +101,7 @@ fn imply_short(arena: &Arena, trail: &mut Trail) -> Option<usize>
 
 /// Makes a literal true, by the clause under a number, unless it is false; and whether it is true then.
 /// Takes no memory.
-pub fn make_true(trail: &mut Trail, lit: Lit, number: usize) -> bool
+fn make_true(trail: &mut Trail, lit: Lit, number: usize) -> bool
     requires { IsTrue (is_below trail.old.vars lit) }
     ensures { MatchBool result (IsMadeTrue trail.old trail.new lit number)
         ((trail.new ≡ trail.old) × IsTrue (is_false (lits trail.old.entries) lit)) }

@@ -77,7 +77,7 @@ fn other_watch(arena: &Arena, clause: usize, one: Lit, other: Lit, trail: &Trail
 }
 
 /// Whether a literal is false. Takes no memory.
-fn is_false(trail: &Trail, lit: Lit) -> bool
+pub fn is_false(trail: &Trail, lit: Lit) -> bool
     requires in_range { IsTrue (is_below trail.now.vars lit) }
     requires trail { IsTrail trail.now }
     ensures { result ≡ is_false (lits trail.now.entries) lit }

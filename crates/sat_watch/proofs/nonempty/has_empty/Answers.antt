@@ -4,8 +4,8 @@ use Rattle.std.proofs.lemmas.Bool.{and_from, eqb-true, eqb-false, false≢true, 
 use Rattle.cnf.specs.declared.lit.Lit.{Lit}
 use Rattle.cnf.proofs.ForCallers.{list_all-get, list_all-append-from}
 use Rattle.sat_watch.specs.Nonempty.{is_nonempty}
-use Rattle.sat_watch.proofs.ForCallers.{take-at}
-use Rattle.sat_core.proofs.solver.has_empty.Goals as goal
+use Rattle.sat_watch.proofs.StepLemmas.{take-at}
+use Rattle.sat_watch.proofs.nonempty.has_empty.Goals as goal
 
 empty-test : (c : List Lit) → eqb (length c) 0 ≡ true → is_nonempty c ≡ false
 empty-test [] e = refl

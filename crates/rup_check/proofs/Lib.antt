@@ -1,0 +1,5 @@
+pub mod DecidedLemmas
+pub mod ForcedLemmas
+pub mod LogLemmas
+pub mod RestLemmas
+pub mod RootLemmas
