@@ -7,7 +7,12 @@ mod laws;
 mod log;
 mod root;
 mod step;
+mod steps;
 
 pub use check::check_log;
 pub use laws::checked_log_refutes;
 pub use log::{Checked, Log};
+pub use steps::can_be_checked;
+
+#[cfg(test)]
+mod tests;

@@ -1,8 +1,7 @@
 -- Lemmas on a learned clause: it may be logged, and it keeps the search sound.
-use Rattle.std.proofs.Common.{◌≡◌, ◌+◌, ◌-◌, ◌<◌, ◌≤◌, ◌⊎◌, ℕ, Bool, true, false, not, ◌&&◌, ◌||◌, cond, eqb, IsTrue, Option, None, Some, List, [], ◌∷◌, ◌++◌, length, get_or, refl, sym, ap, subst, ◌∙◌, inl, inr, arith}
+use Rattle.std.proofs.Common.{◌≡◌, ◌+◌, ◌-◌, ◌<◌, ◌≤◌, ◌⊎◌, ℕ, Bool, true, false, not, ◌&&◌, ◌||◌, cond, eqb, IsTrue, None, Some, List, [], ◌∷◌, ◌++◌, length, get_or, refl, sym, ap, subst, ◌∙◌, inl, inr, arith}
 use Rattle.std.specs.List.{list_any, slice_get, IsDistinct}
-use Rattle.std.specs.Prelude.{MatchOption}
-use Rattle.std.proofs.lemmas.Bool.{and_parts, and_from, or_left, or_right, leb-false, false≢true, cases_Bool, cases_eq, not_from_false, cond-true, cond-false, false_from_ne_true}
+use Rattle.std.proofs.lemmas.Bool.{and_parts, and_from, or_left, or_right, false≢true, cases_eq, not_from_false, false_from_ne_true}
 use Rattle.std.proofs.lemmas.Map.Keys.{IsDistinct-head, IsDistinct-tail}
 use Rattle.std.proofs.lemmas.Option.{slice_get-get_or}
 use Rattle.cnf.specs.declared.lit.Lit.{Lit}
@@ -10,10 +9,10 @@ use Rattle.cnf.specs.Lits.{variable, negation, same, is_among, is_below, are_bel
 use Rattle.cnf.specs.Propagation.{is_open, is_consistent, denies_others, has_two_open, is_at_rest, Adds, is_distinct, IsLogged}
 use Rattle.cnf.proofs.ForCallers.{is_below-negation, list_all-append-from, same-eq, same-from_eq, any-among, all-from, negation-twice}
 use Rattle.sat_trail.specs.declared.entry.Entry.{Entry}
-use Rattle.sat_trail.specs.Trail.{Assignment, lits, variables, up_to, is_up_to, undone_to, RiseTo, IsTrail}
-use Rattle.sat_trail.proofs.ForCallers.{head-apart, lits-get, among-place, no-both, rise-none, rise-top, up_to-up_to, up_to-among, not-up_to, in-up_to}
+use Rattle.sat_trail.specs.Trail.{Assignment, lits, variables, up_to, undone_to, IsTrail}
+use Rattle.sat_trail.proofs.ForCallers.{head-apart, lits-get, among-place, no-both, rise-top, up_to-up_to, up_to-among, not-up_to, in-up_to}
 use Rattle.sat_watch.specs.Numbered.{Numbered, clauses_of}
-use Rattle.sat_watch.specs.Soundness.{Implies, Reasoned, IsSound}
+use Rattle.sat_watch.specs.Soundness.{IsSound}
 use Rattle.sat_watch.specs.Nonempty.{is_nonempty}
 use Rattle.sat_core.specs.Analysis.{is_marked, marked, IsResolved}
 use Rattle.sat_watch.proofs.ForCallers.{clauses_of-push, negation-injective, reasoned-wider, reasoned-up_to}

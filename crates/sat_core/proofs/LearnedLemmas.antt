@@ -1,17 +1,17 @@
 -- Lemmas on the watches of a learned clause.
-use Rattle.std.proofs.Common.{◌≡◌, ◌≢◌, ◌+◌, ◌-◌, ◌<◌, ◌≤◌, ◌⊎◌, ℕ, Bool, false, cond, eqb, IsTrue, zero, suc, Option, None, Some, List, [], ◌∷◌, ◌++◌, length, map, take, get_or, refl, sym, ap, subst, ◌∙◌, inl, inr, arith}
+use Rattle.std.proofs.Common.{◌≡◌, ◌≢◌, ◌+◌, ◌-◌, ◌<◌, ◌≤◌, ◌⊎◌, ℕ, Bool, false, cond, IsTrue, zero, suc, Option, None, Some, List, [], ◌∷◌, ◌++◌, length, map, take, get_or, refl, sym, ap, subst, ◌∙◌, inl, inr, arith}
 use Rattle.std.specs.Prelude.{MatchOption, IfSome}
-use Rattle.std.specs.List.{Contains, slice_get, IsDistinct}
-use Rattle.std.proofs.lemmas.Bool.{cases_eq, cases_lt, cases_Bool, cond-true, cond-false, eq-eqb, ne_eqb, or_cases, or_left, or_right, le-leb, leb-false, false≢true, false_from_ne_true}
-use Rattle.std.proofs.lemmas.List.{take_all, get_or-take, length-take-le, map_push}
+use Rattle.std.specs.List.{Contains, slice_get}
+use Rattle.std.proofs.lemmas.Bool.{cases_eq, cases_Bool, cond-true, cond-false, or_cases, or_left, or_right, le-leb, false≢true, false_from_ne_true}
+use Rattle.std.proofs.lemmas.List.{get_or-take, length-take-le, map_push}
 use Rattle.std.proofs.lemmas.List.Elements.{Contains-push_cases}
 use Rattle.std.proofs.lemmas.Option.{slice_get-get_or, slice_get_within, get_or_from_slice_get}
 use Rattle.cnf.specs.declared.lit.Lit.{Lit}
-use Rattle.cnf.specs.Lits.{variable, negation, same, is_among, are_below}
+use Rattle.cnf.specs.Lits.{variable, negation, same, is_among}
 use Rattle.cnf.proofs.ForCallers.{same-eq, same-from_eq, negation-twice}
 use Rattle.sat_trail.specs.declared.entry.Entry.{Entry}
-use Rattle.sat_trail.specs.Trail.{Assignment, lits, variables, entry_of, level_in, up_to, is_up_to, undone_to, RiseTo, IsTrail}
-use Rattle.sat_trail.proofs.ForCallers.{some≢none, in_some, lit-at, entry_of-at, lits-get, variable-before, up_to-take, up_to-up_to, up_to-among, rise-none, rise-sorted, rise-top, rise-mono, rise-up_to, below-take, distinct-take}
+use Rattle.sat_trail.specs.Trail.{Assignment, lits, entry_of, level_in, up_to, is_up_to, undone_to, RiseTo, IsTrail}
+use Rattle.sat_trail.proofs.ForCallers.{some≢none, in_some, lit-at, entry_of-at, lits-get, variable-before, up_to-up_to, up_to-among, rise-sorted, rise-top, rise-mono, rise-up_to}
 use Rattle.sat_arena.specs.Arena.{WatchedClause, WatchedClauses, indexes, clause_of, clause_at, last_or, last_unlike_or, last_watch, next_watch, new_clause, IsArena}
 use Rattle.sat_core.specs.Analysis.{is_marked, marked, AreUnmarked, IsMarkedLast, IsResolved}
 use Rattle.sat_watch.specs.Watches.{Backs, IsBacked, ArePresent, IsReady}

@@ -1,7 +1,7 @@
 -- Lemmas on what the solver answers, and what each turn of it keeps.
 use Rattle.std.proofs.Common.{◌≡◌, ◌≢◌, ◌+◌, ◌-◌, ◌*◌, ◌<◌, ◌≤◌, ◌⊎◌, ◌↔◌, ℕ, Bool, true, false, IsTrue, None, Some, List, [], ◌∷◌, ◌++◌, length, get_or, refl, sym, ap, subst, ◌∙◌, inl, inr, arith, append_assoc}
 use Rattle.std.specs.List.{list_all, list_any}
-use Rattle.std.proofs.lemmas.Bool.{and_parts, and_from, or_cases, ltb-true, false≢true, cases_Bool, cases_eq, not_from_true, not_from_false, cond-true, cond-false, false_from_ne_true}
+use Rattle.std.proofs.lemmas.Bool.{and_parts, and_from, or_cases, ltb-true, false≢true, cases_Bool, not_from_true, not_from_false, cond-true, cond-false, false_from_ne_true}
 use Rattle.cnf.specs.declared.lit.Lit.{Lit}
 use Rattle.cnf.specs.Budgets.{IsWithin}
 use Rattle.cnf.specs.Cnf.{Cnf, Satisfies}
@@ -10,10 +10,10 @@ use Rattle.cnf.specs.Values.{value, holds, all_hold}
 use Rattle.cnf.specs.Propagation.{IsForced, is_open, is_at_rest, IsLogged}
 use Rattle.cnf.proofs.ForCallers.{value-negation, value-positive, list_all-append-from, list_all-append-parts, all-among, negation-twice}
 use Rattle.sat_trail.specs.declared.entry.Entry.{Entry}
-use Rattle.sat_trail.specs.Trail.{Assignment, lits, value_in, up_to, with_decided, IsTrail}
-use Rattle.sat_trail.proofs.ForCallers.{open-parts, true-from_value, no-both, rise-top, decided-start, up_to-all, up_to-push}
+use Rattle.sat_trail.specs.Trail.{Assignment, lits, value_in, IsTrail}
+use Rattle.sat_trail.proofs.ForCallers.{true-from_value, no-both, rise-top, decided-start}
 use Rattle.sat_arena.specs.Arena.{WatchedClauses}
-use Rattle.sat_watch.specs.Numbered.{Numbered, numbered, clauses_of}
+use Rattle.sat_watch.specs.Numbered.{numbered, clauses_of}
 use Rattle.sat_watch.specs.Soundness.{IsSound, IsConflict}
 use Rattle.sat_core.specs.Search.{IsSearch}
 use Rattle.sat_watch.specs.Nonempty.{is_nonempty}

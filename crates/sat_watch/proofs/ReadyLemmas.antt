@@ -1,6 +1,6 @@
 -- Lemmas on the watches at the start, and after a decision.
-use Rattle.std.proofs.Common.{◌≡◌, ◌≢◌, ◌+◌, ◌<◌, ◌≤◌, ◌^◌, ◌⊎◌, ℕ, Bool, true, false, IsTrue, zero, suc, None, Some, List, [], ◌∷◌, ◌++◌, length, map, get_or, refl, sym, ap, subst, ◌∙◌, inl, inr, arith}
-use Rattle.std.specs.List.{Contains, slice_get, IsDistinct}
+use Rattle.std.proofs.Common.{◌≡◌, ◌≢◌, ◌+◌, ◌≤◌, ◌^◌, ◌⊎◌, ℕ, IsTrue, None, List, [], ◌∷◌, ◌++◌, length, map, refl, sym, ap, subst, ◌∙◌, inl, inr, arith}
+use Rattle.std.specs.List.{Contains, IsDistinct}
 use Rattle.std.proofs.lemmas.Bool.{false≢true, cases_eq, cond-false}
 use Rattle.std.proofs.lemmas.List.{length_push, map_push}
 use Rattle.std.proofs.lemmas.List.Elements.{Contains-push_cases}
@@ -11,7 +11,7 @@ use Rattle.cnf.specs.Propagation.{is_at_rest}
 use Rattle.cnf.proofs.ForCallers.{negation-twice}
 use Rattle.sat_trail.specs.declared.entry.Entry.{Entry}
 use Rattle.sat_trail.specs.Trail.{Assignment, lits, value_in, up_to, with_decided, IsTrail}
-use Rattle.sat_trail.proofs.ForCallers.{in_some, some≢none, open-parts, below-push, distinct-push, rise-push, rise-top, up_to-all, up_to-push}
+use Rattle.sat_trail.proofs.ForCallers.{some≢none, open-parts, below-push, distinct-push, rise-push, rise-top, up_to-all, up_to-push}
 use Rattle.sat_arena.specs.Arena.{WatchedClause, WatchedClauses, indexes, clause_of, clause_at, last_watch, next_watch, new_clause, IsArena}
 use Rattle.sat_watch.specs.Numbered.{Numbered, clauses_of}
 use Rattle.sat_watch.specs.Soundness.{IsSound}

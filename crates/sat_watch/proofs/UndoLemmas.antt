@@ -1,10 +1,9 @@
 -- Lemmas on taking levels back: no watch has to move.
-use Rattle.std.proofs.Common.{◌≡◌, ◌+◌, ◌<◌, ◌≤◌, ℕ, Bool, true, false, cond, eqb, leb, IsTrue, zero, suc, None, List, [], ◌∷◌, length, take, get_or, refl, sym, ap, subst, ◌∙◌, inl, inr, arith}
-use Rattle.std.specs.List.{Contains, slice_get, IsDistinct}
+use Rattle.std.proofs.Common.{◌≡◌, ◌<◌, ◌≤◌, ℕ, false, eqb, leb, IsTrue, suc, None, List, [], ◌∷◌, length, take, get_or, refl, sym, ap, subst, ◌∙◌, inl, inr, arith}
+use Rattle.std.specs.List.{IsDistinct}
 use Rattle.std.proofs.lemmas.Bool.{cases_eq, cases_lt, cases_Bool, cond-true, cond-false, leb-false, le-leb}
 use Rattle.std.proofs.lemmas.List.{take_all, length-take-le}
 use Rattle.std.proofs.lemmas.Option.{slice_get-get_or, slice_get_within}
-use Rattle.cnf.specs.declared.lit.Lit.{Lit}
 use Rattle.cnf.specs.Lits.{is_among, are_below}
 use Rattle.cnf.specs.Propagation.{is_at_rest}
 use Rattle.sat_trail.specs.declared.entry.Entry.{Entry}
@@ -13,7 +12,7 @@ use Rattle.sat_trail.proofs.ForCallers.{up_to-take, up_to-up_to, up_to-all, rise
 use Rattle.sat_arena.specs.Arena.{WatchedClauses, clause_at}
 use Rattle.sat_watch.specs.Numbered.{Numbered, clauses_of}
 use Rattle.sat_watch.specs.Soundness.{IsSound}
-use Rattle.sat_watch.specs.Watches.{ArePresent, ShortAreTrue, IsReady, head_within}
+use Rattle.sat_watch.specs.Watches.{ArePresent, IsReady, head_within}
 use Rattle.sat_watch.proofs.StepLemmas.{reasoned-up_to}
 use Rattle.sat_watch.proofs.WatchLemmas.{backs-undo}
 

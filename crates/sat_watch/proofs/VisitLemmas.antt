@@ -6,10 +6,10 @@ use Rattle.std.proofs.lemmas.List.{length_push, get_or-append-add, append-nil}
 use Rattle.std.proofs.lemmas.Option.{slice_get-get_or, slice_get_within}
 use Rattle.cnf.specs.declared.lit.Lit.{Lit}
 use Rattle.cnf.specs.Lits.{negation, same, is_among, is_below}
-use Rattle.cnf.proofs.ForCallers.{same-eq, same-from_eq, negation-twice}
+use Rattle.cnf.proofs.ForCallers.{same-eq, same-from_eq}
 use Rattle.sat_trail.specs.declared.entry.Entry.{Entry}
 use Rattle.sat_trail.specs.Trail.{Assignment, lits, value_in, up_to, with_implied, IsTrail}
-use Rattle.sat_trail.proofs.ForCallers.{in_some, some≢none, lit-at, lits-get, no-both, rise-push, up_to-all, distinct-push, below-push}
+use Rattle.sat_trail.proofs.ForCallers.{some≢none, lit-at, lits-get, no-both, rise-push, up_to-all, distinct-push, below-push}
 use Rattle.sat_arena.specs.Arena.{WatchedClause, WatchedClauses, indexes, clause_of, clause_at, watch_list, first_of, next_in, without, with_watch, IsWatching, IsArena}
 use Rattle.sat_arena.proofs.ForCallers.{rest_from, IsWalk, Meets, walk-begin, walk-meets}
 use Rattle.sat_watch.specs.Numbered.{Numbered, with_number, numbered}

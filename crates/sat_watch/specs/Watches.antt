@@ -1,5 +1,5 @@
 -- The watches of the clauses while propagation looks at one entry of the trail after the other.
-use Rattle.std.specs.Prelude.{◌≡◌, ◌≢◌, ◌<◌, ◌≤◌, ◌⊎◌, if◌then◌else◌, nat_le, ℕ, Option, List, ◌++◌, take, length, slice_get, Contains, Some, None, IsTrue}
+use Rattle.std.specs.Prelude.{◌≡◌, ◌≢◌, ◌<◌, ◌≤◌, ◌⊎◌, if◌then◌else◌, nat_le, ℕ, List, ◌++◌, take, length, slice_get, Contains, Some, None, IsTrue}
 use Rattle.cnf.specs.declared.lit.Lit.{Lit}
 use Rattle.cnf.specs.Lits.{negation, is_among}
 use Rattle.sat_trail.specs.declared.entry.Entry.{Entry}

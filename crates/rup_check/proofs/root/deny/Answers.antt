@@ -1,5 +1,4 @@
-use Rattle.std.proofs.Common.{◌≡◌, List, IsTrue, Some, sym, ap, subst, ◌∙◌}
-use Rattle.cnf.specs.declared.lit.Lit.{Lit}
+use Rattle.std.proofs.Common.{List, Some, sym, ap, subst, ◌∙◌}
 use Rattle.cnf.specs.Propagation.{IsForced}
 use Rattle.sat_trail.specs.Trail.{lits}
 use Rattle.sat_trail.proofs.ForCallers.{true-from_value}

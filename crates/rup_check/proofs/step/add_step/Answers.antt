@@ -1,10 +1,10 @@
-use Rattle.std.proofs.Common.{◌≡◌, ◌≢◌, ℕ, IsTrue, List, [], ◌∷◌, ◌++◌, sym, ap, subst, ◌∙◌, arith}
+use Rattle.std.proofs.Common.{◌≡◌, ◌≢◌, ℕ, IsTrue, List, sym, ap, subst, ◌∙◌, arith}
 use Rattle.cnf.specs.declared.lit.Lit.{Lit}
 use Rattle.sat_arena.specs.Arena.{WatchedClause, clause_at, new_clause, last_watch, next_watch}
 use Rattle.sat_watch.specs.Nonempty.{are_nonempty}
-use Rattle.sat_watch.specs.Numbered.{Numbered, numbered, clauses_of}
+use Rattle.sat_watch.specs.Numbered.{Numbered, clauses_of}
 use Rattle.sat_watch.specs.Watches.{IsBacked, ShortAreTrue}
-use Rattle.sat_watch.proofs.ForCallers.{ready-attached, short-attached, numbered-push, clauses_of-push}
+use Rattle.sat_watch.proofs.ForCallers.{ready-attached, short-attached}
 use Rattle.rup_check.proofs.RootLemmas.{if-none, own-attached, root-found, nonempty-attached, sound-attached}
 use Rattle.rup_check.proofs.step.add_step.Goals as goal
 

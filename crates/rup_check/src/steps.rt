@@ -1,0 +1,51 @@
+//! Whether clauses can be steps of a log.
+ghost use Rattle.std.specs.Prelude.{◌≡◌};
+ghost use Rattle.cnf.specs.Lits.{is_among, are_below};
+ghost use Rattle.cnf.specs.Propagation.{is_consistent};
+ghost use Rattle.rup_check.specs.Checks.{are_steps, is_step};
+
+use crate::log::Log;
+use cnf::{Clause, Lit};
+
+/// Whether a log can be checked: the variables of its steps are those of its formula, and in none of
+/// them a literal stands beside its negation. Takes no memory.
+pub fn can_be_checked(log: &Log) -> bool
+    ensures { result ≡ are_steps log.now.formula.vars log.now.steps.items }
+{
+    are_steps(log.formula.vars(), &log.steps)
+}
+
+/// Whether each of these clauses can be a step over so many variables. Takes no memory.
+fn are_steps(vars: u32, steps: &[Clause]) -> bool
+    ensures { result ≡ are_steps vars steps.now }
+{
+    steps.iter().all(|step| is_step(vars, &step.lits))
+}
+
+/// Whether a clause can be a step over so many variables. Takes no memory.
+fn is_step(vars: u32, clause: &[Lit]) -> bool
+    ensures { result ≡ is_step vars clause.now }
+{
+    are_below(clause, vars) && is_consistent(clause)
+}
+
+/// Whether the variables of literals are among so many. Takes no memory.
+pub(crate) fn are_below(lits: &[Lit], vars: u32) -> bool
+    ensures { result ≡ are_below vars lits.now }
+{
+    lits.iter().all(|lit| lit.variable() < vars)
+}
+
+/// Whether no literal stands beside its negation. Takes no memory.
+fn is_consistent(lits: &[Lit]) -> bool
+    ensures { result ≡ is_consistent lits.now }
+{
+    lits.iter().all(|lit| !is_among(lits, lit.negation()))
+}
+
+/// Whether a literal is among others. Takes no memory.
+fn is_among(lits: &[Lit], lit: Lit) -> bool
+    ensures { result ≡ is_among lits.now lit }
+{
+    lits.iter().any(|other| lit.0 == other.0)
+}

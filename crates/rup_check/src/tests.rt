@@ -1,0 +1,85 @@
+//! What the check says of small logs.
+use super::*;
+use crate::steps::are_below;
+use cnf::{Clause, Formula, Lit};
+use std::alloc::{AllocError, Global};
+use std::test::Fail;
+
+// A row: how many variables, the formula, the steps, and the answer. A clause is written as in a DIMACS
+// file: n stands for the n-th variable, counted from 1, and -n for its negation.
+type Row = (
+    u32,
+    &'static [&'static [i32]],
+    &'static [&'static [i32]],
+    Checked,
+);
+
+const FOUR: &[&[i32]] = &[&[1, 2], &[1, -2], &[-1, 2], &[-1, -2]];
+
+const CHAIN: &[&[i32]] = &[&[-1, 2], &[-2, 3], &[-3, 4], &[1], &[-4]];
+
+const WITH_FIRST: &[&[i32]] = &[&[1], &[-1, 2, 3], &[-1, 2, -3], &[-1, -2, 3], &[-1, -2, -3]];
+
+const ROWS: [Row; 15] = [
+    (2, FOUR, &[&[1], &[]], Checked::Yes),
+    (2, FOUR, &[&[-2], &[]], Checked::Yes),
+    (2, FOUR, &[&[]], Checked::No(1)),
+    (2, FOUR, &[&[], &[1]], Checked::No(1)),
+    (2, FOUR, &[], Checked::No(1)),
+    (2, FOUR, &[&[1]], Checked::No(2)),
+    (2, FOUR, &[&[1], &[], &[2]], Checked::No(4)),
+    (4, CHAIN, &[&[]], Checked::Yes),
+    (4, CHAIN, &[], Checked::No(1)),
+    (2, &[&[1], &[]], &[&[2]], Checked::Yes),
+    (0, &[&[]], &[], Checked::Yes),
+    (3, WITH_FIRST, &[&[2, -1], &[]], Checked::Yes),
+    (3, WITH_FIRST, &[&[-1, 2], &[-1, 3], &[]], Checked::Yes),
+    (3, &[&[1, 2]], &[&[3, 1, 2], &[1]], Checked::No(2)),
+    (0, &[], &[&[]], Checked::No(1)),
+];
+
+fn literal(n: i32) -> Lit {
+    let variable = n.unsigned_abs().wrapping_sub(1);
+    Lit(variable.wrapping_mul(2).wrapping_add(u32::from(n < 0)))
+}
+
+fn literals(alloc: Global, clause: &[i32]) -> Result<Vec<Lit>, AllocError> {
+    let mut lits = Vec::new(alloc);
+    for n in clause {
+        lits.push(literal(*n))?;
+    }
+    Ok(lits)
+}
+
+fn log(alloc: Global, row: &Row) -> Result<Log, AllocError> {
+    let (vars, clauses, steps, _) = row;
+    let mut log = Log {
+        formula: Formula::new(alloc, (*vars).min(100)),
+        steps: Vec::new(alloc),
+    };
+    for clause in *clauses {
+        let lits = literals(alloc, clause)?;
+        if are_below(&lits, log.formula.vars()) {
+            log.formula.add_clause(&lits)?;
+        }
+    }
+    for step in *steps {
+        log.steps.push(Clause {
+            lits: literals(alloc, step)?,
+        })?;
+    }
+    Ok(log)
+}
+
+#[test]
+fn follows_small_logs(rt: HostRuntime) -> Result<(), Fail> {
+    let alloc = rt.alloc();
+    for row in ROWS {
+        let log = log(alloc, &row)?;
+        assert!(rt; can_be_checked(&log));
+        if can_be_checked(&log) {
+            assert_eq!(rt; check_log(alloc, &log)?, row.3);
+        }
+    }
+    Ok(())
+}
