@@ -17,7 +17,10 @@ fn which_bytes_go(rt: HostRuntime) -> Result<(), Fail> {
             b"li:nth-child( 2n + 1 ) , a /*x*/ > b{top : 1px  2px ! Important}",
             b"li:nth-child(odd),a>b{top:1px 2px!important}",
         ),
-        (b"a /**/ b , :NOT( [c = 'd'] )::AFTER{e:f}", b"a b,:NOT([c='d'])::AFTER{e:f}"),
+        (
+            b"a /**/ b , :NOT( [c = 'd'] )::AFTER{e:f}",
+            b"a b,:NOT([c='d'])::AFTER{e:f}",
+        ),
         // A rule that declares nothing goes where its selectors are in the profile.
         (b"a b{}c:is(d){}", b"c:is(d){}"),
         // A newline of two bytes becomes one of one byte.

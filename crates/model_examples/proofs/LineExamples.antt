@@ -27,8 +27,8 @@ example marked = record { doc = record { root_is_child = false; lines = lines };
 -- the children of the root
 children : (expand (example 0)).children
     ≡ first (named (codes "li")) none
-        (first (named (codes "li")) (first (named (codes "b")) none (first (named (codes "i")) none (first (named (codes "i")) none none)))
-        (first (named (codes "p")) none (first (named (codes "p")) none none)))
+    (first (named (codes "li")) (first (named (codes "b")) none (first (named (codes "i")) none (first (named (codes "i")) none none)))
+    (first (named (codes "p")) none (first (named (codes "p")) none none)))
 children = refl
 
 -- the paths of the lines, of their first elements
@@ -58,12 +58,35 @@ behind_a_run = refl
 
 -- these lines are those of a document
 are_lines : AreLines lines
-are_lines = (refl, refl,
-    (omega arith, omega arith, (λ h. refl), omega arith,
-    (omega arith, omega arith, (λ h. refl), omega arith,
-    (omega arith, omega arith, (λ h. refl), omega arith,
-    (omega arith, omega arith, (λ h. refl), omega arith,
-    (omega arith, omega arith, (λ h. absurd (omega arith)), omega arith, tt))))))
+are_lines = (
+  refl,
+  refl,
+  (
+    omega arith,
+    omega arith,
+    (λ h. refl),
+    omega arith,
+    (
+      omega arith,
+      omega arith,
+      (λ h. refl),
+      omega arith,
+      (
+        omega arith,
+        omega arith,
+        (λ h. refl),
+        omega arith,
+        (
+          omega arith,
+          omega arith,
+          (λ h. refl),
+          omega arith,
+          (omega arith, omega arith, (λ h. absurd (omega arith)), omega arith, tt),
+        ),
+      ),
+    ),
+  ),
+)
 
 -- a second root, a depth that is left out, children of two elements at once, and no element
 second_root : AreLines (line 0 1 (codes "x") ∷ line 0 1 (codes "x") ∷ []) → ⊥

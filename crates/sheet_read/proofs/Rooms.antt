@@ -155,8 +155,7 @@ stand_pairs n (x ∷ xs) (y ∷ ys) few stand = which (nat_lt MAX_PAIRS (n + pai
     which true many later =
         let above : MAX_PAIRS - n < pairs_of y = grind (arith, many, few) in
         let here : nat_lt MAX_PAIRS (n + pairs_of x) ≡ true = grind (arith, stand.0.many above, few) in
-        let there : too_many_pairs n (y ∷ ys) ≡ Some (start_of y) = ap (λ (b : Bool). cond b (Some (start_of y)) (too_many_pairs (n + pairs_of y) ys)) many in
-        (
+        let there : too_many_pairs n (y ∷ ys) ≡ Some (start_of y) = ap (λ (b : Bool). cond b (Some (start_of y)) (too_many_pairs (n + pairs_of y) ys)) many in (
           ap (λ (b : Bool). cond b (Some (start_of x)) (too_many_pairs (n + pairs_of x) xs)) here ∙ ap Some stand.0.start ∙ sym there,
           λ none. absurd (some_none (start_of y) (sym there ∙ none)),
         )
@@ -166,8 +165,7 @@ stand_pairs n (x ∷ xs) (y ∷ ys) few stand = which (nat_lt MAX_PAIRS (n + pai
         let rest = later (grind (arith, ap pairs_of same, within, few)) in
         let test : nat_lt MAX_PAIRS (n + pairs_of x) ≡ false = ap (λ (z : Item). nat_lt MAX_PAIRS (n + pairs_of z)) same ∙ fit in
         let first : (zs : List Item) (z : Item) → nat_lt MAX_PAIRS (n + pairs_of z) ≡ false → too_many_pairs n (z ∷ zs) ≡ too_many_pairs (n + pairs_of z) zs =
-        λ zs z no. ap (λ (b : Bool). cond b (Some (start_of z)) (too_many_pairs (n + pairs_of z) zs)) no in
-        (
+        λ zs z no. ap (λ (b : Bool). cond b (Some (start_of z)) (too_many_pairs (n + pairs_of z) zs)) no in (
           first xs x test ∙ rest.0 ∙ ap (λ (z : Item). too_many_pairs (n + pairs_of z) ys) same ∙ sym (first ys y fit),
           λ none. ap (λ (z : Item). z ∷ xs) same
               ∙ ap (λ (zs : List Item). y ∷ zs) (rest.1 (ap (λ (z : Item). too_many_pairs (n + pairs_of z) ys) same ∙ sym (first ys y fit) ∙ none)),

@@ -92,8 +92,7 @@ pub returns : goal.returns
 returns c =
     let source = c.args.source.now in
     let inv = c.items.invariant in
-    let few : length inv.before ≤ MAX_ITEMS = omega (arith, sym (stand_length 0 c.items.items.items inv.before inv.stand), inv.few) in
-    (
+    let few : length inv.before ≤ MAX_ITEMS = omega (arith, sym (stand_length 0 c.items.items.items inv.before inv.stand), inv.few) in (
       inv.before,
       not_too_many source (steps.whole_items c.args.lexemes.now) inv.before
           (ap (λ (raw : List (List Lexeme)). inv.before ++ spec.read_items source raw) (sym c.in_default.ensures.first) ∙ inv.read) few,
