@@ -3,3 +3,4 @@ pub mod ForcedLemmas
 pub mod LogLemmas
 pub mod RestLemmas
 pub mod RootLemmas
+pub mod TextLemmas

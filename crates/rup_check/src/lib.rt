@@ -5,6 +5,7 @@
 mod check;
 mod laws;
 mod log;
+mod print;
 mod root;
 mod step;
 mod steps;
@@ -12,6 +13,7 @@ mod steps;
 pub use check::check_log;
 pub use laws::checked_log_refutes;
 pub use log::{Checked, Log};
+pub use print::print_log;
 pub use steps::can_be_checked;
 
 #[cfg(test)]
