@@ -12,3 +12,4 @@ pub mod Short
 pub mod Spelled
 pub mod Terms
 pub mod Together
+pub mod Utf8

@@ -30,6 +30,7 @@ use Rattle.notation_laws.specs.Printed.{IsSized}
 use Rattle.notation_laws.specs.Tokens.{IsWord, StandsBeforeSigns, is_word_kind}
 use Rattle.selector_text_laws.proofs.Left.{SelectorsAreLexed, argument_or_gap, left_from, left_of, left_with, behind_text, spelled_from}
 use Rattle.selector_text_laws.specs.Back.{argument, is_closing, own_tokens, skipped}
+use Rattle.selector_text_laws.specs.Text.{parts_behind, parts_for}
 use Rattle.selector_text_laws.specs.Together.{ending_bytes, is_dashes, is_numeric, is_one_of, lone_bytes, together}
 use Rattle.notation_laws.proofs.ForCallers.{text_stands}
 use Rattle.selector_text_laws.proofs.Arguments.{argument_is}
@@ -78,6 +79,7 @@ HeadOf (t ∷ ts) parts = Begins t parts
 
 record Out (ps : List Part) (left : ℕ) (ss : List Solid) (text : List ℕ) (back : List Solid) (rest : List Part) : Type 0 where
   parts : List Part
+  are : parts ≡ parts_for back ++ rest
   spells : text_of parts ≡ text ++ text_of rest
   lexed : IsLexed parts
   kept : left ≡ 0 → KeptRow ps parts
@@ -222,7 +224,7 @@ own_words (p ∷ ps) (w, ws) =
     let kinds : is_word_kind (Some k.0) ≡ true = subst (λ (o : Option TokenKind). is_word_kind o ≡ true) k.1 w.kinds in
     own_word p.kind p.bytes ps k.0 k.1 k.2 kinds w.plain (ap (gap_before false) (sym (append-nil ps)) ∙ words_calm ps [] ws refl) (own_words ps ws)
 
-own_is : (text : List ℕ) (s : StandsBeforeSigns text) → own_tokens text ≡ solids s.parts
+pub own_is : (text : List ℕ) (s : StandsBeforeSigns text) → own_tokens text ≡ solids s.parts
 own_is text s = ap (λ (t : List ℕ). solids (parts_of_text t).parts) (sym s.spells) ∙ ap (λ (p : Parts). solids p.parts) (lexed_are_parts s.parts s.alone)
 
 pub arguments_are_words : (x : AnB) → IsSized x → IsOwnText (anb_text x)
@@ -244,6 +246,68 @@ argument_reads k v text N back more solid s calm reads =
     ∙ ap (λ (ss : List Solid). record { kind = k; bytes = v; gap = gap.Nothing } ∷ (ss ++ (back ++ more))) (sym own)
     ∙ ap (λ (ss : List Solid). record { kind = k; bytes = v; gap = gap.Nothing } ∷ ss) (sym (append_assoc (own_tokens text) back more))
 
+-- ---- the parts of what is read back
+
+parts_append : (xs ys : List Solid) → parts_for (xs ++ ys) ≡ parts_for xs ++ parts_for ys
+parts_append [] ys = refl
+parts_append (x ∷ xs) ys =
+    ap (λ (ps : List Part). part_of x ∷ (parts_behind x.kind x.gap ++ ps)) (parts_append xs ys)
+    ∙ ap (λ (ps : List Part). part_of x ∷ ps) (sym (append_assoc (parts_behind x.kind x.gap) (parts_for xs) (parts_for ys)))
+
+gap_are : (s : Solid) → (is_lone s.kind ≡ true → s.gap ≡ gap.White) → gap_parts s ≡ parts_behind s.kind s.gap
+gap_are s lone_white = which (is_lone s.kind) refl s.gap refl
+  where
+    which : (l : Bool) → is_lone s.kind ≡ l → (g : Gap) → s.gap ≡ g → cond l (feed ∷ []) (gap_part g) ≡ parts_behind s.kind g
+    which true lone gap.White behind = rw lone refl
+    which true lone gap.Nothing behind = absurd (let e : gap.Nothing ≡ gap.White = sym behind ∙ lone_white lone in cc)
+    which true lone gap.Comments behind = absurd (let e : gap.Comments ≡ gap.White = sym behind ∙ lone_white lone in cc)
+    which false lone gap.Nothing behind = refl
+    which false lone gap.Comments behind = refl
+    which false lone gap.White behind = rw lone refl
+
+-- a token that may be closed, and what stands behind it
+closed_are : (s : Solid) (more : List Part) (back : List Solid) (rest : List Part) → (is_lone s.kind ≡ true → s.gap ≡ gap.White) → more ≡ parts_for back ++ rest
+    → part_of (closed s) ∷ (gap_parts s ++ more) ≡ parts_for (closed s ∷ back) ++ rest
+closed_are s more back rest lone_white are =
+    let c = closed_kind s in
+    let gaps : gap_parts s ≡ parts_behind (closed s).kind (closed s).gap =
+    gap_are s lone_white ∙ ap (λ k. parts_behind k s.gap) (sym c.0) ∙ ap (λ g. parts_behind (closed s).kind g) (sym c.1) in
+    ap (λ (ps : List Part). part_of (closed s) ∷ (ps ++ more)) gaps
+    ∙ ap (λ (ps : List Part). part_of (closed s) ∷ (parts_behind (closed s).kind (closed s).gap ++ ps)) are
+    ∙ ap (λ (ps : List Part). part_of (closed s) ∷ ps) (sym (append_assoc (parts_behind (closed s).kind (closed s).gap) (parts_for back) rest))
+
+together_are : (k : TokenKind) (v : List ℕ) (more : List Part) (back : List Solid) (rest : List Part) → is_lone k ≡ false → more ≡ parts_for back ++ rest
+    → token k v ∷ more ≡ parts_for (closed (record { kind = k; bytes = v; gap = gap.Nothing }) ∷ back) ++ rest
+together_are k v more back rest lone are =
+    let s : Solid = record { kind = k; bytes = v; gap = gap.Nothing } in
+    let same : closed s ≡ s = ap (λ b. cond (not b && (false && is_open v)) (record { kind = k; bytes = v ++ space ∷ []; gap = gap.Nothing }) s) lone in
+    ap (λ (ps : List Part). token k v ∷ ps) are ∙ ap (λ (s : Solid). parts_for (s ∷ back) ++ rest) (sym same)
+
+last_are : (k : TokenKind) (v : List ℕ) (g : Gap) (rest : List Part)
+    → (let s : Solid = record { kind = k; bytes = v; gap = g } in token k v ∷ (last_parts s ++ rest) ≡ parts_for (last_kept s ∷ []) ++ rest)
+last_are k v g rest = which (is_lone k) refl
+  where
+    which : (l : Bool) → is_lone k ≡ l → token k v ∷ (cond l (feed ∷ []) [] ++ rest) ≡ parts_for (record { kind = k; bytes = v; gap = cond l gap.White gap.Nothing } ∷ []) ++ rest
+    which true lone = rw lone refl
+    which false lone = refl
+
+words_are : (ps : List Part) → AllByRecursion IsWord ps → parts_for (solids ps) ≡ ps
+words_are [] all = refl
+words_are (p ∷ ps) (w, ws) =
+    let k = word_kind p.kind w.kinds in
+    let calm = ap (gap_before false) (sym (append-nil ps)) ∙ words_calm ps [] ws refl in
+    let one : solids (token k.0 p.bytes ∷ ps) ≡ record { kind = k.0; bytes = p.bytes; gap = gap.Nothing } ∷ solids ps = one_word k.0 p.bytes ps (solids ps) k.2 calm refl in
+    let is : p ≡ token k.0 p.bytes = ap (λ (o : Option TokenKind). record { kind = o; bytes = p.bytes }) k.1 in
+    ap (λ (q : Part). parts_for (solids (q ∷ ps))) is ∙ ap parts_for one ∙ ap (λ (qs : List Part). token k.0 p.bytes ∷ qs) (words_are ps ws) ∙ ap (λ (q : Part). q ∷ ps) (sym is)
+
+argument_are : (k : TokenKind) (v text : List ℕ) (more : List Part) (back : List Solid) (rest : List Part) (s : StandsBeforeSigns text) → more ≡ parts_for back ++ rest
+    → token k v ∷ (s.parts ++ more) ≡ parts_for (record { kind = k; bytes = v; gap = gap.Nothing } ∷ (own_tokens text ++ back)) ++ rest
+argument_are k v text more back rest s are =
+    let own : parts_for (own_tokens text) ≡ s.parts = ap parts_for (own_is text s) ∙ words_are s.parts s.words in
+    ap (λ (ps : List Part). token k v ∷ ps)
+    (ap (λ (ps : List Part). s.parts ++ ps) are ∙ sym (append_assoc s.parts (parts_for back) rest)
+    ∙ ap (λ (ps : List Part). (ps ++ parts_for back) ++ rest) (sym own) ∙ ap (λ (ps : List Part). ps ++ rest) (sym (parts_append (own_tokens text) back)))
+
 -- the last token
 last_out : (k : TokenKind) (v : List ℕ) (ps rest : List Part) → IsToken k v ps → IsLexed rest → LastMay k rest → gap_before false rest ≡ gap.Nothing → (s : Solid) → s ≡ record { kind = k; bytes = v; gap = gap_before false ps }
     → Out (token k v ∷ ps) 0 (s ∷ []) (s.bytes ++ behind_last s ++ []) (last_kept s ∷ []) rest
@@ -251,6 +315,7 @@ last_out k v ps rest is lexed may calm s same =
     let row = last_row false k v ps rest is lexed may in
     subst (λ (s : Solid). Out (token k v ∷ ps) 0 (s ∷ []) (s.bytes ++ behind_last s ++ []) (last_kept s ∷ []) rest) (sym same) (record {
       parts = token k v ∷ (last_parts (record { kind = k; bytes = v; gap = gap_before false ps }) ++ rest);
+      are = last_are k v (gap_before false ps) rest;
       spells = spelled (is_lone k);
       lexed = row.lexed;
       kept = λ _. row;
@@ -297,6 +362,7 @@ middle_out k v ps rest m depth u us text back is next out = which (together k v 
         let row : KeptRow (token k v ∷ ps) (part_of (closed x) ∷ (gap_parts x ++ out.parts)) = middle_row k v ps out.parts is (out.kept refl) (λ none. nothing_first ps m u us is.later none next) in
         record {
           parts = part_of (closed x) ∷ (gap_parts x ++ out.parts);
+          are = closed_are x out.parts back rest (λ lone. lone_gap k v ps (is.lone lone) is.here is.later) out.are;
           spells = ap (λ (t : List ℕ). (closed x).bytes ++ t) (text_append (gap_parts x) out.parts) ∙ between_spells x (text_of out.parts)
               ∙ ap (λ (t : List ℕ). v ++ (between x ++ t)) out.spells ∙ joined v (between x) text (text_of rest);
           lexed = row.lexed;
@@ -315,6 +381,7 @@ middle_out k v ps rest m depth u us text back is next out = which (together k v 
         let plain : cond (is_lone k) (line_feed ∷ []) [] ≡ [] = ap (λ b. cond b (line_feed ∷ []) []) lone in
         record {
           parts = token k v ∷ out.parts;
+          are = together_are k v out.parts back rest lone out.are;
           spells = ap (λ (t : List ℕ). v ++ t) out.spells ∙ joined v [] text (text_of rest) ∙ ap (λ (b : List ℕ). (v ++ b ++ text) ++ text_of rest) (sym plain);
           lexed = here.lexed;
           kept = λ _. here;
@@ -376,6 +443,7 @@ argument_out k v ps rest j ss x text back g is called other stands c out =
     let here : KeptRow (token k v ∷ ps) (token k v ∷ (stands.parts ++ out.parts)) = subst (λ (k : TokenKind). KeptRow (token k v ∷ ps) (token k v ∷ (stands.parts ++ out.parts))) (sym called) row in
     record {
       parts = token k v ∷ (stands.parts ++ out.parts);
+      are = argument_are k v (anb_text x) out.parts back rest stands out.are;
       spells = ap (λ (t : List ℕ). v ++ t) (text_append stands.parts out.parts ∙ ap (λ (t : List ℕ). t ++ text_of out.parts) stands.spells ∙ ap (λ (t : List ℕ). anb_text x ++ t) out.spells)
           ∙ joined v (anb_text x) text (text_of rest);
       lexed = here.lexed;
@@ -398,6 +466,7 @@ gap_out : (k : Option TokenKind) (v : List ℕ) (ps : List Part) (left : ℕ) (s
     → Out (record { kind = k; bytes = v } ∷ ps) left ss text back rest
 gap_out k v ps left ss text back rest is out = record {
   parts = out.parts;
+  are = out.are;
   spells = out.spells;
   lexed = out.lexed;
   kept = λ none. gap_row k v ps out.parts is (out.kept none);
@@ -437,6 +506,7 @@ module _ (rest : List Part) (lexed : IsLexed rest) (calm : gap_before false rest
       → Out ps left ss (spelled_from depth left ss) (left_from depth left ss) rest → IsLexed (token k v ∷ ps) → Out (token k v ∷ ps) (suc left) (s ∷ ss) (spelled_from depth left ss) (left_from depth left ss) rest
   skip_out k v ps later m depth left s ss next low may out here = record {
     parts = out.parts;
+    are = out.are;
     spells = out.spells;
     lexed = out.lexed;
     kept = λ none. absurd (omega (arith, none));
@@ -485,4 +555,4 @@ selectors_are_lexed ps rest m n s ss is some lexed behind calm called =
     let here : take n (solids from.parts) ≡ s ∷ ss = ap (λ (ss : List Solid). take n ss) from.same ∙ some in
     let solid : AreGood (s ∷ ss) = subst AreGood here (take_good n (solids from.parts) (are_good from.parts from.lexed)) in
     let out = rows rest lexed calm from.parts from.lexed n 0 0 s ss here (omega arith) (last_may s ss rest solid called (inl behind)) in
-    record { parts = out.parts; spells = out.spells; lexed = out.lexed; reads = out.reads }
+    record { parts = out.parts; are = out.are; spells = out.spells; lexed = out.lexed; reads = out.reads }
