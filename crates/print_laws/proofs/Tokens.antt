@@ -2,5 +2,6 @@ pub mod Chain
 pub mod Lexed
 pub mod Parts
 pub mod Reads
+pub mod Selectors
 pub mod Texts
 pub mod Utf8

@@ -4,7 +4,7 @@ pub use Rattle.sheet_laws.proofs.Printed.Blocks.{IsOfDeclaration}
 pub use Rattle.sheet_laws.proofs.Printed.Faults.{DoFit, IsPrintOf, find_none, sheet_reads_back}
 pub use Rattle.sheet_laws.proofs.Printed.Items.{IsClosedRule, closed_rule, ends_in, ends_with_block, is_ended, is_nil}
 pub use Rattle.sheet_laws.proofs.Printed.Joins.{StandsIn, stands_behind, stands_inside, stands_whole}
-pub use Rattle.sheet_laws.proofs.Printed.Preludes.{IsOfSelector}
+pub use Rattle.sheet_laws.proofs.Printed.Preludes.{IsOfSelector, selector_in}
 pub use Rattle.sheet_laws.proofs.Printed.Sheet.{AreInOrder, IsFrom, IsOfItem, ends_itself}
 pub use Rattle.sheet_laws.proofs.Shown.Alike.{AreClosable, IsClosable, or_true}
 pub use Rattle.sheet_laws.proofs.Shown.Names.{IsNamed, TakesSpace, ends_with_sign, has_name, is_closable}

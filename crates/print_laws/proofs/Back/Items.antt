@@ -1,7 +1,8 @@
 -- A sound sheet that follows the one that was read is read back from its printed text.
-use Rattle.std.proofs.Common.{◌≡◌, ℕ, Bool, true, false, cond, List, [], ◌∷◌, Option, Some, None, sym, ◌∙◌, ap, subst}
+use Rattle.std.proofs.Common.{◌≡◌, ℕ, Bool, true, false, cond, List, [], ◌∷◌, Option, Some, None, Result, Ok, Err, sym, ◌∙◌, ap, subst}
 use Rattle.std.specs.List.{AllByRecursion, Contains}
 use Rattle.std.specs.Str.{IsUtf8}
+use Rattle.css_model.specs.declared.reason.Reason.{Reason}
 use Rattle.css_model.specs.declared.sheet.DeclItem.{DeclItem}
 use Rattle.css_model.specs.declared.sheet.Item.{Item}
 use Rattle.css_model.specs.declared.sheet.Item.TheVariants.{Rule, KeptRule, KeptBlock}
@@ -51,10 +52,11 @@ sound-rule source g r sound =
         selectors = each-of (SoundSelector source) _ r.selectors (λ s h. h.of) selectors;
         decls = each-of (SoundDeclaration source) _ r.decls (λ d h. h.of) decls;
       };
-      flat = record { selectors = each-of (SoundSelector source) _ r.selectors (λ s h. h.flat) selectors; decls = each-of (SoundDeclaration source) _ r.decls (λ d h. h.flat) decls };
-      text = each-of (SoundDeclaration source) _ r.decls (λ d h. h.text) decls;
-      read = record { selectors = each-of (SoundSelector source) _ r.selectors (λ s h. h.read) selectors; decls = each-of (SoundDeclaration source) _ r.decls (λ d h. h.read) decls };
-      utf8 = rule-utf8 source (good-in source g) r (each-of (SoundDeclaration source) (IsUtf8Declaration source) r.decls (λ d h. record { named = h.named; value = good-in source g d.value }) decls);
+      flat = record { selectors = each-of (SoundSelector source) _ r.selectors (λ s h. h.shown.chain) selectors; decls = each-of (SoundDeclaration source) _ r.decls (λ d h. h.flat) decls };
+      text = (each-of (SoundSelector source) _ r.selectors (λ s h. h.shown.text) selectors, each-of (SoundDeclaration source) _ r.decls (λ d h. h.text) decls);
+      read = record { selectors = each-of (SoundSelector source) _ r.selectors (λ s h. h.shown.read) selectors; decls = each-of (SoundDeclaration source) _ r.decls (λ d h. h.read) decls };
+      utf8 = rule-utf8 source r (each-of (SoundSelector source) _ r.selectors (λ s h. h.shown.utf8) selectors)
+          (each-of (SoundDeclaration source) (IsUtf8Declaration source) r.decls (λ d h. record { named = h.named; value = good-in source g d.value }) decls);
     }
 
 -- a kept item by its tokens
@@ -89,12 +91,12 @@ kept-piece source xs k e = which (is_at_rule xs) (selectors source xs) (declarat
     piece_or p (Some (KeptRule k)) = k.piece
     piece_or p _ = p
 
-    which : (b : Bool) (read : Option (List SelItem)) (ds : Option (List DeclItem)) → cond b (Some (KeptBlock (piece_of xs))) (rule_or_block (piece_of xs) read ds) ≡ Some (KeptRule k) → piece_of xs ≡ k.piece
+    which : (b : Bool) (read : Result (List SelItem) Reason) (ds : Option (List DeclItem)) → cond b (Some (KeptBlock (piece_of xs))) (rule_or_block (piece_of xs) read ds) ≡ Some (KeptRule k) → piece_of xs ≡ k.piece
     which true read ds e = absurd cc
     which false read None e = absurd cc
-    which false None (Some ds) e = ap (piece_or (piece_of xs)) e
-    which false (Some read) (Some []) e = absurd cc
-    which false (Some read) (Some (d ∷ ds)) e = absurd cc
+    which false (Err reason) (Some ds) e = ap (piece_or (piece_of xs)) e
+    which false (Ok read) (Some []) e = absurd cc
+    which false (Ok read) (Some (d ∷ ds)) e = absurd cc
 
 pub sound-item : (source : List ℕ) → Ground source → None_of (is_namespace source) (raw_items source) → (item : Item) → IsSoundItem source item → SoundItem source item
 sound-item source g names (Rule r) sound = sound-rule source g r sound

@@ -1,40 +1,36 @@
 -- The parts of a sound sheet are read where they stand, close what they open, and have the text that is printed.
-use Rattle.std.proofs.Common.{◌≡◌, ◌⊎◌, inl, inr, ℕ, ◌+◌, ◌-◌, Bool, true, false, not, cond, List, [], ◌∷◌, map, length, take, drop, Option, Some, None, refl, sym, ◌∙◌, ap, subst}
-use Rattle.std.specs.Prelude.{◌&&◌, codes}
+use Rattle.std.proofs.Common.{◌≡◌, ◌⊎◌, inl, inr, ℕ, ◌+◌, ◌-◌, Bool, true, false, cond, List, [], ◌∷◌, map, length, take, drop, Some, None, refl, sym, ◌∙◌, ap, subst}
+use Rattle.std.specs.Prelude.{◌&&◌}
 use Rattle.std.specs.List.{AllByRecursion, after_first, before_first, position_or_len}
-use Rattle.std.specs.Option.{option_map}
 use Rattle.std.specs.Str.{IsUtf8}
 use Rattle.std.proofs.lemmas.Bool.{false≢true, and_parts, eqb-true}
 use Rattle.std.proofs.lemmas.List.{append_assoc, take-append-drop}
-use Rattle.css_model.specs.declared.selector.Test.{Test}
 use Rattle.css_model.specs.declared.sheet.DeclItem.{DeclItem}
 use Rattle.css_model.specs.declared.sheet.SelItem.{SelItem}
 use Rattle.css_model.specs.declared.token.Lexeme.{Lexeme}
 use Rattle.css_model.specs.declared.token.TokenKind.{TokenKind}
 use Rattle.css_model.specs.declared.token.TokenKind.TheVariants as kind
-use Rattle.css_model.specs.Text.Characters.{close_curly, colon, comma, dot, exclamation_mark, semicolon, space}
-use Rattle.css_model.specs.Lists.{same_text}
+use Rattle.css_model.specs.Text.Characters.{close_curly, colon, comma, exclamation_mark, semicolon, space}
 use Rattle.css_model.specs.declared.sheet.Piece.{Piece}
 use Rattle.css_model.specs.Sheets.Declarations.{declaration, decl_item, is_importance, is_important, property_of, is_custom, text_of_value, without_importance}
 use Rattle.css_model.specs.Text.Lexemes.{is_delim_of, is_ident}
 use Rattle.css_model.specs.Sheets.Items.{block, closes_block, entries, opens_block, selector_parts}
 use Rattle.css_model.specs.Text.Kept.{is_white_gap, solid, value_text}
-use Rattle.css_model.specs.Text.Lexemes.{is_sign_at, is_sign_of, piece_of}
-use Rattle.css_model.specs.Sheets.Selectors.{of_one_test, simple_of, test_of_one}
+use Rattle.css_model.specs.Text.Lexemes.{is_sign_at, is_sign_of}
 use Rattle.css_model.specs.Sheets.Sound.{IsSoundDeclaration, IsSoundSelector, raw_items}
 use Rattle.css_model.specs.Text.Source.{text_at}
 use Rattle.css_model.specs.Sheets.Spelling.{lexemes_of, stands_in, tokens_in}
 use Rattle.css_model.specs.Text.Names.{decoded}
-use Rattle.token_laws.proofs.ForCallers.{is_plain, delim-text, ident-no_digit}
-use Rattle.sheet_laws.proofs.ForCallers.{IsOfDeclaration, StandsIn, stands_behind, stands_inside, stands_whole, declaration_from, selector_from, value_alone, IsPart, each_inside, none_before, split_stands, stands_dropped, stands_taken, IsOfSelector}
+use Rattle.sheet_laws.proofs.ForCallers.{IsOfDeclaration, StandsIn, stands_behind, stands_inside, stands_whole, declaration_from, selector_from, value_alone, IsPart, each_inside, none_before, split_stands, stands_dropped, stands_taken, IsOfSelector, selector_in, stand_alone_in}
 use Rattle.list_facts.proofs.Cuts.{None_of}
 use Rattle.print_laws.proofs.Source.Items.{Ground, filtered, member}
 use Rattle.print_laws.proofs.Levels.Items.{IsEntryFrom, IsItemOf, IsPartOf, entries-are}
 use Rattle.print_laws.proofs.Levels.Brackets.{AreLeveled, open_behind, leveled-append, open-append}
-use Rattle.print_laws.proofs.Tokens.Lexed.{IsDotName, IsOneToken, IsReadAs, IsReadDeclaration, IsReadSelector}
+use Rattle.print_laws.proofs.Tokens.Lexed.{IsReadAs, IsReadDeclaration, IsSpelledBy}
 use Rattle.print_laws.proofs.Tokens.Parts.{closers_after}
-use Rattle.print_laws.proofs.Levels.Sheet.{IsFlat, IsFlatDeclaration, IsFlatSelector, delim-flat, ident-flat}
+use Rattle.print_laws.proofs.Levels.Sheet.{IsFlatDeclaration, delim-flat, ident-flat}
 use Rattle.print_laws.proofs.Source.Tokens.{IsGoodLexeme}
+use Rattle.print_laws.proofs.Tokens.Selectors.{IsShownSelector, shown-selector}
 use Rattle.print_laws.proofs.Tokens.Texts.{IsLoneBeforeWhite, IsTextOf}
 
 pub part-of-stands : {xs ys : List Lexeme} → StandsIn xs ys → IsPartOf xs ys
@@ -57,24 +53,7 @@ block-stands item =
 -- a selector of a source
 pub record SoundSelector (source : List ℕ) (s : SelItem) : Type 0 where
   pub of : IsOfSelector source s
-  pub flat : IsFlatSelector source s
-  pub read : IsReadSelector source s
-
--- the tokens of a part that is read as one test
-simple-one : (source : List ℕ) (x : Lexeme) (t : Test) → test_of_one x.kind (text_at source x.span) ≡ Some t → (x.kind ≡ kind.Ident) ⊎ (x.kind ≡ kind.IdHash)
-simple-one source x t e = at x.kind (text_at source x.span) e
-  where
-    at : (k : TokenKind) (text : List ℕ) → test_of_one k text ≡ Some t → (k ≡ kind.Ident) ⊎ (k ≡ kind.IdHash)
-    at kind.Ident text e = inl refl
-    at kind.IdHash text e = inr refl
-    at _ text e = absurd cc
-
-hash-flat : IsFlat kind.IdHash
-hash-flat = record { solid = refl; flat = stays }
-  where
-    stays : (cs : List ℕ) → closers_after kind.IdHash cs ≡ cs
-    stays [] = refl
-    stays (c ∷ cs) = refl
+  pub shown : IsShownSelector source s
 
 ident-is : (k : TokenKind) → is_ident k ≡ true → k ≡ kind.Ident
 ident-is kind.Ident is = refl
@@ -87,46 +66,6 @@ delim-is c _ is = absurd (false≢true is)
 read-of : (source : List ℕ) (x : Lexeme) (k : TokenKind) → x.kind ≡ k → IsGoodLexeme source x → IsReadAs (text_at source x.span) k
 read-of source x k is g = subst (IsReadAs (text_at source x.span)) is g.good.read
 
-class-both : (a g b n : Bool) (u t : Test) → cond (a && g && b && n) (Some u) None ≡ Some t → (a ≡ true) × (b ≡ true)
-class-both true true true true u t e = (refl, refl)
-class-both true true true false u t e = absurd cc
-class-both true true false n u t e = absurd cc
-class-both true false b n u t e = absurd cc
-class-both false g b n u t e = absurd cc
-
-selector-parts : (source : List ℕ) (xs : List Lexeme) (t : Test) → simple_of source xs ≡ Some t → AllByRecursion (IsGoodLexeme source) xs
-    → AllByRecursion (λ x. IsFlat x.kind) xs × (IsOneToken source xs ⊎ IsDotName source xs)
-selector-parts source [] t e each = absurd cc
-selector-parts source (x ∷ []) t e (g, rest) = one (simple-one source x t e)
-  where
-    one : (x.kind ≡ kind.Ident) ⊎ (x.kind ≡ kind.IdHash) → AllByRecursion (λ x. IsFlat x.kind) (x ∷ []) × (IsOneToken source (x ∷ []) ⊎ IsDotName source (x ∷ []))
-    one (inl is) = ((subst IsFlat (sym is) ident-flat, tt), inl (record { token = x; are = refl; read = g.good.read; plain = ap (λ k. is_plain (Some k)) is }))
-    one (inr is) = ((subst IsFlat (sym is) hash-flat, tt), inl (record { token = x; are = refl; read = g.good.read; plain = ap (λ k. is_plain (Some k)) is }))
-selector-parts source (x ∷ y ∷ []) t e (g, (h, rest)) =
-    let both = class-both (is_delim_of dot x.kind) (not (is_white_gap x.gap)) (is_ident y.kind) (not (same_text (text_at source y.span) (codes "--"))) _ t e in
-    two both.0 both.1
-  where
-    two : is_delim_of dot x.kind ≡ true → is_ident y.kind ≡ true
-        → AllByRecursion (λ x. IsFlat x.kind) (x ∷ y ∷ []) × (IsOneToken source (x ∷ y ∷ []) ⊎ IsDotName source (x ∷ y ∷ []))
-    two is ident =
-        let d = delim-is dot x.kind is in
-        let i = ident-is y.kind ident in
-        let sign = read-of source x (kind.Delim dot) d g in
-        let name = read-of source y kind.Ident i h in (
-          (subst IsFlat (sym d) (delim-flat dot), (subst IsFlat (sym i) ident-flat, tt)),
-          inr (record {
-            sign = x;
-            name = y;
-            are = refl;
-            is_dot = d;
-            text = delim-text (text_at source x.span) sign.old dot sign.read;
-            read = h.good.read;
-            plain = ap (λ k. is_plain (Some k)) i;
-            no_digit = ident-no_digit (text_at source y.span) name.old name.read;
-          }),
-        )
-selector-parts source (x ∷ y ∷ z ∷ xs) t e each = absurd cc
-
 pub sound-selector : (source : List ℕ) → Ground source → (s : SelItem) → IsSoundSelector source s → SoundSelector source s
 sound-selector source g s sound =
     let item = member (IsItemOf (lexemes_of source)) (raw_items source) sound.item g.items sound.item_in in
@@ -135,18 +74,10 @@ sound-selector source g s sound =
     stands_inside (lexemes_of source) sound.item sound.part (item-stands item)
     (stands_inside sound.item (before_first opens_block sound.item) sound.part (prelude-stands sound.item) part.stands) in
     let of = selector_from source g.good sound.part s stands sound.reads in
-    let each : AllByRecursion (IsGoodLexeme source) of.part = subst (AllByRecursion (IsGoodLexeme source)) of.alone (filtered (IsGoodLexeme source) (stands_in s.piece) (lexemes_of source) g.each) in
-    let test = some-test of.part (simple_of source of.part) refl of.reads in
-    let both = selector-parts source of.part test.0 test.1 each in
-    record {
-      of = of;
-      flat = record { each = subst (AllByRecursion (λ x. IsFlat x.kind)) (sym of.alone) both.0 };
-      read = subst (λ xs. IsOneToken source xs ⊎ IsDotName source xs) (sym of.alone) both.1;
-    }
-  where
-    some-test : (part : List Lexeme) (o : Option Test) → simple_of source part ≡ o → option_map (λ t. record { selector = of_one_test t; piece = piece_of part }) o ≡ Some s → (t : Test) × (simple_of source part ≡ Some t)
-    some-test part None is e = absurd cc
-    some-test part (Some t) is e = (t, is)
+    let alone : tokens_in source s.piece ≡ sound.part = ap (tokens_in source) (selector_in source sound.part s sound.reads).1 ∙ stand_alone_in source g.good sound.part stands in
+    let spelled : IsSpelledBy source g.parts.ps = record { lexed = g.parts.lexed; solids = g.parts.spelled } in
+    let stand : IsPartOf (lexemes_of source) (tokens_in source s.piece) = subst (IsPartOf (lexemes_of source)) (sym alone) (part-of-stands stands) in
+    record { of = of; shown = shown-selector source g.parts.ps spelled s of stand (filtered (IsGoodLexeme source) (stands_in s.piece) (lexemes_of source) g.each) }
 
 -- a declaration of a source
 pub record SoundDeclaration (source : List ℕ) (d : DeclItem) : Type 0 where

@@ -1,11 +1,11 @@
 -- What is printed for the items of a sheet fits in the room of their tokens, and begins with the first of them.
-use Rattle.std.proofs.Common.{ℕ, zero, suc, ◌+◌, ◌<◌, ◌≤◌, ◌≡◌, Bool, true, false, cond, List, [], ◌∷◌, ◌++◌, Option, Some, None, length, map, drop, take, refl, sym, ap, ◌∙◌, subst, arith, append_assoc}
+use Rattle.std.proofs.Common.{ℕ, zero, suc, ◌+◌, ◌<◌, ◌≤◌, ◌≡◌, Bool, true, false, cond, List, [], ◌∷◌, ◌++◌, Some, None, Result, Ok, Err, length, map, drop, take, refl, sym, ap, ◌∙◌, subst, arith, append_assoc}
 use Rattle.std.specs.Prelude.{⊤, ◌||◌, if◌then◌else◌}
-use Rattle.std.specs.List.{AllByRecursion, before_first, after_first, position_or_len, slice_split, onto_first, list_any, filter, filter_map, flat_map, join_with_byte}
+use Rattle.std.specs.List.{AllByRecursion, before_first, after_first, position_or_len, slice_split, onto_first, list_any, filter, filter_map, join_with_byte}
 use Rattle.std.proofs.lemmas.Bool.{cond-true, cond-false}
 use Rattle.std.proofs.lemmas.List.{length-append, take-append-drop}
 use Rattle.std.proofs.lemmas.List.Folds.{list_any-append}
-use Rattle.css_model.specs.declared.selector.Test.{Test}
+use Rattle.css_model.specs.declared.reason.Reason.{Reason}
 use Rattle.css_model.specs.declared.sheet.DeclItem.{DeclItem}
 use Rattle.css_model.specs.declared.sheet.Item.{Item}
 use Rattle.css_model.specs.declared.sheet.Item.TheVariants.{Rule, KeptRule, KeptBlock}
@@ -15,21 +15,25 @@ use Rattle.css_model.specs.declared.token.Lexeme.{Lexeme}
 use Rattle.css_model.specs.Text.Characters.{comma, semicolon, open_curly, close_curly}
 use Rattle.css_model.specs.Sheets.Declarations.{declaration, is_nested}
 use Rattle.css_model.specs.Sheets.Items.{is_at_rule, is_between_items, item_len, items_from, opens_block, closes_block, selector_parts, block, entries}
-use Rattle.css_model.specs.Text.Kept.{Solid, solid, spelled, behind_last}
+use Rattle.css_model.specs.Text.Kept.{Solid, solid, spelled, behind_last, gap_text, kept}
 use Rattle.css_model.specs.Text.Lexemes.{is_sign_at, piece_of}
 use Rattle.css_model.specs.Sheets.Printed.{printed_selector, printed_declaration, printed_rule, printed_item}
 use Rattle.css_model.specs.Lists.{all_of, before_all}
-use Rattle.css_model.specs.Sheets.Selectors.{of_one_test, selector_item, selectors, simple_of}
+use Rattle.css_model.specs.Sheets.PrintedSelector.{selector_text as printed_text, printed_argument, printed_from, term_bytes}
+use Rattle.css_model.specs.Sheets.Selectors.{selector_item, selectors}
+use Rattle.css_model.specs.Documents.SelectorParts.{SelectorParts}
+use Rattle.css_model.specs.Selectors.Reading.{selector_of_lexemes}
+use Rattle.css_model.specs.Selectors.Terms.{depth_behind_term, first_term, more_of_term}
+use Rattle.css_model.specs.Selectors.Tokens.{selector_token}
 use Rattle.css_model.specs.Sheets.Sheet.{item_of, rule_of, rule_or_block}
 use Rattle.css_model.specs.Text.Source.{text_at}
 use Rattle.css_model.specs.Sheets.Spelling.{lexemes_of, tokens_in, kept_text}
 use Rattle.css_model.specs.Lists.{less_one}
 use Rattle.list_facts.proofs.Cuts.{before_here, before_later, after_some}
-use Rattle.sheet_laws.proofs.ForCallers.{IsClosedRule, closed_rule, or_true, StandsIn, stands_inside, IsPart, split_stands, stands_taken, AreAscending, stand_alone, IsRawItem}
+use Rattle.sheet_laws.proofs.ForCallers.{IsClosedRule, closed_rule, or_true, StandsIn, stands_inside, IsPart, split_stands, stands_taken, AreAscending, stand_alone, IsRawItem, selector_in}
 use Rattle.list_facts.proofs.Sums.{total}
 use Rattle.list_facts.proofs.Elements.{all_with}
-use Rattle.list_facts.proofs.Options.{mapped}
-use Rattle.print_laws.proofs.Length.Parts.{total-append, total_cut, total_split, total_chosen, total_all, join_size, kept_size, bytes_size, weight_some, declaration_size}
+use Rattle.print_laws.proofs.Length.Parts.{total-append, total_cut, total_split, total_chosen, total_all, join_size, kept_size, weight_some, declaration_size}
 use Rattle.print_laws.proofs.Length.Room.{cost, weight, Fits}
 
 -- tokens that have room stand in order
@@ -111,7 +115,12 @@ parts_start x xs = which (opens_block x) refl
         subst (λ (ys : List Lexeme). Starts x (slice_split (is_sign_at comma 0) ys)) (sym (before_later opens_block x xs is))
         (cut (is_sign_at comma 0 x) (slice_split (is_sign_at comma 0) front))
 
-module _ (source : List ℕ) (at : ℕ) (ascending : AreAscending at (lexemes_of source)) where
+-- the printed text of a selector of the source is no longer than its tokens' kept text
+abbrev pub AreShort : List ℕ → Type 0
+AreShort source = (part : List Lexeme) (s : SelectorParts) → StandsIn (lexemes_of source) part → selector_of_lexemes source part ≡ Ok s
+    → length (printed_text (map (solid source) part)) ≤ length (kept (map (solid source) part))
+
+module _ (source : List ℕ) (at : ℕ) (ascending : AreAscending at (lexemes_of source)) (short : AreShort source) where
   alone : (xs : List Lexeme) → StandsIn (lexemes_of source) xs → tokens_in source (piece_of xs) ≡ xs
   alone xs stands = stand_alone at (lexemes_of source) xs ascending stands
 
@@ -121,16 +130,16 @@ module _ (source : List ℕ) (at : ℕ) (ascending : AreAscending at (lexemes_of
       let here : P xs = record { size = kept_size source xs; begins = spelled_begins source behind_last xs } in
       subst P (sym (alone xs stands)) here
 
-  selector_text : (part : List Lexeme) (s : SelItem) → StandsIn (lexemes_of source) part → selector_item source part ≡ Some s
-      → printed_selector source s ≡ flat_map (λ x. text_at source x.span) part
+  selector_text : (part : List Lexeme) (s : SelItem) → StandsIn (lexemes_of source) part → selector_item source part ≡ Ok s
+      → printed_selector source s ≡ printed_text (map (solid source) part)
   selector_text part s stands is =
-      ap (λ (piece : Piece). flat_map (λ x. text_at source x.span) (tokens_in source piece)) (sym (ap (λ (s : SelItem). s.piece)
-      (mapped (λ (test : Test). record { selector = of_one_test test; piece = piece_of part }) (simple_of source part) s is).2))
-      ∙ ap (flat_map (λ x. text_at source x.span)) (alone part stands)
+      ap (λ (piece : Piece). printed_text (map (solid source) (tokens_in source piece))) (selector_in source part s is).1
+      ∙ ap (λ (xs : List Lexeme). printed_text (map (solid source) xs)) (alone part stands)
 
-  selector_size : (part : List Lexeme) (s : SelItem) → StandsIn (lexemes_of source) part → selector_item source part ≡ Some s
+  selector_size : (part : List Lexeme) (s : SelItem) → StandsIn (lexemes_of source) part → selector_item source part ≡ Ok s
       → suc (length (printed_selector source s)) ≤ suc (total (weight source) part)
-  selector_size part s stands is = omega (arith, ap length (selector_text part s stands is), bytes_size source part)
+  selector_size part s stands is =
+      omega (arith, ap length (selector_text part s stands is), short part s.selector stands (selector_in source part s is).0, kept_size source part)
 
   -- the parts of the prelude of an item
   parts_stand : (item : List Lexeme) → StandsIn (lexemes_of source) item → AllByRecursion (StandsIn (lexemes_of source)) (selector_parts item)
@@ -140,8 +149,21 @@ module _ (source : List ℕ) (at : ℕ) (ascending : AreAscending at (lexemes_of
       all_with (IsPart (is_sign_at comma 0) prelude) (StandsIn (lexemes_of source)) (λ part p. stands_inside (lexemes_of source) prelude part inside p.stands)
       (selector_parts item) (split_stands (is_sign_at comma 0) prelude)
 
+  -- the text of a selector begins with its first token
+  text_begins : (y : Lexeme) (part : List Lexeme) → BeginsWith source y (printed_text (map (solid source) (y ∷ part)))
+  text_begins y part =
+      let s = solid source y in
+      let t = first_term 0 (selector_token s) (map selector_token (map (solid source) part)) in
+      let rest = printed_from (depth_behind_term 0 (selector_token s)) (more_of_term (selector_token s) (map selector_token (map (solid source) part))) (map (solid source) part) in
+      let bytes = text_at source y.span in
+      let behind = gap_text (term_bytes s t) t.gap in
+      record {
+        more = (printed_argument t.argument ++ behind) ++ rest;
+        is = ap (λ (cs : List ℕ). cs ++ rest) (append_assoc bytes (printed_argument t.argument) behind) ∙ append_assoc bytes (printed_argument t.argument ++ behind) rest;
+      }
+
   selectors_begin : (x : Lexeme) (parts : List (List Lexeme)) → Starts x parts → AllByRecursion (StandsIn (lexemes_of source)) parts → (read : List SelItem)
-      → all_of (selector_item source) parts ≡ Some read → BeginsWith source x (join_with_byte comma (map (printed_selector source) read))
+      → all_of (selector_item source) parts ≡ Ok read → BeginsWith source x (join_with_byte comma (map (printed_selector source) read))
   selectors_begin x [] starts stand read is = absurd starts
   selectors_begin x ([] ∷ parts) starts stand read is = absurd cc
   selectors_begin x ((y ∷ part) ∷ parts) starts (stands, stand) read is = which (selector_item source (y ∷ part)) refl (all_of (selector_item source) parts) is
@@ -150,16 +172,16 @@ module _ (source : List ℕ) (at : ℕ) (ascending : AreAscending at (lexemes_of
       joined s [] b = b
       joined s (t ∷ ts) b = begins_more source x (printed_selector source s) (comma ∷ join_with_byte comma (map (printed_selector source) (t ∷ ts))) b
 
-      which : (o : Option SelItem) → selector_item source (y ∷ part) ≡ o → (rest : Option (List SelItem)) → before_all o rest ≡ Some read
+      which : (r : Result SelItem Reason) → selector_item source (y ∷ part) ≡ r → (rest : Result (List SelItem) Reason) → before_all r rest ≡ Ok read
           → BeginsWith source x (join_with_byte comma (map (printed_selector source) read))
-      which None here rest e = absurd cc
-      which (Some s) here None e = absurd cc
-      which (Some s) here (Some ss) e =
+      which (Err reason) here rest e = absurd cc
+      which (Ok s) here (Err reason) e = absurd cc
+      which (Ok s) here (Ok ss) e =
           let same : s ∷ ss ≡ read = cc in
-          let text : printed_selector source s ≡ text_at source x.span ++ flat_map (λ x. text_at source x.span) part =
-          selector_text (y ∷ part) s stands here ∙ ap (λ (z : Lexeme). text_at source z.span ++ flat_map (λ x. text_at source x.span) part) starts in
-          subst (λ (read : List SelItem). BeginsWith source x (join_with_byte comma (map (printed_selector source) read))) same
-          (joined s ss (record { more = flat_map (λ x. text_at source x.span) part; is = text }))
+          let begins : BeginsWith source x (printed_selector source s) =
+          subst (BeginsWith source x) (sym (selector_text (y ∷ part) s stands here))
+          (subst (λ (z : Lexeme). BeginsWith source z (printed_text (map (solid source) (y ∷ part)))) starts (text_begins y part)) in
+          subst (λ (read : List SelItem). BeginsWith source x (join_with_byte comma (map (printed_selector source) read))) same (joined s ss begins)
 
   -- the block of a rule has its end
   block_closes : (item : List Lexeme) → IsClosedRule item → (list_any opens_block item ≡ true) × (list_any closes_block (after_first opens_block item) ≡ true)
@@ -174,7 +196,7 @@ module _ (source : List ℕ) (at : ℕ) (ascending : AreAscending at (lexemes_of
       ∙ or_true (list_any closes_block (after_first opens_block c.front)) in
       (ap (list_any opens_block) c.whole ∙ opens, ap (λ (xs : List Lexeme). list_any closes_block (after_first opens_block xs)) c.whole ∙ closes)
 
-  rule_size : (item : List Lexeme) → StandsIn (lexemes_of source) item → IsClosedRule item → (read : List SelItem) → selectors source item ≡ Some read
+  rule_size : (item : List Lexeme) → StandsIn (lexemes_of source) item → IsClosedRule item → (read : List SelItem) → selectors source item ≡ Ok read
       → length (printed_rule source (record { selectors = read; decls = filter_map (declaration source) (entries item) })) ≤ total (weight source) item
   rule_size item stands closed read is =
       let w = weight source in
@@ -198,7 +220,7 @@ module _ (source : List ℕ) (at : ℕ) (ascending : AreAscending at (lexemes_of
       omega (arith, whole, read_size, front_size, parts_size, decls_size, inside_size, entries_size, outer, inner) in
       here
 
-  rule_begins : (item : List Lexeme) → StandsIn (lexemes_of source) item → (read : List SelItem) (decls : List DeclItem) → selectors source item ≡ Some read
+  rule_begins : (item : List Lexeme) → StandsIn (lexemes_of source) item → (read : List SelItem) (decls : List DeclItem) → selectors source item ≡ Ok read
       → BeginsAs source item (printed_rule source (record { selectors = read; decls = decls }))
   rule_begins [] stands read decls is = tt
   rule_begins (x ∷ xs) stands read decls is =
@@ -223,11 +245,11 @@ module _ (source : List ℕ) (at : ℕ) (ascending : AreAscending at (lexemes_of
       as_is : (y : Item) → P y → Some y ≡ Some x → P x
       as_is y p same = let here : y ≡ x = cc in subst P here p
 
-      rule : is_at_rule item ≡ false → (o : Option (List SelItem)) → selectors source item ≡ o → (ds : List DeclItem) → filter_map (declaration source) (entries item) ≡ ds
-          → rule_of (piece_of item) o ds ≡ Some x → P x
-      rule qualified None is ds decls here = as_is (KeptRule _) kept here
-      rule qualified (Some read) is [] decls here = absurd cc
-      rule qualified (Some read) is (d ∷ ds) decls here =
+      rule : is_at_rule item ≡ false → (r : Result (List SelItem) Reason) → selectors source item ≡ r → (ds : List DeclItem) → filter_map (declaration source) (entries item) ≡ ds
+          → rule_of (piece_of item) r ds ≡ Some x → P x
+      rule qualified (Err reason) is ds decls here = as_is (KeptRule _) kept here
+      rule qualified (Ok read) is [] decls here = absurd cc
+      rule qualified (Ok read) is (d ∷ ds) decls here =
           let Q : List DeclItem → Type 0 = λ (ds : List DeclItem). IsPrint source item (printed_rule source (record { selectors = read; decls = ds })) in
           let closed = closed_rule item qualified (raw.is_item.ended raw.is_kept qualified) in
           let whole : Q (filter_map (declaration source) (entries item)) = record {

@@ -1,7 +1,7 @@
 -- What is printed for the parts of a rule fits in the room of their tokens.
-use Rattle.std.proofs.Common.{ℕ, suc, ◌+◌, ◌-◌, ◌<◌, ◌≤◌, ◌≡◌, Bool, true, false, cond, List, [], ◌∷◌, ◌++◌, Option, Some, None, length, map, drop, take, refl, sym, ap, ◌∙◌, subst, arith}
+use Rattle.std.proofs.Common.{ℕ, suc, ◌+◌, ◌-◌, ◌<◌, ◌≤◌, ◌≡◌, Bool, true, false, cond, List, [], ◌∷◌, ◌++◌, Option, Some, None, Result, Ok, Err, length, map, drop, take, refl, sym, ap, ◌∙◌, subst, arith}
 use Rattle.std.specs.Prelude.{◌&&◌, ◌||◌, if◌then◌else◌, codes}
-use Rattle.std.specs.List.{AllByRecursion, before_first, after_first, slice_split, onto_first, list_any, filter_map, cons_option, flat_map, join_with_byte}
+use Rattle.std.specs.List.{AllByRecursion, before_first, after_first, slice_split, onto_first, list_any, filter_map, cons_option, join_with_byte}
 use Rattle.std.proofs.lemmas.Bool.{and_parts, false≢true}
 use Rattle.std.proofs.lemmas.List.{length-append, length-take, take-append-drop}
 use Rattle.css_model.specs.declared.sheet.DeclItem.{DeclItem}
@@ -72,16 +72,16 @@ total_chosen {B = B} f g h fits (x ∷ xs) = which (h x) refl (total_chosen f g 
     which None is later = omega (arith, later)
     which (Some y) is later = omega (arith, later, fits x y is)
 
-pub total_all : {A B : Type 0} (P : A → Type 0) (f : A → ℕ) (g : B → ℕ) (h : A → Option B) → ((x : A) (y : B) → P x → h x ≡ Some y → g y ≤ f x)
-    → (xs : List A) → AllByRecursion P xs → (ys : List B) → all_of h xs ≡ Some ys → total g ys ≤ total f xs
+pub total_all : {A B E : Type 0} (P : A → Type 0) (f : A → ℕ) (g : B → ℕ) (h : A → Result B E) → ((x : A) (y : B) → P x → h x ≡ Ok y → g y ≤ f x)
+    → (xs : List A) → AllByRecursion P xs → (ys : List B) → all_of h xs ≡ Ok ys → total g ys ≤ total f xs
 total_all P f g h fits [] all ys is = let none : [] ≡ ys = cc in subst (λ (zs : List _). total g zs ≤ 0) none (omega arith)
-total_all {B = B} P f g h fits (x ∷ xs) (first, all) ys is = which (h x) refl (all_of h xs) refl is (λ zs more. total_all P f g h fits xs all zs more)
+total_all {B = B} {E = E} P f g h fits (x ∷ xs) (first, all) ys is = which (h x) refl (all_of h xs) refl is (λ zs more. total_all P f g h fits xs all zs more)
   where
-    which : (o : Option B) → h x ≡ o → (rest : Option (List B)) → all_of h xs ≡ rest → before_all o rest ≡ Some ys
-        → ((zs : List B) → all_of h xs ≡ Some zs → total g zs ≤ total f xs) → total g ys ≤ f x + total f xs
-    which None is rest more e later = absurd cc
-    which (Some y) is None more e later = absurd cc
-    which (Some y) is (Some zs) more e later =
+    which : (r : Result B E) → h x ≡ r → (rest : Result (List B) E) → all_of h xs ≡ rest → before_all r rest ≡ Ok ys
+        → ((zs : List B) → all_of h xs ≡ Ok zs → total g zs ≤ total f xs) → total g ys ≤ f x + total f xs
+    which (Err error) is rest more e later = absurd cc
+    which (Ok y) is (Err error) more e later = absurd cc
+    which (Ok y) is (Ok zs) more e later =
         let same : y ∷ zs ≡ ys = cc in
         subst (λ (zs : List B). total g zs ≤ f x + total f xs) same (omega (arith, fits x y first is, later zs more))
 
@@ -138,11 +138,6 @@ kept_size source xs = spelled_size source behind_last (last_cost source) xs
 
 value_size : (source : List ℕ) (xs : List Lexeme) → length (value_text (map (solid source) xs)) ≤ total (weight source) xs
 value_size source xs = spelled_size source behind_value (value_cost source) xs
-
-pub bytes_size : (source : List ℕ) (xs : List Lexeme) → length (flat_map (λ x. text_at source x.span) xs) ≤ total (weight source) xs
-bytes_size source [] = omega arith
-bytes_size source (x ∷ xs) =
-    omega (arith, length-append (text_at source x.span) (flat_map (λ x. text_at source x.span) xs), text_size source x, bytes_size source xs)
 
 -- `!important` has ten bytes, as its two tokens have at least
 importance_size : (source : List ℕ) (xs : List Lexeme) → is_importance source xs ≡ true → 10 ≤ total (weight source) xs

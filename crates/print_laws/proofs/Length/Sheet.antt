@@ -1,5 +1,5 @@
 -- The printed text of a sheet as read is no longer than its source.
-use Rattle.std.proofs.Common.{ℕ, zero, suc, ◌+◌, ◌<◌, ◌≤◌, ◌≡◌, ◌⊎◌, inl, inr, Bool, true, false, cond, List, [], ◌∷◌, Option, Some, None, Ok, Err, length, drop, take, refl, sym, ap, ◌∙◌, subst, arith}
+use Rattle.std.proofs.Common.{ℕ, zero, suc, ◌+◌, ◌<◌, ◌≤◌, ◌≡◌, ◌⊎◌, inl, inr, Bool, true, false, cond, List, [], ◌∷◌, Option, Some, None, Ok, Err, length, map, drop, take, refl, sym, ap, ◌∙◌, subst, arith}
 use Rattle.std.specs.Prelude.{if◌then◌else◌, nat_eq, nat_lt}
 use Rattle.std.specs.List.{AllByRecursion, cons_option, filter, flat_map, list_any, starts_with}
 use Rattle.std.specs.Str.{IsUtf8}
@@ -20,6 +20,7 @@ use Rattle.css_model.specs.Sheets.Sheet.{read_items, item_of, is_import, too_dee
 use Rattle.css_model.specs.Sheets.Fault.{unless, fault_of}
 use Rattle.css_model.specs.Sheets.Sound.{raw_items}
 use Rattle.css_model.specs.Sheets.Spelling.{lexemes_of}
+use Rattle.css_model.specs.Text.Kept.{solid}
 use Rattle.css_model.specs.Text.Tokens.{Stream, stream, tokens, byte_order_mark}
 use Rattle.css_model.specs.Lists.{less_one}
 use Rattle.css_tokens.specs.Laws.{Cover, Restarts, place_of}
@@ -27,7 +28,12 @@ use Rattle.css_tokens.proofs.ForCallers.{tokens_cover, tokens_restart, mark_len}
 use Rattle.print_laws.specs.Printing.{PrintedIsNoLonger}
 use Rattle.sheet_laws.proofs.ForCallers.{AreAscending, IsRawItem, raw_stand, all_closed}
 use Rattle.list_facts.proofs.Sums.{total}
-use Rattle.print_laws.proofs.Length.Items.{BeginsWith, IsPrint, begins_more, block_print, item_print, fits_ascending, total_items, total_filter}
+use Rattle.selector_text_laws.specs.Text.{IsSelectorIn}
+use Rattle.selector_text_laws.proofs.ForCallers.{selector_texts_are_short}
+use Rattle.print_laws.proofs.Back.Parts.{part-of-stands}
+use Rattle.print_laws.proofs.Source.Tokens.{source-of}
+use Rattle.print_laws.proofs.Tokens.Lexed.{part-solids}
+use Rattle.print_laws.proofs.Length.Items.{AreShort, BeginsWith, IsPrint, begins_more, block_print, item_print, fits_ascending, total_items, total_filter}
 use Rattle.print_laws.proofs.Length.Mark.{FirstReads, first_reads, valid_utf8, first_mark}
 use Rattle.print_laws.proofs.Length.Parts.{total-append, weight_some}
 use Rattle.print_laws.proofs.Length.Room.{weight, Fits, fits_weights, tokens_fit}
@@ -44,13 +50,13 @@ abbrev IsFront : List ℕ → List Lexeme → List ℕ → Type 0
 IsFront source [] text = text ≡ []
 IsFront source (x ∷ xs) text = (suc (length text) ≤ total (weight source) (x ∷ xs)) ⊎ BeginsWith source x text
 
-module _ (source : List ℕ) (at : ℕ) (ascending : AreAscending at (lexemes_of source)) where
+module _ (source : List ℕ) (at : ℕ) (ascending : AreAscending at (lexemes_of source)) (short : AreShort source) where
   read_print : (item : List Lexeme) → IsRawItem (lexemes_of source) item → (b : Bool) (x : Item) → cond b (Some (KeptBlock (piece_of item))) (item_of source item) ≡ Some x
       → IsPrint source item (printed_item source x)
   read_print item raw true x e =
       let same : KeptBlock (piece_of item) ≡ x = cc in
-      subst (λ (y : Item). IsPrint source item (printed_item source y)) same (block_print source at ascending item raw.is_item.stands)
-  read_print item raw false x e = item_print source at ascending item raw x e
+      subst (λ (y : Item). IsPrint source item (printed_item source y)) same (block_print source at ascending short item raw.is_item.stands)
+  read_print item raw false x e = item_print source at ascending short item raw x e
 
   raw_size : (raw : List (List Lexeme)) → AreRaw source raw → length (text_of_items source raw) ≤ total (total (weight source)) raw
   raw_size [] all = omega arith
@@ -183,16 +189,24 @@ read_printed source old read = subst (λ (its : List Item). length (printed sour
     ascending : AreAscending room.from xs
     ascending = fits_ascending source room.from room.from xs (length source) (omega arith) room.fits
 
+    short : AreShort source
+    short part s stands reads =
+        let parts = source-of source read.clean (valid_utf8 source read.valid) in
+        let p = part-of-stands stands in
+        let inside : IsSelectorIn parts.ps (length p.before) (length part) (map (solid source) part) s =
+        record { lexed = parts.lexed; are = sym (part-solids source parts.ps part (record { lexed = parts.lexed; solids = parts.spelled }) p); reads = reads } in
+        selector_texts_are_short parts.ps (length p.before) (length part) (map (solid source) part) s inside
+
     all : AreRaw source (raw_items source)
     all = (raw_stand xs (all_closed (tokens source true).tokens read.shut)).each
 
     size : length text ≤ total (weight source) xs
-    size = items_size source room.from ascending 0 xs all
+    size = items_size source room.from ascending short 0 xs all
 
     which : (b : Bool) → starts_with nat_eq text byte_order_mark ≡ b → length (behind_mark text) ≤ length source
     which true is =
         let marked : length (behind_mark text) ≡ suc (length text) = rw is refl in
-        omega (arith, marked, marked_room source room.from xs text (valid_utf8 source read.valid) room.fits room.reads room.mark (items_front source room.from ascending xs all) size is)
+        omega (arith, marked, marked_room source room.from xs text (valid_utf8 source read.valid) room.fits room.reads room.mark (items_front source room.from ascending short xs all) size is)
     which false is =
         let bare : length (behind_mark text) ≡ length text = rw is refl in
         omega (arith, bare, size, fits_weights source room.from xs (length source) room.fits)

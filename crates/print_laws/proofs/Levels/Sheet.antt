@@ -15,7 +15,7 @@ use Rattle.css_model.specs.Text.Kept.{is_lone}
 use Rattle.css_model.specs.Text.Lexemes.{is_white_kind}
 use Rattle.css_model.specs.Sheets.RuleParts.{RuleParts}
 use Rattle.css_model.specs.Sheets.Spelling.{tokens_in}
-use Rattle.sheet_laws.proofs.ForCallers.{Shown, all_shown, colon_gap, declaration_shown, importance_shown, inner, item_shown, joined, kept_shown, last_gap, last_of_item, last_of_value, rule_shown, selector_shown, selector_token, sheet_shown, sign_shown, value_shown}
+use Rattle.sheet_laws.proofs.ForCallers.{Shown, all_shown, colon_gap, declaration_shown, importance_shown, inner, item_shown, joined, kept_shown, last_gap, last_of_item, last_of_value, rule_shown, selector_shown, sheet_shown, sign_shown, value_shown}
 use Rattle.print_laws.proofs.Tokens.Chain.{IsChain, IsTold, closers_after_all}
 use Rattle.print_laws.proofs.Levels.Brackets.{AreLeveled, open_behind}
 use Rattle.print_laws.proofs.Tokens.Parts.{closers_after}
@@ -56,7 +56,7 @@ chain-first cs ds es s more solid level told is later = record {
   ends = ap (λ (signs : List ℕ). closers_after_all signs more) is ∙ later.ends;
 }
 
-chain-none : (cs : List ℕ) → Chain cs [] cs
+pub chain-none : (cs : List ℕ) → Chain cs [] cs
 chain-none cs = record { chain = tt; ends = refl }
 
 last-told : (x : Lexeme) → IsTold (last_gap x) []
@@ -117,22 +117,18 @@ joined-chain cs s solid flat level told (part ∷ next ∷ parts) (one, rest) =
     chain-then cs cs cs part (s ∷ joined s (next ∷ parts)) one
     (chain-first cs cs cs s (joined s (next ∷ parts)) solid level (told (joined s (next ∷ parts))) flat (joined-chain cs s solid flat level told (next ∷ parts) rest))
 
--- a selector of tokens that open nothing
-pub record IsFlatSelector (source : List ℕ) (s : SelItem) : Type 0 where
-  pub each : AllByRecursion (λ x. IsFlat x.kind) (tokens_in source s.piece)
-
 -- a declaration whose value closes what it opens
 pub record IsFlatDeclaration (source : List ℕ) (d : DeclItem) : Type 0 where
   pub leveled : AreLeveled (close_curly ∷ []) (tokens_in source d.value)
   pub ends : open_behind (close_curly ∷ []) (tokens_in source d.value) ≡ close_curly ∷ []
 
-selector-chain : (source : List ℕ) (xs : List Lexeme) → AllByRecursion (λ x. IsFlat x.kind) xs → Chain [] (map (selector_token source) xs) []
-selector-chain source [] each = chain-none []
-selector-chain source (x ∷ xs) (one, rest) = flat-first [] [] (selector_token source x) (map (selector_token source) xs) one refl tt (selector-chain source xs rest)
+-- a selector closes what it opens
+abbrev pub IsFlatSelector : List ℕ → SelItem → Type 0
+IsFlatSelector source s = Chain [] (selector_shown source s) []
 
 selectors-chain : (source : List ℕ) (ss : List SelItem) → AllByRecursion (IsFlatSelector source) ss → AllByRecursion (λ part. Chain [] part []) (map (selector_shown source) ss)
 selectors-chain source [] each = tt
-selectors-chain source (s ∷ ss) (one, rest) = (selector-chain source (tokens_in source s.piece) one.each, selectors-chain source ss rest)
+selectors-chain source (s ∷ ss) (one, rest) = (one, selectors-chain source ss rest)
 
 value-chain : (source : List ℕ) (xs : List Lexeme) → AreLeveled (close_curly ∷ []) xs → open_behind (close_curly ∷ []) xs ≡ close_curly ∷ [] → Chain (close_curly ∷ []) (value_shown source xs) (close_curly ∷ [])
 value-chain source xs leveled ends =

@@ -1,17 +1,17 @@
 -- The tokens of a source stand in order, and white space behind them closes their escapes.
-use Rattle.std.proofs.Common.{◌≡◌, ◌⊎◌, inl, inr, ℕ, suc, Bool, true, false, List, [], ◌∷◌, ◌++◌, length, Some, Ok, refl, sym, ◌∙◌, ap, subst}
+use Rattle.std.proofs.Common.{◌≡◌, ℕ, Bool, true, false, List, [], ◌∷◌, ◌++◌, length, Some, Ok, refl, sym, ◌∙◌, ap, subst}
 use Rattle.std.proofs.lemmas.Bool.{false≢true}
 use Rattle.std.proofs.lemmas.List.{append-nil}
 use Rattle.css_model.specs.declared.token.Lexeme.{Lexeme}
 use Rattle.css_model.specs.declared.token.TokenKind.{TokenKind}
 use Rattle.css_model.specs.declared.token.TokenKind.TheVariants as kind
-use Rattle.css_model.specs.Text.Characters.{backslash, space}
-use Rattle.css_model.specs.Text.Kept.{is_lone, is_open}
+use Rattle.css_model.specs.Text.Characters.{backslash}
+use Rattle.css_model.specs.Text.Kept.{is_lone}
 use Rattle.css_model.specs.Text.Lexemes.{is_white_kind}
 use Rattle.css_model.specs.Text.Source.{text_at}
 use Rattle.css_model.specs.Text.TokenAt.{part_at}
 use Rattle.token_laws.specs.SpaceBehind.{IsRead}
-use Rattle.token_laws.proofs.ForCallers.{ends_nil, is_plain, delim-text, space_closes, space_ends, part_again, lone_is}
+use Rattle.token_laws.proofs.ForCallers.{ends_nil, is_plain, delim-text, space_closes, part_again, lone_is}
 use Rattle.sheet_laws.proofs.ForCallers.{IsClosable, IsNamed, TakesSpace, ends_with_sign, has_name, is_closable, IsShut}
 use Rattle.print_laws.proofs.Tokens.Lexed.{IsReadAs}
 use Rattle.print_laws.proofs.Source.Tokens.{IsGoodLexeme}

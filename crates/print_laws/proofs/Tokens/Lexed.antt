@@ -1,5 +1,5 @@
 -- The parts of a printed sheet's tokens are read where they stand.
-use Rattle.std.proofs.Common.{◌≡◌, ◌⊎◌, inl, inr, ℕ, suc, ◌==◌, Bool, true, false, cond, List, [], ◌∷◌, ◌++◌, map, length, take, drop, Some, Ok, refl, sym, ◌∙◌, ap, subst, arith}
+use Rattle.std.proofs.Common.{◌≡◌, ℕ, suc, ◌==◌, Bool, true, false, cond, List, [], ◌∷◌, ◌++◌, map, length, take, drop, Some, Ok, refl, sym, ◌∙◌, ap, subst, arith}
 use Rattle.std.specs.Prelude.{⊤, codes}
 use Rattle.std.specs.List.{AllByRecursion}
 use Rattle.std.proofs.lemmas.Bool.{eq-eqb, false≢true, true≢false}
@@ -12,21 +12,20 @@ use Rattle.css_model.specs.declared.sheet.SelItem.{SelItem}
 use Rattle.css_model.specs.declared.token.Lexeme.{Lexeme}
 use Rattle.css_model.specs.declared.token.TokenKind.{TokenKind}
 use Rattle.css_model.specs.declared.token.TokenKind.TheVariants as kind
-use Rattle.css_model.specs.Text.Characters.{close_curly, close_round, colon, comma, dot, exclamation_mark, is_sign, is_white, open_curly, open_round, semicolon}
+use Rattle.css_model.specs.Text.Characters.{close_curly, close_round, colon, comma, exclamation_mark, is_sign, is_white, open_curly, open_round, semicolon}
 use Rattle.css_model.specs.Text.Kept.{is_lone, solid}
 use Rattle.css_model.specs.Sheets.RuleParts.{RuleParts}
 use Rattle.css_model.specs.Text.Source.{text_at}
 use Rattle.css_model.specs.Sheets.Spelling.{lexemes_of, tokens_in}
 use Rattle.css_model.specs.Text.TokenAt.{part_at}
 use Rattle.css_model.specs.Text.Tokens.{Part, text_of}
-use Rattle.css_model.specs.Text.Units.{digit_unit, white_unit}
+use Rattle.css_model.specs.Text.Units.{white_unit}
 use Rattle.css_tokens.specs.Lexed.{IsLexed}
 use Rattle.token_laws.specs.Solids.{IsBehind, ends_called, is_ender, is_function, solids, solids_of}
 use Rattle.token_laws.proofs.ForCallers.{ends_anywhere, ends_sign, sign_read, rows_again, is_plain, space_read, kept_parts, part_again, rule_part}
 use Rattle.token_laws.specs.Alike.{EndsAlike}
-use Rattle.css_tokens.proofs.ForCallers.{run_none}
 use Rattle.css_model.specs.declared.token.Gap.TheVariants as gap
-use Rattle.sheet_laws.proofs.ForCallers.{Shown, all_shown, inner, item_shown, kept_shown, last_of_item, sheet_shown, colon_gap, declaration_shown, importance_shown, joined, rule_shown, selector_shown, selector_token, sign_shown, value_shown}
+use Rattle.sheet_laws.proofs.ForCallers.{Shown, all_shown, inner, item_shown, kept_shown, last_of_item, sheet_shown, colon_gap, declaration_shown, importance_shown, joined, rule_shown, selector_shown, sign_shown, value_shown}
 use Rattle.print_laws.proofs.Tokens.Chain.{gap_parts, parts_of}
 use Rattle.print_laws.proofs.Levels.Items.{IsPartOf}
 use Rattle.print_laws.proofs.Levels.Brackets.{open_behind}
@@ -90,7 +89,7 @@ pub record Ends (rest : List Part) : Type 0 where
   pub no_bang : (first == exclamation_mark) ≡ false
   pub no_white : is_white first ≡ false
 
-ends-behind : (rest : List Part) → Ends rest → IsBehind (text_of rest)
+pub ends-behind : (rest : List Part) → Ends rest → IsBehind (text_of rest)
 ends-behind rest e = subst IsBehind (sym e.is) (e.ender, λ bang. absurd (true≢false (sym (eq-eqb e.first exclamation_mark bang) ∙ e.no_bang)))
 
 sign-part : (b level : ℕ) → is_sign b ≡ true → (rest : List Part) → IsLexed rest → IsLexed (parts_of (sign_shown b level ∷ []) ++ rest)
@@ -197,43 +196,8 @@ joined-lexed b level e (part ∷ next ∷ parts) (one, later) rest lexed ends =
     subst IsLexed (sym (ap (λ ps. ps ++ rest) (parts-append part (sign_shown b level ∷ more)) ∙ append_assoc (parts_of part) (parts_of (sign_shown b level ∷ more)) rest))
     (one (parts_of (sign_shown b level ∷ more) ++ rest) behind (sign-ends b level e more rest))
 
--- a selector of one token, or of a dot and a name
-pub record IsOneToken (source : List ℕ) (xs : List Lexeme) : Type 0 where
-  pub token : Lexeme
-  pub are : xs ≡ token ∷ []
-  pub read : IsReadAs (text_at source token.span) token.kind
-  pub plain : is_plain (Some token.kind) ≡ true
-
-pub record IsDotName (source : List ℕ) (xs : List Lexeme) : Type 0 where
-  pub sign : Lexeme
-  pub name : Lexeme
-  pub are : xs ≡ sign ∷ name ∷ []
-  pub is_dot : sign.kind ≡ kind.Delim dot
-  pub text : text_at source sign.span ≡ dot ∷ []
-  pub read : IsReadAs (text_at source name.span) name.kind
-  pub plain : is_plain (Some name.kind) ≡ true
-  pub no_digit : (rest : List ℕ) → digit_unit (text_at source name.span ++ rest) ≡ 0
-
 abbrev pub IsReadSelector : List ℕ → SelItem → Type 0
-IsReadSelector source s = IsOneToken source (tokens_in source s.piece) ⊎ IsDotName source (tokens_in source s.piece)
-
-dot-read : (cs : List ℕ) → digit_unit cs ≡ 0 → part_at (dot ∷ cs) ≡ Ok (Some (kind.Delim dot), 1)
-dot-read cs none = rule_part (dot ∷ cs) (Some (kind.Delim dot)) 1 (rw (run_none digit_unit cs none) refl) (omega arith)
-
-token-lexed : (source : List ℕ) (x : Lexeme) → IsReadAs (text_at source x.span) x.kind → is_plain (Some x.kind) ≡ true → IsReadBefore (selector_token source x ∷ [])
-token-lexed source x read plain rest lexed e =
-    (ap (λ cs. part_at (text_at source x.span ++ cs)) e.is ∙ name-ends (text_at source x.span) x.kind read plain e.first e.more e.sign e.closed, lexed)
-
-selector-lexed : (source : List ℕ) (s : SelItem) → IsReadSelector source s → IsReadBefore (selector_shown source s)
-selector-lexed source s (inl one) rest lexed e =
-    subst (λ xs. IsLexed (parts_of (map (selector_token source) xs) ++ rest)) (sym one.are) (token-lexed source one.token one.read one.plain rest lexed e)
-selector-lexed source s (inr two) rest lexed e =
-    let name = token-lexed source two.name two.read two.plain rest lexed e in
-    let behind = text_at source two.name.span ++ text_of rest in
-    let here : part_at (text_at source two.sign.span ++ behind) ≡ Ok (Some two.sign.kind, length (text_at source two.sign.span)) =
-    ap (λ cs. part_at (cs ++ behind)) two.text ∙ dot-read behind (two.no_digit (text_of rest))
-    ∙ ap (λ k. Ok (Some k, 1)) (sym two.is_dot) ∙ ap (λ (cs : List ℕ). Ok (Some two.sign.kind, length cs)) (sym two.text) in
-    subst (λ xs. IsLexed (parts_of (map (selector_token source) xs) ++ rest)) (sym two.are) (here, name)
+IsReadSelector source s = IsReadBefore (selector_shown source s)
 
 -- a rule of a source, by what is read of it
 pub record IsReadRuleOf (source : List ℕ) (r : RuleParts) : Type 0 where
@@ -277,7 +241,7 @@ rule-lexed kept_lexed source ps s r read rest lexed =
 
     selectors : (ss : List SelItem) → AllByRecursion (IsReadSelector source) ss → AllByRecursion IsReadBefore (map (selector_shown source) ss)
     selectors [] each = tt
-    selectors (x ∷ ss) (one, later) = (selector-lexed source x one, selectors ss later)
+    selectors (x ∷ ss) (one, later) = (one, selectors ss later)
 
 -- a kept item of a source, by what is read of it
 pub record IsReadPiece (source : List ℕ) (xs : List Lexeme) : Type 0 where

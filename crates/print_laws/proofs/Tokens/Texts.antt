@@ -19,7 +19,7 @@ use Rattle.css_model.specs.Sheets.RuleParts.{RuleParts}
 use Rattle.css_model.specs.Text.Source.{text_at}
 use Rattle.css_model.specs.Sheets.Spelling.{tokens_in}
 use Rattle.css_model.specs.Text.Tokens.{Part, text_of}
-use Rattle.sheet_laws.proofs.ForCallers.{Shown, all_shown, closed, colon_gap, declaration_shown, importance_shown, inner, item_shown, joined, kept_shown, last_of_item, last_of_value, printed_bytes, rule_shown, selector_shown, selector_token, sheet_shown, sign_shown, value_shown}
+use Rattle.sheet_laws.proofs.ForCallers.{Shown, all_shown, closed, colon_gap, declaration_shown, importance_shown, inner, item_shown, joined, kept_shown, last_of_item, last_of_value, printed_bytes, rule_shown, selector_shown, sheet_shown, sign_shown, value_shown}
 use Rattle.print_laws.proofs.Tokens.Chain.{gap_parts, parts_of, token_part}
 
 pub text-append : (ps qs : List Part) → text_of (ps ++ qs) ≡ text_of ps ++ text_of qs
@@ -147,36 +147,32 @@ joined-text b level show print (x ∷ y ∷ xs) (one, rest) =
     ∙ ap (λ (cs : List ℕ). cs ++ (b ∷ shown_text (joined (sign_shown b level) (map show (y ∷ xs))))) one
     ∙ ap (λ (cs : List ℕ). print x ++ (b ∷ cs)) (joined-text b level show print (y ∷ xs) rest)
 
-selector-text : (source : List ℕ) (xs : List Lexeme) → shown_text (map (selector_token source) xs) ≡ flat_map (λ (x : Lexeme). text_at source x.span) xs
-selector-text source [] = refl
-selector-text source (x ∷ xs) = ap (λ (cs : List ℕ). text_at source x.span ++ cs) (selector-text source xs)
-
-selectors-text : (source : List ℕ) (ss : List SelItem) → AllByRecursion (λ s. shown_text (selector_shown source s) ≡ printed_selector source s) ss
-selectors-text source [] = tt
-selectors-text source (s ∷ ss) = (selector-text source (tokens_in source s.piece), selectors-text source ss)
+-- what is printed for a selector is its tokens' text
+abbrev pub HasText : List ℕ → SelItem → Type 0
+HasText source s = shown_text (selector_shown source s) ≡ printed_selector source s
 
 declarations-text : (source : List ℕ) (ds : List DeclItem) → AllByRecursion (IsTextOf source) ds → AllByRecursion (λ d. shown_text (declaration_shown source d) ≡ printed_declaration source d) ds
 declarations-text source [] each = tt
 declarations-text source (d ∷ ds) (one, rest) = (declaration-text source d one, declarations-text source ds rest)
 
-rule-text : (source : List ℕ) (r : RuleParts) → AllByRecursion (IsTextOf source) r.decls → shown_text (rule_shown source r) ≡ printed_rule source r
-rule-text source r each =
+rule-text : (source : List ℕ) (r : RuleParts) → AllByRecursion (HasText source) r.selectors → AllByRecursion (IsTextOf source) r.decls → shown_text (rule_shown source r) ≡ printed_rule source r
+rule-text source r selectors each =
     let prelude = joined (sign_shown comma 0) (map (selector_shown source) r.selectors) in
     let inside = joined (sign_shown semicolon 1) (map (declaration_shown source) r.decls) in
     shown-append (prelude ++ sign_shown open_curly 0 ∷ inside) (sign_shown close_curly 1 ∷ [])
     ∙ ap (λ (cs : List ℕ). cs ++ close_curly ∷ []) (shown-append prelude (sign_shown open_curly 0 ∷ inside))
-    ∙ ap (λ (cs : List ℕ). (cs ++ (open_curly ∷ shown_text inside)) ++ close_curly ∷ []) (joined-text comma 0 (selector_shown source) (printed_selector source) r.selectors (selectors-text source r.selectors))
+    ∙ ap (λ (cs : List ℕ). (cs ++ (open_curly ∷ shown_text inside)) ++ close_curly ∷ []) (joined-text comma 0 (selector_shown source) (printed_selector source) r.selectors selectors)
     ∙ ap (λ (cs : List ℕ). (join_with_byte comma (map (printed_selector source) r.selectors) ++ (open_curly ∷ cs)) ++ close_curly ∷ [])
     (joined-text semicolon 1 (declaration_shown source) (printed_declaration source) r.decls (declarations-text source r.decls each))
 
 -- what is printed for an item is its tokens' text
 abbrev pub IsTextOfItem : List ℕ → Item → Type 0
-IsTextOfItem source (Rule r) = AllByRecursion (IsTextOf source) r.decls
+IsTextOfItem source (Rule r) = AllByRecursion (HasText source) r.selectors × AllByRecursion (IsTextOf source) r.decls
 IsTextOfItem source (KeptRule k) = AllByRecursion IsLoneBeforeWhite (tokens_in source k.piece)
 IsTextOfItem source (KeptBlock piece) = AllByRecursion IsLoneBeforeWhite (tokens_in source piece)
 
 pub item-text : (source : List ℕ) (item : Item) → IsTextOfItem source item → shown_text (item_shown source item) ≡ printed_item source item
-item-text source (Rule r) each = rule-text source r each
+item-text source (Rule r) each = rule-text source r each.0 each.1
 item-text source (KeptRule k) each = kept-text source (tokens_in source k.piece) each
 item-text source (KeptBlock piece) each = kept-text source (tokens_in source piece) each
 

@@ -5,7 +5,6 @@ use Rattle.std.specs.Str.{IsUtf8}
 use Rattle.std.proofs.lemmas.Str.{IsUtf8-append, IsUtf8-nil}
 use Rattle.std.proofs.Math.Utf8.{encode}
 use Rattle.css_model.specs.declared.sheet.DeclItem.{DeclItem}
-use Rattle.css_model.specs.declared.sheet.Piece.{Piece}
 use Rattle.css_model.specs.declared.sheet.SelItem.{SelItem}
 use Rattle.css_model.specs.declared.token.Gap.{Gap}
 use Rattle.css_model.specs.declared.token.Gap.TheVariants as gap
@@ -17,7 +16,7 @@ use Rattle.css_model.specs.Sheets.RuleParts.{RuleParts}
 use Rattle.css_model.specs.Text.Source.{text_at}
 use Rattle.css_model.specs.Sheets.Spelling.{tokens_in}
 use Rattle.css_model.specs.Text.Tokens.{text_of}
-use Rattle.sheet_laws.proofs.ForCallers.{Shown, all_shown, declaration_shown, importance_shown, inner, is_before_white, joined, kept_shown, last_of_item, last_of_value, printed_bytes, rule_shown, selector_shown, selector_token, sign_shown, value_shown}
+use Rattle.sheet_laws.proofs.ForCallers.{Shown, all_shown, declaration_shown, importance_shown, inner, is_before_white, joined, kept_shown, last_of_item, last_of_value, printed_bytes, rule_shown, selector_shown, sign_shown, value_shown}
 use Rattle.print_laws.proofs.Tokens.Chain.{gap_parts}
 use Rattle.print_laws.proofs.Source.Tokens.{IsGoodLexeme}
 use Rattle.print_laws.proofs.Tokens.Texts.{shown-first, shown_text}
@@ -97,23 +96,21 @@ declarations-utf8 source (d ∷ ds) (one, rest) = (
   declarations-utf8 source ds rest,
 )
 
-selector-utf8 : (source : List ℕ) (xs : List Lexeme) → AllByRecursion (IsGoodLexeme source) xs → AllByRecursion (λ s. IsUtf8 s.bytes) (map (selector_token source) xs)
-selector-utf8 source [] each = tt
-selector-utf8 source (x ∷ xs) (one, rest) = (one.good.utf8, selector-utf8 source xs rest)
+abbrev pub IsUtf8Selector : List ℕ → SelItem → Type 0
+IsUtf8Selector source s = AllByRecursion (λ t. IsUtf8 t.bytes) (selector_shown source s)
 
-selectors-utf8 : (source : List ℕ) → ((piece : Piece) → AllByRecursion (IsGoodLexeme source) (tokens_in source piece)) → (ss : List SelItem)
-    → AllByRecursion (λ ss. AllByRecursion (λ s. IsUtf8 s.bytes) ss) (map (selector_shown source) ss)
-selectors-utf8 source good [] = tt
-selectors-utf8 source good (s ∷ ss) = (selector-utf8 source (tokens_in source s.piece) (good s.piece), selectors-utf8 source good ss)
+selectors-utf8 : (source : List ℕ) (ss : List SelItem) → AllByRecursion (IsUtf8Selector source) ss → AllByRecursion (λ ss. AllByRecursion (λ s. IsUtf8 s.bytes) ss) (map (selector_shown source) ss)
+selectors-utf8 source [] each = tt
+selectors-utf8 source (s ∷ ss) (one, rest) = (one, selectors-utf8 source ss rest)
 
-pub rule-utf8 : (source : List ℕ) → ((piece : Piece) → AllByRecursion (IsGoodLexeme source) (tokens_in source piece)) → (r : RuleParts) → AllByRecursion (IsUtf8Declaration source) r.decls
+pub rule-utf8 : (source : List ℕ) (r : RuleParts) → AllByRecursion (IsUtf8Selector source) r.selectors → AllByRecursion (IsUtf8Declaration source) r.decls
     → AllByRecursion (λ s. IsUtf8 s.bytes) (rule_shown source r)
 unfolding encode
-rule-utf8 source good r each =
+rule-utf8 source r selectors each =
     let prelude = joined (sign_shown comma 0) (map (selector_shown source) r.selectors) in
     let inside = joined (sign_shown semicolon 1) (map (declaration_shown source) r.decls) in
     each-append (λ s. IsUtf8 s.bytes) (prelude ++ sign_shown open_curly 0 ∷ inside) (sign_shown close_curly 1 ∷ [])
     (each-append (λ s. IsUtf8 s.bytes) prelude (sign_shown open_curly 0 ∷ inside)
-    (joined-utf8 comma 0 (44 ∷ [], (refl, refl)) (map (selector_shown source) r.selectors) (selectors-utf8 source good r.selectors))
+    (joined-utf8 comma 0 (44 ∷ [], (refl, refl)) (map (selector_shown source) r.selectors) (selectors-utf8 source r.selectors selectors))
     ((123 ∷ [], (refl, refl)), joined-utf8 semicolon 1 (59 ∷ [], (refl, refl)) (map (declaration_shown source) r.decls) (declarations-utf8 source r.decls each)))
     ((125 ∷ [], (refl, refl)), tt)
