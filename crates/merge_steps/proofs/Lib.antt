@@ -1,0 +1,9 @@
+mod Among
+mod Cuts
+mod Joins
+mod LastCommon
+mod PartWeights
+mod Rows
+mod Saved
+mod ShareWeights
+mod StepRules

@@ -1,0 +1,11 @@
+use Rattle.std.proofs.Common.{◌≡◌, ◌++◌, ◌+◌, not, length, map, take, ◌↔◌}
+use Rattle.std.specs.List.{filter, list_all, list_any}
+use Rattle.order_laws.specs.Members as members
+use Rattle.merge_steps.proofs.members.are_same_decls.Given as goal
+
+-- the first ones are the same
+abbrev pub invariant-rest : goal.invariant-rest
+invariant-rest l = (map (λ d. d.decl) l.rest ≡ map (λ d. d.decl) l.rest_of_others) ↔ (map (λ d. d.decl) l.initial.rest ≡ map (λ d. d.decl) l.initial.rest_of_others)
+
+abbrev pub decreases-rest : goal.decreases-rest
+decreases-rest l = length l.rest

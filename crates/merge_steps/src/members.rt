@@ -1,0 +1,100 @@
+//! Whether selectors and declarations are among those of a rule, and whether two rules have the same.
+
+ghost use Rattle.std.specs.Prelude.{◌≡◌, ◌↔◌, IsTrue, map};
+ghost use Rattle.std.specs.List.{list_all, list_any};
+ghost use Rattle.css_model.specs.Sheets.StyleRule.{HaveSameSelectors};
+ghost use Rattle.order_laws.specs.Members as members;
+ghost use Rattle.step_laws.specs.Steps.{HaveSameDecls};
+
+use css_model::{Decl, DeclItem, Rule, SelItem, Selector};
+
+/// Whether a selector is among these.
+pub(crate) fn has_selector(items: &[SelItem], selector: &Selector) -> bool
+    ensures { result ≡ members.has_selector items.now selector.now }
+{
+    items.iter().any(|item| item.selector == *selector)
+}
+
+/// Whether a declaration is among these.
+pub(crate) fn has_decl(items: &[DeclItem], decl: &Decl) -> bool
+    ensures { result ≡ members.has_decl items.now decl.now }
+{
+    items.iter().any(|item| item.decl == *decl)
+}
+
+/// Whether each of the selectors is among the others.
+fn are_selectors_among(items: &[SelItem], others: &[SelItem]) -> bool
+    ensures { result ≡ list_all (λ s. members.has_selector others.now s.selector) items.now }
+{
+    let mut rest = items;
+    'rest: while let Some((first, behind)) = rest.split_first() {
+        if !has_selector(others, &first.selector) {
+            return false;
+        }
+        rest = behind;
+    }
+    true
+}
+
+/// Whether each of the declarations is among the others.
+pub(crate) fn are_decls_among(items: &[DeclItem], others: &[DeclItem]) -> bool
+    ensures { result ≡ list_all (λ d. members.has_decl others.now d.decl) items.now }
+{
+    let mut rest = items;
+    'rest: while let Some((first, behind)) = rest.split_first() {
+        if !has_decl(others, &first.decl) {
+            return false;
+        }
+        rest = behind;
+    }
+    true
+}
+
+/// Whether some of the declarations is among the others.
+pub(crate) fn is_a_decl_among(items: &[DeclItem], others: &[DeclItem]) -> bool
+    ensures { result ≡ list_any (λ d. members.has_decl others.now d.decl) items.now }
+{
+    let mut rest = items;
+    'rest: while let Some((first, behind)) = rest.split_first() {
+        if has_decl(others, &first.decl) {
+            return true;
+        }
+        rest = behind;
+    }
+    false
+}
+
+/// Whether two rules have the same set of selectors.
+pub(crate) fn have_same_selectors(upper: &Rule, lower: &Rule) -> bool
+    ensures { IsTrue result ↔ HaveSameSelectors upper.now lower.now }
+{
+    let above = are_selectors_among(&upper.selectors, &lower.selectors);
+    let below = are_selectors_among(&lower.selectors, &upper.selectors);
+    above && below
+}
+
+/// Whether two lists have the same declarations, in the same order.
+fn are_same_decls(items: &[DeclItem], others: &[DeclItem]) -> bool
+    ensures { IsTrue result ↔ (map (λ d. d.decl) items.now ≡ map (λ d. d.decl) others.now) }
+{
+    let mut rest = items;
+    let mut rest_of_others = others;
+    'rest: while let Some((first, behind)) = rest.split_first() {
+        let Some((other, behind_other)) = rest_of_others.split_first() else {
+            return false;
+        };
+        if first.decl != other.decl {
+            return false;
+        }
+        rest = behind;
+        rest_of_others = behind_other;
+    }
+    rest_of_others.is_empty()
+}
+
+/// Whether two rules have the same list of declarations.
+pub(crate) fn have_same_decls(upper: &Rule, lower: &Rule) -> bool
+    ensures { IsTrue result ↔ HaveSameDecls upper.now lower.now }
+{
+    are_same_decls(&upper.decls, &lower.decls)
+}
