@@ -7,8 +7,9 @@ use css_model::Text;
 use itoa::Buffer;
 use std::alloc::{AllocError, Global};
 
-/// The first name that is not refused.
-pub(crate) fn first_free(alloc: Global, refused: &[Text]) -> Result<Text, AllocError>
+/// The first of the names `x`, `x1`, `x2` and so on that is not refused. Only want of memory may come in its
+/// place.
+pub fn first_free(alloc: Global, refused: &[Text]) -> Result<Text, AllocError>
     ensures { IfOk result (λ v. IsFirstFree v refused.now) }
 {
     for number in 0..=refused.len() {

@@ -14,6 +14,7 @@ mod table;
 
 pub use compound::{FitError, fit};
 pub use conditions::is_fittable;
+pub use free_name::first_free;
 pub use laws::{enough_code_points_are_left, parts_are_apart};
 pub use table::FitTable;
 

@@ -21,7 +21,7 @@ use Rattle.compound_fit.specs.Ids.{HasPlainIds}
 use Rattle.document_laws.specs.SlotElements.{SuitsSlot, asks_for_content, own_id}
 use Rattle.element_laws.proofs.Asking.{own_asked}
 use Rattle.element_laws.proofs.Attributes.{all_with_id, attribute, names_differ, names_stay, not_among, other_value, own_value}
-use Rattle.element_laws.proofs.Named.{kind_full, names_full}
+use Rattle.element_laws.proofs.Named.{free_full, kind_full, names_full}
 use Rattle.element_laws.proofs.Passing.{any_some, has_id, not_empty, suits_same, suits_with}
 use Rattle.element_laws.specs.Chosen.{AreGiven, IsChosen, with_id}
 use Rattle.element_laws.specs.Ids.{asked_ids, asks_for_id, is_id_free, refused_ids}
@@ -166,3 +166,13 @@ asked_own parent simples taken f v c not_free own =
     let attrs : f.attrs ≡ c.fit.attrs = subst (λ b. AreGiven b (refused_ids simples ++ taken) c.fit.attrs f.attrs) not_free c.attrs in
     let h = held (value_of c.fit.attrs (codes "id")) v (ap (λ l. if_not_empty (value_of l (codes "id"))) (sym attrs) ∙ own) in
     own_asked simples v (subst (λ o. SolvesName (codes "id") (as_answer o) (tests_of (codes "id") (attribute_tests simples))) h.0 (c.features.attributes.each (codes "id"))) not_free h.1
+
+-- the id that it was given
+pub own_given : (simples : List Simple) (refused : List (List ℕ)) (fit f : FeatureParts) (id : List ℕ) → AreFeatures fit simples → is_id_free simples ≡ true → IsFirstFree id refused → f.attrs ≡ with_id id fit.attrs → own_id f ≡ Some id
+own_given simples refused fit f id features free first attrs =
+    let was = has_id simples (element_of fit) features.suits (free_parts simples free).0 in
+    ap (λ l. if_not_empty (value_of l (codes "id"))) attrs ∙ ap if_not_empty (own_value id fit.attrs was.0 was.1) ∙ full id (free_full id refused first)
+  where
+    full : (v : List ℕ) → v ≢ [] → if_not_empty (Some v) ≡ Some v
+    full [] h = absurd (h refl)
+    full (c ∷ cs) h = refl
