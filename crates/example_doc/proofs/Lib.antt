@@ -1,0 +1,5 @@
+mod Choices
+mod Heights
+mod Shown
+mod Table
+mod Written

@@ -1,0 +1,4 @@
+pub mod Built
+pub mod Choosing
+pub mod Groups
+pub mod Lines
