@@ -1,3 +1,4 @@
+pub mod ForCallers
 mod Items
 mod Numbers
 mod Paths

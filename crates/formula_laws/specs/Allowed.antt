@@ -36,17 +36,20 @@ abbrev pub all_below : ℕ → (ℕ → Bool) → Bool
 all_below zero p = true
 all_below (suc n) p = all_below n p && p n
 
--- a node lays both of two compounds, or none
-abbrev pub lays_both : Lays → Bool → Bool → Bool
-lays_both k is_left is_right = (not (has_left k && is_left) || (has_right k && is_right)) && (not (has_right k && is_right) || (has_left k && is_left))
+-- whether a compound asks for no id that one of the first compounds of a chain asks for, other than the k-th where
+-- the two stand together
+abbrev pub apart_in : List Simple → List (List Simple) → ℕ → Bool → ℕ → Bool
+apart_in c chain count beside k = all_below count (λ i. (beside && (i == k)) || not (share_id c (nth_compound chain i)))
 
 -- whether a node lays compounds that ask for one id together
 abbrev pub ids_fit : SelectorParts → SelectorParts → Lays → ℕ → ℕ → Bool
-ids_fit x y k i' j' = all_below (suc (length x.links)) (λ i. all_below (suc (length y.links)) (λ j. not (share_id (nth_compound x.chain i) (nth_compound y.chain j)) || lays_both k (i' == i) (j' == j)))
+ids_fit x y k i j =
+    (not (has_left k) || apart_in (nth_compound x.chain i) y.chain (suc (length y.links)) (has_right k) j)
+    && (not (has_right k) || apart_in (nth_compound y.chain j) x.chain (suc (length x.links)) (has_left k) i)
 
 -- whether no two compounds of a selector ask for one id
 abbrev pub own_ids_fit : SelectorParts → Bool
-own_ids_fit x = all_below (suc (length x.links)) (λ i. all_below (suc (length x.links)) (λ j. (i == j) || not (share_id (nth_compound x.chain i) (nth_compound x.chain j))))
+own_ids_fit x = all_below (suc (length x.links)) (λ i. apart_in (nth_compound x.chain i) x.chain (suc (length x.links)) true i)
 
 -- whether the pair is allowed as a whole: no selector asks for an id twice, and both have one pseudo-element
 abbrev pub pair_fits : SelectorParts → SelectorParts → Bool
@@ -69,12 +72,16 @@ SuitingIsDecided suits x y = (k : Lays) (i j : ℕ) → i ≤ length x.links →
 abbrev pub node_fits : SelectorParts → SelectorParts → Allowed → Lays → ℕ → ℕ → Bool
 node_fits x y allowed k i j = links_fit x.links y.links k i j && (allowed.empties k i j && (allowed.ids k i j && allowed.features k i j))
 
--- nodes that are refused
-abbrev pub node_clauses : ℕ → ℕ → (Lays → ℕ → ℕ → Bool) → List (List Lit)
-node_clauses m n fits = each_below (suc m) (λ i. each_below (suc n) (λ j.
+-- the nodes of a cell that are refused
+abbrev pub cell_clauses : ℕ → (Lays → ℕ → ℕ → Bool) → ℕ → ℕ → List (List Lit)
+cell_clauses n fits i j =
     unless (fits left_alone i j) (node_lit (suc n) left_alone i j)
     ++ (unless (fits right_alone i j) (node_lit (suc n) right_alone i j)
-    ++ unless (fits together i j) (node_lit (suc n) together i j))))
+    ++ unless (fits together i j) (node_lit (suc n) together i j))
+
+-- those of all cells
+abbrev pub node_clauses : ℕ → ℕ → (Lays → ℕ → ℕ → Bool) → List (List Lit)
+node_clauses m n fits = each_below (suc m) (λ i. each_below (suc n) (λ j. cell_clauses n fits i j))
 
 -- the empty clause, where something is refused for the whole pair
 abbrev pub whole_clauses : Bool → List (List Lit)

@@ -62,14 +62,22 @@ abbrev pub with_equal : List Combinator → List Combinator → Names → ℕ �
 with_equal xl yl names i j = when (both_fit xl yl i j) (λ f. with_clauses f
     (implied (node_lit (suc (length yl)) together i j) (same_digits (names.bx i) (names.by j) ++ same_digits (names.ax i) (names.ay j))))
 
+-- whether a left compound may stand right behind a right one, and is no parent
+abbrev pub left_follows : List Combinator → List Combinator → ℕ → ℕ → Bool
+left_follows xl yl i j = not (goes_up_at xl (suc i)) && (right_fits xl yl i j && left_fits xl yl (suc i) j)
+
+-- the same for a right one behind a left one
+abbrev pub right_follows : List Combinator → List Combinator → ℕ → ℕ → Bool
+right_follows xl yl i j = not (goes_up_at yl (suc j)) && (left_fits xl yl i j && right_fits xl yl i (suc j))
+
 -- the order of neighbours of which no combinator speaks
 abbrev pub with_order_left : List Combinator → List Combinator → Names → ℕ → ℕ → Cnf → Cnf
-with_order_left xl yl names i j = when (not (goes_up_at xl (suc i)) && (right_fits xl yl i j && left_fits xl yl (suc i) j))
+with_order_left xl yl names i j = when (left_follows xl yl i j)
     (with_less (negation (node_lit (suc (length yl)) right_alone i j) ∷ negation (node_lit (suc (length yl)) left_alone (suc i) j) ∷ []) (names.bx (suc i)) (names.by j))
 
 -- the same for the other selector
 abbrev pub with_order_right : List Combinator → List Combinator → Names → ℕ → ℕ → Cnf → Cnf
-with_order_right xl yl names i j = when (not (goes_up_at yl (suc j)) && (left_fits xl yl i j && right_fits xl yl i (suc j)))
+with_order_right xl yl names i j = when (right_follows xl yl i j)
     (with_less (negation (node_lit (suc (length yl)) left_alone i j) ∷ negation (node_lit (suc (length yl)) right_alone i (suc j)) ∷ []) (names.by (suc j)) (names.bx i))
 
 -- the numbers of siblings of all compounds

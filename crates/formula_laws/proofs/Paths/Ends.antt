@@ -7,7 +7,7 @@ use Rattle.formula_laws.proofs.Items.MoreItems.{implied_back, implied_below, imp
 use Rattle.formula_laws.proofs.Items.Ranges.{node_below}
 use Rattle.formula_laws.proofs.Numbers.Related.{digits_back, digits_below, digits_means}
 use Rattle.formula_laws.proofs.Paths.Pathway.{each_back, each_means}
-use Rattle.formula_laws.specs.Allowed.{node_clauses, whole_clauses}
+use Rattle.formula_laws.specs.Allowed.{cell_clauses, node_clauses, whole_clauses}
 use Rattle.formula_laws.specs.Counts.{implied}
 use Rattle.formula_laws.specs.Path.{each_below, last_clauses, node_lit, true_nodes, unless}
 use Rattle.formula_laws.specs.Relations.{same_digits}
@@ -187,12 +187,6 @@ each_in_range base make (suc n) each = list_all-append-from (are_below base) (ea
 -- refused nodes are false
 abbrev pub NodesFit : ℕ → ℕ → (Lays → ℕ → ℕ → Bool) → Nodes → Type 0
 NodesFit m n fits v = (k : Lays) (i j : ℕ) → i ≤ m → j ≤ n → v k i j ≡ true → fits k i j ≡ true
-
-abbrev pub cell_clauses : ℕ → (Lays → ℕ → ℕ → Bool) → ℕ → ℕ → List (List Lit)
-cell_clauses n fits i j =
-    unless (fits left_alone i j) (node_lit (suc n) left_alone i j)
-    ++ (unless (fits right_alone i j) (node_lit (suc n) right_alone i j)
-    ++ unless (fits together i j) (node_lit (suc n) together i j))
 
 pub node_item : (base m n : ℕ) (fits : Lays → ℕ → ℕ → Bool) → 3 * (suc m * suc n) ≤ base → Item base (λ f. with_clauses f (node_clauses m n fits)) (λ vs. NodesFit m n fits (true_nodes (suc n) vs))
 node_item base m n fits room = item_as base (λ f. with_clauses f (node_clauses m n fits)) (λ vs. IsTrue (all_hold vs (node_clauses m n fits))) (λ vs. NodesFit m n fits (true_nodes (suc n) vs)) means back

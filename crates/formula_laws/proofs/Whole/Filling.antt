@@ -35,10 +35,10 @@ length_literals v (suc n) = ap suc (length_literals (suc v) n)
 slot_inside : (m n w q : ℕ) → q < 2 * suc m + 2 * suc n → slot_at m n w q + w ≤ first_vars m n w
 slot_inside m n w q h = let k : suc q * w ≤ (2 * suc m + 2 * suc n) * w = mul-le-mul_right w (let l : suc q ≤ 2 * suc m + 2 * suc n = omega arith in l) in omega arith
 
-slot_digits : (m n w q : ℕ) → q < 2 * suc m + 2 * suc n → IsTrue (are_below (first_vars m n w) (literals (slot_at m n w q) w)) × (length (literals (slot_at m n w q) w) ≡ w)
+pub slot_digits : (m n w q : ℕ) → q < 2 * suc m + 2 * suc n → IsTrue (are_below (first_vars m n w) (literals (slot_at m n w q) w)) × (length (literals (slot_at m n w q) w) ≡ w)
 slot_digits m n w q h = (literals_below (first_vars m n w) (slot_at m n w q) w (slot_inside m n w q h), length_literals (slot_at m n w q) w)
 
-names_below : (m n w : ℕ) → NamesBelow (first_vars m n w) m n w (names_of m n w)
+pub names_below : (m n w : ℕ) → NamesBelow (first_vars m n w) m n w (names_of m n w)
 names_below m n w = record {
   nodes = omega arith;
   root = is_below-positive (first_vars m n w) (nodes_end m n) (omega arith);

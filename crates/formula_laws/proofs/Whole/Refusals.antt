@@ -1,11 +1,11 @@
 -- What is asked beside the numbers is decided rightly.
-use Rattle.std.proofs.Common.{Bool, List, None, Option, Some, [], ap, arith, false, inl, inr, length, not, refl, subst, suc, sym, true, zero, ℕ, ◌&&◌, ◌<◌, ◌||◌, ◌∙◌, ◌∷◌, ◌≡◌, ◌≤◌, ◌⊎◌}
+use Rattle.std.proofs.Common.{Bool, List, None, Option, Some, [], ap, arith, false, inl, inr, length, not, refl, subst, suc, sym, true, zero, ℕ, ◌&&◌, ◌<◌, ◌||◌, ◌∙◌, ◌∷◌, ◌≡◌, ◌≢◌, ◌≤◌, ◌⊎◌}
 use Rattle.std.proofs.lemmas.Bool.{and_from, and_parts, eq-eqb, eqb-true, false≢true}
 use Rattle.std.specs.Cmp.Lexicographic.{bytes_decides}
 use Rattle.std.specs.List.{filter_map, list_any}
 use Rattle.std.specs.Prelude.{Contains, ◌==◌}
 use Rattle.formula_laws.proofs.Whole.Conditions.{IdsFit, AllowedMeans, OwnIdsFit}
-use Rattle.formula_laws.specs.Allowed.{SuitingIsDecided, all_below, asks_empty, empty_fits, ids_fit, allowed_by, lays_both, own_ids_fit, share_id}
+use Rattle.formula_laws.specs.Allowed.{SuitingIsDecided, all_below, allowed_by, apart_in, asks_empty, empty_fits, ids_fit, own_ids_fit, share_id}
 use Rattle.formula_laws.specs.Path.{same_bool}
 use Rattle.css_model.specs.Documents.Matching.{same_pseudo}
 use Rattle.css_model.specs.Documents.SelectorParts.{SelectorParts}
@@ -114,43 +114,62 @@ or_back : (a b : Bool) → (a ≡ true → b ≡ true) → (not a || b) ≡ true
 or_back true b h = h refl
 or_back false b h = refl
 
+-- a compound that is apart from those of a chain
+apart_means : (c : List Simple) (chain : List (List Simple)) (n : ℕ) (beside : Bool) (k : ℕ) → apart_in c chain n beside k ≡ true → (i : ℕ) (id : List ℕ) → i < n →
+    Contains (filter_map asked_id c) id → Contains (filter_map asked_id (nth_compound chain i)) id → (beside ≡ true) × (i ≡ k)
+apart_means c chain n beside k h i id less hc hd =
+    split (beside && (i == k)) (share_id c (nth_compound chain i)) refl (share_back c (nth_compound chain i) id hc hd) (all_means n (λ i. (beside && (i == k)) || not (share_id c (nth_compound chain i))) h i less)
+  where
+    split : (a b : Bool) → (beside && (i == k)) ≡ a → b ≡ true → (a || not b) ≡ true → (beside ≡ true) × (i ≡ k)
+    split true b e s t = let p = and_parts beside (i == k) e in (p.0, eqb-true i k p.1)
+    split false true e s t = absurd (false≢true t)
+    split false false e s t = absurd (false≢true s)
+
+apart_back : (c : List Simple) (chain : List (List Simple)) (n : ℕ) (beside : Bool) (k : ℕ) →
+    ((i : ℕ) (id : List ℕ) → i < n → Contains (filter_map asked_id c) id → Contains (filter_map asked_id (nth_compound chain i)) id → (beside ≡ true) × (i ≡ k)) → apart_in c chain n beside k ≡ true
+apart_back c chain n beside k each = all_back n (λ i. (beside && (i == k)) || not (share_id c (nth_compound chain i))) (λ i less. split i less (share_id c (nth_compound chain i)) refl)
+  where
+    or_true : (b : Bool) → (b || true) ≡ true
+    or_true true = refl
+    or_true false = refl
+
+    split : (i : ℕ) → i < n → (b : Bool) → share_id c (nth_compound chain i) ≡ b → ((beside && (i == k)) || not b) ≡ true
+    split i less false s = or_true (beside && (i == k))
+    split i less true s =
+        let t = share_means c (nth_compound chain i) s in
+        let r = each i t.0 less t.1 t.2 in
+        ap (λ b. b || false) (and_from beside (i == k) r.0 (eq-eqb i k r.1))
+
 ids_means : (x y : SelectorParts) (k : Lays) (i' j' : ℕ) → ids_fit x y k i' j' ≡ true → IdsFit x y k i' j'
 ids_means x y k i' j' h i j id hi hj cx cy =
-    let cell = all_means (suc (length y.links)) (λ j. not (share_id (nth_compound x.chain i) (nth_compound y.chain j)) || lays_both k (i' == i) (j' == j))
-    (all_means (suc (length x.links)) (λ i. all_below (suc (length y.links)) (λ j. not (share_id (nth_compound x.chain i) (nth_compound y.chain j)) || lays_both k (i' == i) (j' == j))) h i (omega arith)) j (omega arith) in
-    let both = or_means (share_id (nth_compound x.chain i) (nth_compound y.chain j)) (lays_both k (i' == i) (j' == j)) cell (share_back (nth_compound x.chain i) (nth_compound y.chain j) id cx cy) in
-    let p = and_parts (not (has_left k && (i' == i)) || (has_right k && (j' == j))) (not (has_right k && (j' == j)) || (has_left k && (i' == i))) both in (
-      λ t e. let q = and_parts (has_right k) (j' == j) (or_means (has_left k && (i' == i)) (has_right k && (j' == j)) p.0 (and_from (has_left k) (i' == i) t (eq-eqb i' i e))) in (q.0, eqb-true j' j q.1),
-      λ t e. let q = and_parts (has_left k) (i' == i) (or_means (has_right k && (j' == j)) (has_left k && (i' == i)) p.1 (and_from (has_right k) (j' == j) t (eq-eqb j' j e))) in (q.0, eqb-true i' i q.1),
+    let p = and_parts (not (has_left k) || apart_in (nth_compound x.chain i') y.chain (suc (length y.links)) (has_right k) j') (not (has_right k) || apart_in (nth_compound y.chain j') x.chain (suc (length x.links)) (has_left k) i') h in (
+      λ t e. let r = apart_means (nth_compound x.chain i') y.chain (suc (length y.links)) (has_right k) j' (or_means (has_left k) (apart_in (nth_compound x.chain i') y.chain (suc (length y.links)) (has_right k) j') p.0 t) j id (omega arith)
+          (subst (λ (a : ℕ). Contains (filter_map asked_id (nth_compound x.chain a)) id) (sym e) cx) cy in (r.0, sym r.1),
+      λ t e. let r = apart_means (nth_compound y.chain j') x.chain (suc (length x.links)) (has_left k) i' (or_means (has_right k) (apart_in (nth_compound y.chain j') x.chain (suc (length x.links)) (has_left k) i') p.1 t) i id (omega arith)
+          (subst (λ (a : ℕ). Contains (filter_map asked_id (nth_compound y.chain a)) id) (sym e) cy) cx in (r.0, sym r.1),
     )
 
-ids_back : (x y : SelectorParts) (k : Lays) (i' j' : ℕ) → IdsFit x y k i' j' → ids_fit x y k i' j' ≡ true
-ids_back x y k i' j' fits = all_back (suc (length x.links)) _ (λ i hi. all_back (suc (length y.links)) _ (λ j hj.
-    or_back (share_id (nth_compound x.chain i) (nth_compound y.chain j)) (lays_both k (i' == i) (j' == j)) (λ e.
-    let c = share_means (nth_compound x.chain i) (nth_compound y.chain j) e in
-    let both = fits i j c.0 (omega arith) (omega arith) c.1 c.2 in
-    and_from (not (has_left k && (i' == i)) || (has_right k && (j' == j))) (not (has_right k && (j' == j)) || (has_left k && (i' == i)))
-    (or_back (has_left k && (i' == i)) (has_right k && (j' == j)) (λ t. let p = and_parts (has_left k) (i' == i) t in let q = both.0 p.0 (eqb-true i' i p.1) in and_from (has_right k) (j' == j) q.0 (eq-eqb j' j q.1)))
-    (or_back (has_right k && (j' == j)) (has_left k && (i' == i)) (λ t. let p = and_parts (has_right k) (j' == j) t in let q = both.1 p.0 (eqb-true j' j p.1) in and_from (has_left k) (i' == i) q.0 (eq-eqb i' i q.1))))))
+ids_back : (x y : SelectorParts) (k : Lays) (i' j' : ℕ) → i' ≤ length x.links → j' ≤ length y.links → IdsFit x y k i' j' → ids_fit x y k i' j' ≡ true
+ids_back x y k i' j' hi' hj' fits =
+    and_from (not (has_left k) || apart_in (nth_compound x.chain i') y.chain (suc (length y.links)) (has_right k) j') (not (has_right k) || apart_in (nth_compound y.chain j') x.chain (suc (length x.links)) (has_left k) i')
+    (or_back (has_left k) (apart_in (nth_compound x.chain i') y.chain (suc (length y.links)) (has_right k) j') (λ t.
+    apart_back (nth_compound x.chain i') y.chain (suc (length y.links)) (has_right k) j' (λ j id less cx cy. let r = (fits i' j id hi' (omega arith) cx cy).0 t refl in (r.0, sym r.1))))
+    (or_back (has_right k) (apart_in (nth_compound y.chain j') x.chain (suc (length x.links)) (has_left k) i') (λ t.
+    apart_back (nth_compound y.chain j') x.chain (suc (length x.links)) (has_left k) i' (λ i id less cy cx. let r = (fits i j' id (omega arith) hj' cx cy).1 t refl in (r.0, sym r.1))))
 
 own_means : (x : SelectorParts) → own_ids_fit x ≡ true → OwnIdsFit x
 own_means x h i j id hi hj apart cx cy =
-    by (i == j) (share_id (nth_compound x.chain i) (nth_compound x.chain j)) refl (share_back (nth_compound x.chain i) (nth_compound x.chain j) id cx cy)
-    (all_means (suc (length x.links)) (λ j. (i == j) || not (share_id (nth_compound x.chain i) (nth_compound x.chain j)))
-    (all_means (suc (length x.links)) (λ i. all_below (suc (length x.links)) (λ j. (i == j) || not (share_id (nth_compound x.chain i) (nth_compound x.chain j)))) h i (omega arith)) j (omega arith))
-  where
-    by : (a b : Bool) → (i == j) ≡ a → b ≡ true → (a || not b) ≡ true → ⊥
-    by true b e s h = apart (eqb-true i j e)
-    by false true e s h = false≢true h
-    by false false e s h = false≢true s
+    let row = all_means (suc (length x.links)) (λ i. apart_in (nth_compound x.chain i) x.chain (suc (length x.links)) true i) h i (omega arith) in
+    let r = apart_means (nth_compound x.chain i) x.chain (suc (length x.links)) true i row j id (omega arith) cx cy in
+    apart (sym r.1)
 
 own_back : (x : SelectorParts) → OwnIdsFit x → own_ids_fit x ≡ true
-own_back x fits = all_back (suc (length x.links)) _ (λ i hi. all_back (suc (length x.links)) _ (λ j hj. by i j (omega arith) (omega arith) (i == j) (share_id (nth_compound x.chain i) (nth_compound x.chain j)) refl refl))
+own_back x fits = all_back (suc (length x.links)) (λ i. apart_in (nth_compound x.chain i) x.chain (suc (length x.links)) true i) (λ i hi.
+    apart_back (nth_compound x.chain i) x.chain (suc (length x.links)) true i (λ j id hj cx cy. (refl, split i j (j == i) refl (λ differ. fits i j id (omega arith) (omega arith) differ cx cy))))
   where
-    by : (i j : ℕ) → i ≤ length x.links → j ≤ length x.links → (a b : Bool) → (i == j) ≡ a → share_id (nth_compound x.chain i) (nth_compound x.chain j) ≡ b → (a || not b) ≡ true
-    by i j hi hj true b e s = refl
-    by i j hi hj false false e s = refl
-    by i j hi hj false true e s = let c = share_means (nth_compound x.chain i) (nth_compound x.chain j) s in absurd (fits i j c.0 hi hj (λ is. false≢true (sym e ∙ eq-eqb i j is)) c.1 c.2)
+    split : (i j : ℕ) (b : Bool) → (j == i) ≡ b → (i ≢ j → ⊥) → j ≡ i
+    split i j true e h = eqb-true j i e
+    split i j false e h = absurd (h (λ is. false≢true (sym e ∙ eq-eqb j i (sym is))))
 
 -- a number for each
 abbrev pub pseudo_code : Option Pseudo → ℕ
@@ -207,7 +226,7 @@ pub allowed_means : (suits : Lays → ℕ → ℕ → Bool) (x y : SelectorParts
 allowed_means suits x y decides = record {
   empties = λ k i j hi hj. (empties_means (node_above x y k i j) (node_simples x y k i j), empties_back (node_above x y k i j) (node_simples x y k i j));
   features = λ k i j hi hj. decides k i j hi hj;
-  ids = λ k i j hi hj. (ids_means x y k i j, ids_back x y k i j);
+  ids = λ k i j hi hj. (ids_means x y k i j, ids_back x y k i j hi hj);
   whole = (
     λ h. let p = and_parts (own_ids_fit x) (own_ids_fit y && (same_pseudo x.pseudo y.pseudo)) h in
         let q = and_parts (own_ids_fit y) (same_pseudo x.pseudo y.pseudo) p.1 in
