@@ -1,0 +1,22 @@
+use Rattle.std.proofs.Common.{◌≡◌, ◌<◌, Err, ap, subst, sym, ◌∙◌}
+use Rattle.css_model.specs.Sheets.Limits.{max_stepped}
+use Rattle.overlap.specs.Answers.{pair_stepped}
+use Rattle.overlap.proofs.Deciding.{many_stepped}
+use Rattle.overlap.proofs.Limits.{few_stepped, pair_range}
+use Rattle.overlap.proofs.decision.decide_alike.Goals as goal
+
+pub new-requires-clause-in_range : goal.new-requires-clause-in_range
+new-requires-clause-in_range c =
+    pair_range c.args.x.now c.args.y.now (c.profile_keeps_the_limits.ensures c.args.x.now c.requires.first) (c.profile_keeps_the_limits.ensures c.args.y.now c.requires.second)
+
+pub new-requires-clause-left_few : goal.new-requires-clause-left_few
+new-requires-clause-left_few c = few_stepped c.args.x.now (c.profile_keeps_the_limits.ensures c.args.x.now c.requires.first)
+
+pub new-requires-clause-right_few : goal.new-requires-clause-right_few
+new-requires-clause-right_few c = few_stepped c.args.y.now (c.profile_keeps_the_limits.ensures c.args.y.now c.requires.second)
+
+pub returns-in-Err-NthParts : goal.returns-in-Err-NthParts
+returns-in-Err-NthParts c =
+    let is : (c.in-Err-NthParts.count ≡ pair_stepped c.args.x.now c.args.y.now) × (max_stepped < c.in-Err-NthParts.count) = (c.in-Err-NthParts.ensures.parts c.in-Err-NthParts.count).0 (ap Err c.in-Err-NthParts.field-0-is) in
+    let same : c.from.result ≡ c.in-Err-NthParts.count = c.from.ensures ∙ c.in-Err-NthParts.count-is in
+    many_stepped c.args.x.now c.args.y.now c.from.result (same ∙ is.0) (subst (λ n. max_stepped < n) (sym same) is.1)

@@ -1,0 +1,30 @@
+use Rattle.std.proofs.Common.{rules, ◌≡◌, ◌<◌, ◌++◌, ◌∷◌, [], List, Option, None, length, get_or, IfOk, arith, sym, subst, ◌∙◌}
+use Rattle.std.proofs.Common.{slice_index_or}
+use Rattle.css_model.specs.declared.selector.Pseudo.{Pseudo}
+use Rattle.overlap.specs.Singles.{IsSingleAnswer}
+use Rattle.overlap.proofs.Deciding.{first_fits, single_result, some_fits}
+use Rattle.overlap.proofs.Limits.{no_links, singles_are_few}
+use Rattle.overlap.proofs.decision.decide_fitted.Goals as goal
+
+pub decide_single-requires-clause-few : goal.decide_single-requires-clause-few
+decide_single-requires-clause-few c =
+    let e : c.args.x.now.chain ≡ c.in-Some-Some.c.now ∷ [] = search rules in
+    let f : c.args.y.now.chain ≡ c.in-Some-Some.d.now ∷ [] = search rules in
+    singles_are_few c.args.x.now c.args.y.now c.in-Some-Some.c.now c.in-Some-Some.d.now e f
+    (c.profile_keeps_the_limits.ensures c.args.x.now c.requires.first) (c.profile_keeps_the_limits.ensures c.args.y.now c.requires.second) c.requires.few
+
+pub decide_single-requires-clause-found : goal.decide_single-requires-clause-found
+decide_single-requires-clause-found c =
+    let e : c.args.x.now.chain ≡ c.in-Some-Some.c.now ∷ [] = search rules in
+    let f : c.args.y.now.chain ≡ c.in-Some-Some.d.now ∷ [] = search rules in
+    first_fits c.args.x.now c.args.y.now c.in-Some-Some.c.now c.in-Some-Some.d.now c.args.fits.now c.index-fits-0.result e f c.requires.fits c.index-fits-0.is
+
+pub returns-in-Some-Some : goal.returns-in-Some-Some
+returns-in-Some-Some c =
+    let e : c.args.x.now.chain ≡ c.in-Some-Some.c.now ∷ [] = search rules in
+    let f : c.args.y.now.chain ≡ c.in-Some-Some.d.now ∷ [] = search rules in
+    let p : c.x.inside.pseudo ≡ c.args.x.now.pseudo = search rules in
+    single_result c.args.x.now c.args.y.now c.in-Some-Some.c.now c.in-Some-Some.d.now c.decide_single.result e f
+    (no_links c.args.x.now c.in-Some-Some.c.now e (c.profile_keeps_the_limits.ensures c.args.x.now c.requires.first))
+    (no_links c.args.y.now c.in-Some-Some.d.now f (c.profile_keeps_the_limits.ensures c.args.y.now c.requires.second)) c.requires.pseudo
+    (subst (λ (p : Option Pseudo). IfOk c.decide_single.result (λ a. IsSingleAnswer c.in-Some-Some.c.now c.in-Some-Some.d.now p a)) p c.decide_single.ensures)

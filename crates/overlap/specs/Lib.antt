@@ -1,0 +1,5 @@
+pub mod Answers
+pub mod Lending
+pub mod PairsParts
+pub mod Remembered
+pub mod Singles

@@ -1,0 +1,7 @@
+use Rattle.std.proofs.Common.{◌≡◌, ◌++◌, drop}
+use Rattle.std.specs.List.{filter_map}
+use Rattle.sibling_counts.specs.Sides.{front_test}
+use Rattle.sibling_counts.proofs.side.push_fronts.Given as goal
+
+abbrev pub invariant-loop-simple : goal.invariant-loop-simple
+invariant-loop-simple l = l.tests.items ++ filter_map front_test (drop l.simple-index l.simples) ≡ l.fn.tests.items ++ filter_map front_test l.simples

@@ -1,0 +1,6 @@
+mod EmptyTests
+mod Lines
+mod Meeting
+mod RootTests
+mod Shapes
+mod Showing

@@ -1,0 +1,20 @@
+//! The laws. They do nothing when they run.
+
+ghost use Rattle.single_examples.specs.Laws.{ExamplesShowMeeting, MeetingPasses};
+
+use document_laws::shapes_show_meeting;
+use shape_laws::selectors_that_meet_have_a_shape;
+
+/// The example for two selectors of one compound each shows that they meet.
+pub fn examples_show_meeting()
+    ensures { ExamplesShowMeeting }
+{
+    shapes_show_meeting();
+}
+
+/// Where two selectors of one compound each meet, one of the three documents has an element that passes.
+pub fn meeting_selectors_pass()
+    ensures { MeetingPasses }
+{
+    selectors_that_meet_have_a_shape();
+}
