@@ -1,0 +1,12 @@
+mod BadLines
+mod Begun
+mod Differ
+mod Features
+mod Follows
+mod Free
+mod LineText
+mod LineTexts
+mod More
+mod Pieces
+mod Steps
+mod Unescaped

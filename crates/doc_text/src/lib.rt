@@ -1,0 +1,19 @@
+//! Documents with one element marked, as texts to show and to read.
+#![tactic(auto)]
+
+mod cuts;
+mod element;
+mod escapes;
+mod heads;
+mod laws;
+mod line;
+mod print;
+mod read;
+mod state;
+
+pub use laws::{lines_end, texts_differ};
+pub use print::print_doc;
+pub use read::{DocError, read_doc};
+
+#[cfg(test)]
+mod tests;
