@@ -1,5 +1,5 @@
 -- The positions that are written in terms which derive a selector are those that it tests.
-use Rattle.std.proofs.Common.{◌≡◌, ℕ, cond, not, ◌==◌, drop, None, Bool, true, false, ◌&&◌, ◌||◌, List, [], ◌∷◌, ◌++◌, map, reverse, Option, Some, Result, Ok, refl, sym, ap, ap₂, ◌∙◌, subst, codes}
+use Rattle.std.proofs.Common.{◌≡◌, ℕ, cond, not, ◌==◌, drop, None, Bool, true, false, ◌&&◌, ◌||◌, List, [], ◌∷◌, ◌++◌, map, reverse, Option, Some, Result, Ok, refl, sym, ap, ◌∙◌, subst, codes}
 use Rattle.std.specs.Cmp.Lexicographic.{bytes_decides}
 use Rattle.std.specs.List.{AllByRecursion, flat_map}
 use Rattle.std.specs.Str.{bytes_eq, str_to_ascii_lowercase}
@@ -24,7 +24,7 @@ use Rattle.css_model.specs.Selectors.Tokens.{equals_sign, is_function, is_id_has
 use Rattle.css_model.specs.Text.Characters.{close_round, close_square, colon, dot, open_square}
 use Rattle.css_model.specs.Text.Lexemes.{is_delim_of, is_ident, is_sign_of}
 use Rattle.css_model.specs.Selectors.Classes.{is_name}
-use Rattle.selector_laws.specs.Grammar.{IsAttribute, IsCompound, IsFront, IsLast, IsNegated, IsPseudoElement, IsSelector, IsSimple, IsTest, IsType}
+use Rattle.selector_laws.specs.Grammar.{IsAttribute, IsCompound, IsFront, IsLast, IsNegated, IsPseudoElement, IsSimple, IsTest, IsType}
 use Rattle.selector_laws.specs.Grammar.IsAttribute.{present, equal, matching}
 use Rattle.selector_laws.specs.Grammar.IsCompound.{of_type, of_simple, more}
 use Rattle.selector_laws.specs.Grammar.IsFront.{at_start, by_sign, by_white}
@@ -34,57 +34,53 @@ use Rattle.selector_laws.specs.Grammar.IsPseudoElement.{one_colon, two_colons}
 use Rattle.selector_laws.specs.Grammar.IsSimple.{plain, negation}
 use Rattle.selector_laws.specs.Grammar.IsTest.{id, class, of_attribute, pseudo_class, position}
 use Rattle.selector_laws.specs.Grammar.IsType.{universal, named}
-use Rattle.selector_laws.specs.Positions.{WrittenAreTested, is_end_term, is_position_term, position_at, position_of, positions_in, positions_of, positions_written}
+use Rattle.selector_laws.specs.Positions.{WrittenAreTested, is_end_term, position_at, position_of, positions_in, positions_of, positions_written}
 use Rattle.selector_laws.proofs.DerivedStates.{derived}
 
 -- ---- what a term is not
 
--- kinds of which no function is
-abbrev NoFunction : TokenKind → Type 0
-NoFunction k = is_function k ≡ false
-
-hash_no_function : (k : TokenKind) → is_id_hash k ≡ true → NoFunction k
-hash_no_function kind.IdHash e = refl
-hash_no_function _ e = absurd (false≢true e)
+-- neither a colon nor a function
+abbrev IsPlain : TokenKind → Type 0
+IsPlain k = (is_sign_of colon k ≡ false) × (is_function k ≡ false)
 
 no_colon_function : (k : TokenKind) → is_function k ≡ true → is_sign_of colon k ≡ false
 no_colon_function kind.Function e = refl
 no_colon_function _ e = absurd (false≢true e)
 
-no_colon_ident : (k : TokenKind) → is_ident k ≡ true → is_sign_of colon k ≡ false
-no_colon_ident kind.Ident e = refl
+no_colon_ident : (k : TokenKind) → is_ident k ≡ true → IsPlain k
+no_colon_ident kind.Ident e = (refl, refl)
 no_colon_ident _ e = absurd (false≢true e)
 
-no_colon_hash : (k : TokenKind) → is_id_hash k ≡ true → is_sign_of colon k ≡ false
-no_colon_hash kind.IdHash e = refl
+no_colon_hash : (k : TokenKind) → is_id_hash k ≡ true → IsPlain k
+no_colon_hash kind.IdHash e = (refl, refl)
 no_colon_hash _ e = absurd (false≢true e)
 
-no_colon_string : (k : TokenKind) → is_string k ≡ true → is_sign_of colon k ≡ false
-no_colon_string kind.Str e = refl
+no_colon_string : (k : TokenKind) → is_string k ≡ true → IsPlain k
+no_colon_string kind.Str e = (refl, refl)
 no_colon_string _ e = absurd (false≢true e)
 
-no_colon_delim : (k : TokenKind) (c : ℕ) → is_delim_of c k ≡ true → is_sign_of colon k ≡ false
-no_colon_delim (kind.Delim d) c e = refl
+no_colon_delim : (k : TokenKind) (c : ℕ) → is_delim_of c k ≡ true → IsPlain k
+no_colon_delim (kind.Delim d) c e = (refl, refl)
 no_colon_delim _ c e = absurd (false≢true e)
 
-no_colon_sign : (k : TokenKind) (c : ℕ) → is_sign_of c k ≡ true → (c == colon) ≡ false → is_sign_of colon k ≡ false
-no_colon_sign (kind.Sign d) c e other = subst (λ (n : ℕ). (n == colon) ≡ false) (sym (eqb-true d c e)) other
+no_colon_sign : (k : TokenKind) (c : ℕ) → is_sign_of c k ≡ true → (c == colon) ≡ false → IsPlain k
+no_colon_sign (kind.Sign d) c e other = (subst (λ (n : ℕ). (n == colon) ≡ false) (sym (eqb-true d c e)) other, refl)
 no_colon_sign _ c e other = absurd (false≢true e)
 
-no_colon_op : (k : TokenKind) (op : Op) → op_of k ≡ Some op → is_sign_of colon k ≡ false
-no_colon_op (kind.Delim d) op e = refl
+no_colon_op : (k : TokenKind) (op : Op) → op_of k ≡ Some op → IsPlain k
+no_colon_op (kind.Delim d) op e = (refl, refl)
 no_colon_op _ op e = absurd (let none : ⊥ = cc in none)
 
-no_colon_combinator : (k : TokenKind) (link : Combinator) → combinator_of k ≡ Some link → is_sign_of colon k ≡ false
-no_colon_combinator (kind.Delim d) link e = refl
+no_colon_combinator : (k : TokenKind) (link : Combinator) → combinator_of k ≡ Some link → IsPlain k
+no_colon_combinator (kind.Delim d) link e = (refl, refl)
 no_colon_combinator _ link e = absurd (let none : ⊥ = cc in none)
 
 name_ident : (x : Term) → is_name x ≡ true → is_ident x.kind ≡ true
 name_ident x e = (and_parts (is_ident x.kind) (not x.only_dashes) e).0
 
-no_colon_value : (k : TokenKind) → (is_ident k || is_string k) ≡ true → is_sign_of colon k ≡ false
-no_colon_value kind.Ident e = refl
-no_colon_value kind.Str e = refl
+no_colon_value : (k : TokenKind) → (is_ident k || is_string k) ≡ true → IsPlain k
+no_colon_value kind.Ident e = (refl, refl)
+no_colon_value kind.Str e = (refl, refl)
 no_colon_value _ e = absurd (false≢true e)
 
 ident_no_function : (k : TokenKind) → is_ident k ≡ true → is_function k ≡ false
@@ -108,20 +104,33 @@ record Writes (ts : List Term) (positions : List AnB) : Type 0 where
   ends : colon_behind false ts ≡ false
 
 -- one more term that is no colon, behind one that is none
-plain_first : (t : Term) (ts : List Term) (positions : List AnB) → is_sign_of colon t.kind ≡ false → Writes ts positions → Writes (t ∷ ts) positions
+plain_first : (t : Term) (ts : List Term) (positions : List AnB) → IsPlain t.kind → Writes ts positions → Writes (t ∷ ts) positions
 plain_first t ts positions other later = record {
-  are = ap (λ b. positions_written b ts) other ∙ later.are;
-  ends = ap (λ b. colon_behind b ts) other ∙ later.ends;
+  are = ap (λ (rs : List (Result AnB Reason)). rs ++ positions_written (is_sign_of colon t.kind) ts) (says_nothing t other.1) ∙ ap (λ b. positions_written b ts) other.0 ∙ later.are;
+  ends = ap (λ b. colon_behind b ts) other.0 ∙ later.ends;
 }
+  where
+    says_nothing : (t : Term) → is_function t.kind ≡ false → position_at false t ≡ []
+    says_nothing t calls = ap (λ b. cond (b && (is_word (codes "nth-child") t.name || is_word (codes "nth-last-child") t.name)) (t.argument ∷ []) []) calls
 
 nothing_written : Writes [] []
 nothing_written = record { are = refl; ends = refl }
+
+-- a colon says nothing by itself
+colon_says : (behind : Bool) (x : Term) → is_sign_of colon x.kind ≡ true → position_at behind x ≡ []
+colon_says after x colons = at x.kind colons after
+  where
+    at : (k : TokenKind) → is_sign_of colon k ≡ true → (b : Bool) → cond (is_function k && (is_word (codes "nth-child") x.name || is_word (codes "nth-last-child") x.name)) (x.argument ∷ [])
+        (cond {A = List (Result AnB Reason)} (b && (is_ident k && (is_word (codes "first-child") x.name || is_word (codes "last-child") x.name))) (Ok first_position ∷ []) []) ≡ []
+    at (kind.Sign c) e true = refl
+    at (kind.Sign c) e false = refl
+    at _ e b = absurd (false≢true e)
 
 -- a colon and what it stands before
 colon_first : (sign t : Term) (ts : List Term) (here positions : List AnB) → is_sign_of colon sign.kind ≡ true → is_sign_of colon t.kind ≡ false → position_at true t ≡ map Ok here → Writes ts positions
     → Writes (sign ∷ t ∷ ts) (here ++ positions)
 colon_first sign t ts here positions colons other is later = record {
-  are = ap (λ b. positions_written b (t ∷ ts)) colons ∙ ap (λ b. position_at true t ++ positions_written b ts) other ∙ ap (λ (rs : List (Result AnB Reason)). rs ++ positions_written false ts) is
+  are = ap (λ (rs : List (Result AnB Reason)). rs ++ positions_written (is_sign_of colon sign.kind) (t ∷ ts)) (colon_says false sign colons) ∙ ap (λ b. positions_written b (t ∷ ts)) colons ∙ ap (λ b. position_at true t ++ positions_written b ts) other ∙ ap (λ (rs : List (Result AnB Reason)). rs ++ positions_written false ts) is
       ∙ ap (λ (rs : List (Result AnB Reason)). map Ok here ++ rs) later.are ∙ sym (map-append Ok here positions);
   ends = ap (λ b. colon_behind b (t ∷ ts)) colons ∙ ap (λ b. colon_behind b ts) other ∙ later.ends;
 }
@@ -225,7 +234,7 @@ writes_test ts test (of_attribute a) = (let w = writes_attribute ts test a in su
 writes_test ts test (pseudo_class sign x e colons touches names only row) =
     subst (λ (ps : List AnB). Writes ts ps) (append-nil (position_of test))
     (subst (λ (ts : List Term). Writes ts (position_of test ++ [])) (sym e)
-    (colon_first sign x [] (position_of test) [] colons (no_colon_ident x.kind names) (end_position x test names row) nothing_written))
+    (colon_first sign x [] (position_of test) [] colons (no_colon_ident x.kind names).0 (end_position x test names row) nothing_written))
 writes_test ts test (position sign x make argument e colons touches calls row reads is) =
     subst (λ (t : Test). Writes ts (position_of t)) (sym is)
     (subst (λ (ps : List AnB). Writes ts ps) (append-nil (position_of (make argument)))
@@ -268,15 +277,6 @@ not_position x calls word =
     ∙ ap (λ b. cond b (x.argument ∷ []) (cond (is_end_term x) (Ok first_position ∷ []) [])) (word_apart x.name (codes "not") (codes "nth-last-child") refl word)
     ∙ ap (λ b. cond {A = List (Result AnB Reason)} (b && (is_word (codes "first-child") x.name || is_word (codes "last-child") x.name)) (Ok first_position ∷ []) []) (function_no_ident x.kind calls)
 
--- nor is a colon
-colon_position : (x : Term) → is_sign_of colon x.kind ≡ true → position_at true x ≡ []
-colon_position x colons = at x.kind colons
-  where
-    at : (k : TokenKind) → is_sign_of colon k ≡ true → cond (is_function k && (is_word (codes "nth-child") x.name || is_word (codes "nth-last-child") x.name)) (x.argument ∷ [])
-        (cond (is_ident k && (is_word (codes "first-child") x.name || is_word (codes "last-child") x.name)) (Ok first_position ∷ []) []) ≡ []
-    at (kind.Sign c) e = refl
-    at _ e = absurd (false≢true e)
-
 -- nor is a pseudo-element
 element_position : (x : Term) (element : Pseudo) → is_ident x.kind ≡ true → row_of x.name pseudo_elements ≡ Some element → position_at true x ≡ []
 element_position x element ident row =
@@ -308,11 +308,12 @@ writes_compound ts simples (more front rest some simple first touches is) =
 
 writes_element : (ts : List Term) (element : Pseudo) → IsPseudoElement ts element → positions_written false ts ≡ map Ok []
 writes_element ts element (one_colon sign x e colons touches names row) =
-    ap (positions_written false) e ∙ (colon_first sign x [] [] [] colons (no_colon_ident x.kind names) (element_position x element names row) nothing_written).are
+    ap (positions_written false) e ∙ (colon_first sign x [] [] [] colons (no_colon_ident x.kind names).0 (element_position x element names row) nothing_written).are
 writes_element ts element (two_colons first second x e colons touches colons_again touches_again names row) =
     ap (positions_written false) e
+    ∙ ap (λ (rs : List (Result AnB Reason)). rs ++ positions_written (is_sign_of colon first.kind) (second ∷ x ∷ [])) (colon_says false first colons)
     ∙ ap (λ b. positions_written b (second ∷ x ∷ [])) colons
-    ∙ ap (λ rs. rs ++ positions_written (is_sign_of colon second.kind) (x ∷ [])) (colon_position second colons_again)
+    ∙ ap (λ (rs : List (Result AnB Reason)). rs ++ positions_written (is_sign_of colon second.kind) (x ∷ [])) (colon_says true second colons_again)
     ∙ ap (λ b. positions_written b (x ∷ [])) colons_again
     ∙ ap (λ (rs : List (Result AnB Reason)). rs ++ []) (element_position x element names row)
 

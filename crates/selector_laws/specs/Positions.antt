@@ -1,5 +1,5 @@
 -- The positions that a selector tests, in the order in which they are written.
-use Rattle.std.specs.Prelude.{◌≡◌, ◌&&◌, ◌||◌, Bool, true, false, if◌then◌else◌, reverse, List, [], ◌∷◌, ◌++◌, map, Result, Ok, codes}
+use Rattle.std.specs.Prelude.{◌≡◌, ◌&&◌, ◌||◌, Bool, false, if◌then◌else◌, reverse, List, [], ◌∷◌, ◌++◌, map, Result, Ok, codes}
 use Rattle.std.specs.List.{flat_map}
 use Rattle.css_model.specs.declared.position.AnB.{AnB}
 use Rattle.css_model.specs.declared.reason.Reason.{Reason}
@@ -34,10 +34,9 @@ is_position_term t = is_function t.kind && (is_word (codes "nth-child") t.name |
 abbrev pub is_end_term : Term → Bool
 is_end_term t = is_ident t.kind && (is_word (codes "first-child") t.name || is_word (codes "last-child") t.name)
 
--- what is written of a position behind a colon
+-- what a term says of a position: its argument, or, with a colon before it, that it is the first or the last
 abbrev pub position_at : Bool → Term → List (Result AnB Reason)
-position_at false t = []
-position_at true t = if is_position_term t then t.argument ∷ [] else if is_end_term t then Ok first_position ∷ [] else []
+position_at behind t = if is_position_term t then t.argument ∷ [] else if behind && is_end_term t then Ok first_position ∷ [] else []
 
 -- the positions that are written in terms, with a colon before them or without one
 abbrev pub positions_written : Bool → List Term → List (Result AnB Reason)

@@ -126,7 +126,7 @@ closed_escape : (w : List ℕ) → is_open_escape (w ++ close_round ∷ []) ≡ 
 closed_escape [] = refl
 closed_escape (c ∷ cs) = closed_hex 6 (c ∷ cs)
 
-closed_text : (w : List ℕ) (left : ℕ) → is_open_from left (w ++ close_round ∷ []) ≡ false
+pub closed_text : (w : List ℕ) (left : ℕ) → is_open_from left (w ++ close_round ∷ []) ≡ false
 closed_text [] zero = refl
 closed_text [] (suc left) = refl
 closed_text (c ∷ cs) (suc left) = closed_text cs left
@@ -137,7 +137,7 @@ closed_text (c ∷ cs) zero = which (c == backslash) (closed_escape cs) (closed_
     which true e later = ap (λ b. b || is_open_from (less_one (escape_after (cs ++ close_round ∷ []))) (cs ++ close_round ∷ [])) e ∙ later (less_one (escape_after (cs ++ close_round ∷ [])))
     which false e later = later 0
 
-gap_shut : (v w : List ℕ) (g : Gap) → is_open v ≡ false → is_open w ≡ false → gap_text v g ≡ gap_text w g
+pub gap_shut : (v w : List ℕ) (g : Gap) → is_open v ≡ false → is_open w ≡ false → gap_text v g ≡ gap_text w g
 gap_shut v w gap.Nothing e f = refl
 gap_shut v w gap.Comments e f = refl
 gap_shut v w gap.White e f = rw (e, f) refl
