@@ -4,4 +4,5 @@ mod Members
 mod PieceLemmas
 mod PieceWords
 mod SoundExamples
+mod TermLemmas
 mod WordLemmas

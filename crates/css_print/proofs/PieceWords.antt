@@ -1,23 +1,22 @@
--- The words of a piece are those of the sheet's tokens that stand in it.
-use Rattle.std.proofs.Common.{ℕ, ◌≤◌, ◌<◌, ◌≡◌, Bool, true, false, ◌&&◌, cond, List, [], ◌∷◌, length, map, drop, refl, sym, ap, ◌∙◌, arith}
+-- The tokens of a walk over a piece are those of the sheet's tokens that stand in it.
+use Rattle.std.proofs.Common.{ℕ, ◌+◌, ◌≤◌, ◌<◌, ◌≡◌, Bool, true, false, ◌&&◌, cond, List, [], ◌∷◌, length, map, drop, refl, sym, ap, ◌∙◌, arith}
 use Rattle.std.specs.Prelude.{nat_le, nat_eq}
 use Rattle.std.specs.List.{AllByRecursion, Contains, filter, starts_with}
 use Rattle.css_model.specs.declared.sheet.Piece.{Piece}
 use Rattle.css_model.specs.declared.token.Bracket.{Bracket}
-use Rattle.css_model.specs.declared.token.Gap.{Gap}
 use Rattle.css_model.specs.declared.token.Lexeme.{Lexeme}
 use Rattle.css_model.specs.declared.token.Token.{Token}
-use Rattle.css_model.specs.declared.token.TokenKind.{TokenKind}
-use Rattle.css_model.specs.Text.Kept.{Solid, solid, between}
-use Rattle.css_model.specs.Text.Lexemes.{is_white_kind, gap_of, lexeme, lexemes_in, after}
-use Rattle.css_model.specs.Text.Source.{IsWithin, text_at}
+use Rattle.css_model.specs.Text.Kept.{Solid, solid}
+use Rattle.css_model.specs.Text.Lexemes.{is_white_kind, lexeme, lexemes_in, after}
+use Rattle.css_model.specs.Text.Source.{IsWithin}
 use Rattle.css_model.specs.Sheets.Spelling.{stands_in, tokens_in, lexemes_of}
 use Rattle.css_model.specs.Text.Tokens.{Stream, stream, tokens, byte_order_mark}
 use Rattle.css_tokens.specs.Laws.{StandsIn, Restarts, TokensRestart}
 use Rattle.css_tokens.proofs.ForCallers.{mark_len}
-use Rattle.css_print.specs.Places.{BeginsAt, words_in}
-use Rattle.css_print.specs.Words.{WordTexts, up_to, solids, words}
+use Rattle.css_print.specs.Places.{BeginsAt, solids_in}
+use Rattle.css_print.specs.Words.{solid_of, solids_to}
 use Rattle.list_facts.proofs.Elements.{member, all_with}
+use Rattle.sheet_laws.proofs.ForCallers.{AreAscending}
 
 le_true : (a b : ℕ) → a ≤ b → nat_le a b ≡ true
 le_true a b h = grind (arith, h)
@@ -55,77 +54,47 @@ none_in source piece from brackets (t ∷ ts) past (low, stands, again, all) = w
     which true is later = rw is (later brackets)
     which false is later = rw (is, outside_behind piece (lexeme (length brackets) t ts) (omega (arith, low, past, stands.ordered))) (later (after t brackets))
 
--- two lists with the same words
-record Alike (xs ys : List Solid) : Type 0 where
-  same_words : words xs ≡ words ys
-  same_length : length xs ≡ length ys
-
--- what is known to stand behind the last token does not count
-alike_cons : (k : TokenKind) (bytes : List ℕ) (g h : Gap) (xs ys : List Solid) → (0 < length xs → g ≡ h) → Alike xs ys
-    → Alike (record { kind = k; bytes = bytes; gap = g } ∷ xs) (record { kind = k; bytes = bytes; gap = h } ∷ ys)
-alike_cons k bytes g h [] [] same rest = record { same_words = refl; same_length = refl }
-alike_cons k bytes g h [] (y ∷ ys) same rest = absurd (omega (arith, rest.same_length))
-alike_cons k bytes g h (x ∷ xs) [] same rest = absurd (omega (arith, rest.same_length))
-alike_cons k bytes g h (x ∷ xs) (y ∷ ys) same rest =
-    let e : g ≡ h = same (omega arith) in
-    let word : Gap → WordTexts = λ gap. record { text = bytes; behind = between (record { kind = k; bytes = bytes; gap = gap }) } in
-    record {
-      same_words = ap (λ (gap : Gap). word gap ∷ words (x ∷ xs)) e ∙ ap (λ (ws : List WordTexts). word h ∷ ws) rest.same_words;
-      same_length = omega (arith, rest.same_length);
-    }
-
-gap_up_to : (source : List ℕ) (place : ℕ) (ts : List Token) → 0 < length (solids source (up_to place ts)) → gap_of (up_to place ts) ≡ gap_of ts
-gap_up_to source place [] some = refl
-gap_up_to source place (t ∷ ts) some = which (nat_le t.span.«end» place) some
-  where
-    which : (b : Bool) → 0 < length (solids source (cond b (t ∷ up_to place ts) [])) → gap_of (cond b (t ∷ up_to place ts) []) ≡ gap_of (t ∷ ts)
-    which true some = refl
-    which false some = absurd (omega arith)
-
 -- the tokens up to the end of a piece are those that stand in it, where none stands before it
-cut_alike : (source : List ℕ) (piece : Piece) (from : ℕ) (brackets : List Bracket) (ts : List Token) → piece.start ≤ from → Restarts source from ts
-    → Alike (solids source (up_to piece.«end» ts)) (map (solid source) (filter (stands_in piece) (lexemes_in brackets ts)))
-cut_alike source piece from brackets [] low all = record { same_words = refl; same_length = refl }
-cut_alike source piece from brackets (t ∷ ts) low (behind, stands, again, all) =
+cut_same : (source : List ℕ) (piece : Piece) (from : ℕ) (brackets : List Bracket) (ts : List Token) → piece.start ≤ from → Restarts source from ts
+    → solids_to piece.«end» source ts ≡ map (solid source) (filter (stands_in piece) (lexemes_in brackets ts))
+cut_same source piece from brackets [] low all = refl
+cut_same source piece from brackets (t ∷ ts) low (behind, stands, again, all) =
     which (nat_le t.span.«end» piece.«end») refl (is_white_kind t.kind) refl
-    (λ (brackets : List Bracket). cut_alike source piece t.span.«end» brackets ts (omega (arith, low, behind, stands.ordered)) all)
+    (λ (brackets : List Bracket). cut_same source piece t.span.«end» brackets ts (omega (arith, low, behind, stands.ordered)) all)
   where
     which : (b : Bool) → nat_le t.span.«end» piece.«end» ≡ b → (w : Bool) → is_white_kind t.kind ≡ w
-        → ((brackets : List Bracket) → Alike (solids source (up_to piece.«end» ts)) (map (solid source) (filter (stands_in piece) (lexemes_in brackets ts))))
-        → Alike (solids source (cond (nat_le t.span.«end» piece.«end») (t ∷ up_to piece.«end» ts) []))
-        (map (solid source) (filter (stands_in piece) (cond (is_white_kind t.kind) (lexemes_in brackets ts) (lexeme (length brackets) t ts ∷ lexemes_in (after t brackets) ts))))
+        → ((brackets : List Bracket) → solids_to piece.«end» source ts ≡ map (solid source) (filter (stands_in piece) (lexemes_in brackets ts)))
+        → solids_to piece.«end» source (t ∷ ts) ≡ map (solid source) (filter (stands_in piece) (cond (is_white_kind t.kind) (lexemes_in brackets ts) (lexeme (length brackets) t ts ∷ lexemes_in (after t brackets) ts)))
     which false is true white later =
         let far : piece.«end» < t.span.«end» = false_le t.span.«end» piece.«end» is in
-        rw (is, white, none_in source piece t.span.«end» brackets ts (omega (arith, far)) all) (record { same_words = refl; same_length = refl })
+        rw (is, white, none_in source piece t.span.«end» brackets ts (omega (arith, far)) all) refl
     which false is false white later =
         let far : piece.«end» < t.span.«end» = false_le t.span.«end» piece.«end» is in
-        rw (is, white, outside_behind piece (lexeme (length brackets) t ts) far, none_in source piece t.span.«end» (after t brackets) ts (omega (arith, far)) all) (record { same_words = refl; same_length = refl })
+        rw (is, white, outside_behind piece (lexeme (length brackets) t ts) far, none_in source piece t.span.«end» (after t brackets) ts (omega (arith, far)) all) refl
     which true is true white later = rw (is, white) (later brackets)
     which true is false white later =
         let inside : stands_in piece (lexeme (length brackets) t ts) ≡ true = inside_piece piece (lexeme (length brackets) t ts) (omega (arith, low, behind)) is in
-        rw (is, white, inside)
-        (alike_cons t.kind (text_at source t.span) (gap_of (up_to piece.«end» ts)) (gap_of ts) (solids source (up_to piece.«end» ts))
-        (map (solid source) (filter (stands_in piece) (lexemes_in (after t brackets) ts))) (gap_up_to source piece.«end» ts) (later (after t brackets)))
+        rw (is, white, inside) (ap (λ ss. solid_of source t ts ∷ ss) (later (after t brackets)))
 
 -- a token that is no white space, among those of a source from a place on
 record Found (source : List ℕ) (from : ℕ) (brackets : List Bracket) (ts : List Token) (x : Lexeme) : Type 0 where
   low : from ≤ x.span.start
   within : IsWithin source x.span
-  same : (piece : Piece) → piece.start ≡ x.span.start → words_in source piece ≡ words (map (solid source) (filter (stands_in piece) (lexemes_in brackets ts)))
+  same : (piece : Piece) → piece.start ≡ x.span.start → solids_in source piece ≡ map (solid source) (filter (stands_in piece) (lexemes_in brackets ts))
 
--- the words of tokens from the first on
-first_words : (source : List ℕ) (brackets : List Bracket) (t : Token) (ts : List Token) → StandsIn source t
+-- the tokens from the first on
+first_solids : (source : List ℕ) (brackets : List Bracket) (t : Token) (ts : List Token) → StandsIn source t
     → (stream t.span.start (drop t.span.start source)).tokens ≡ record { kind = t.kind; span = t.span; comment_before = false } ∷ ts → Restarts source t.span.«end» ts
-    → (piece : Piece) → piece.start ≡ t.span.start → words_in source piece ≡ words (map (solid source) (filter (stands_in piece) (lexemes_in brackets (t ∷ ts))))
-first_words source brackets t ts stands again all piece is =
+    → (piece : Piece) → piece.start ≡ t.span.start → solids_in source piece ≡ map (solid source) (filter (stands_in piece) (lexemes_in brackets (t ∷ ts)))
+first_solids source brackets t ts stands again all piece is =
     let here : Token = record { kind = t.kind; span = t.span; comment_before = false } in
     let there : StandsIn source here = record { ordered = stands.ordered; inside = stands.inside; reads = stands.reads } in
-    let cut : ℕ → List WordTexts = λ (at : ℕ). words (solids source (up_to piece.«end» (stream at (drop at source)).tokens)) in
+    let cut : ℕ → List Solid = λ (at : ℕ). solids_to piece.«end» source (stream at (drop at source)).tokens in
     let low : piece.start ≤ t.span.start = omega (arith, is) in
     let least : t.span.start ≤ t.span.start = omega arith in
     ap cut is
-    ∙ ap (λ (us : List Token). words (solids source (up_to piece.«end» us))) again
-    ∙ (cut_alike source piece t.span.start brackets (here ∷ ts) low (least, there, again, all)).same_words
+    ∙ ap (λ (us : List Token). solids_to piece.«end» source us) again
+    ∙ cut_same source piece t.span.start brackets (here ∷ ts) low (least, there, again, all)
 
 found_all : (source : List ℕ) (from : ℕ) (brackets : List Bracket) (ts : List Token) → Restarts source from ts → AllByRecursion (Found source from brackets ts) (lexemes_in brackets ts)
 found_all source from brackets [] all = tt
@@ -157,7 +126,7 @@ found_all source from brackets (t ∷ ts) (low, stands, again, all) = which (is_
         let here : Found source from brackets (t ∷ ts) (lexeme (length brackets) t ts) = record {
           low = low;
           within = record { ordered = omega (arith, stands.ordered); inside = stands.inside };
-          same = first_words source brackets t ts stands again all;
+          same = first_solids source brackets t ts stands again all;
         } in
         rw other (here, all_with (Found source t.span.«end» (after t brackets) ts) (Found source from brackets (t ∷ ts)) (solid_more other) (lexemes_in (after t brackets) ts) (later (after t brackets)))
 
@@ -187,6 +156,39 @@ lexeme_within law source x among = (sheet_found law source x among).1.within
 pub begins_inside : TokensRestart → (source : List ℕ) (at : ℕ) → BeginsAt source at → at ≤ length source
 begins_inside law source at h = let w = lexeme_within law source h.token h.among in omega (arith, w.ordered, w.inside, h.begins)
 
--- The words of a piece that begins at a token are those of the sheet's tokens that stand in it.
-pub begins_words : TokensRestart → (source : List ℕ) (piece : Piece) → BeginsAt source piece.start → words_in source piece ≡ words (map (solid source) (tokens_in source piece))
-begins_words law source piece h = (sheet_found law source h.token h.among).1.same piece (sym h.begins)
+-- The tokens of a piece that begins at a token are those of the sheet that stand in it.
+pub begins_solids : TokensRestart → (source : List ℕ) (piece : Piece) → BeginsAt source piece.start → solids_in source piece ≡ map (solid source) (tokens_in source piece)
+begins_solids law source piece h = (sheet_found law source h.token h.among).1.same piece (sym h.begins)
+
+-- ---- tokens stand in order
+
+ascending_lower : (low at : ℕ) (xs : List Lexeme) → low ≤ at → AreAscending at xs → AreAscending low xs
+ascending_lower low at [] le ascending = tt
+ascending_lower low at (x ∷ xs) le ascending = (omega (arith, le, ascending.0), ascending.1, ascending.2)
+
+restarts_ascend : (source : List ℕ) (from : ℕ) (brackets : List Bracket) (ts : List Token) → Restarts source from ts → AreAscending from (lexemes_in brackets ts)
+restarts_ascend source from brackets [] all = tt
+restarts_ascend source from brackets (t ∷ ts) (low, stands, again, all) = which (is_white_kind t.kind) (λ (brackets : List Bracket). restarts_ascend source t.span.«end» brackets ts all)
+  where
+    which : (w : Bool) → ((brackets : List Bracket) → AreAscending t.span.«end» (lexemes_in brackets ts))
+        → AreAscending from (cond w (lexemes_in brackets ts) (lexeme (length brackets) t ts ∷ lexemes_in (after t brackets) ts))
+    which true later = ascending_lower from t.span.«end» (lexemes_in brackets ts) (omega (arith, low, stands.ordered)) (later brackets)
+    which false later = (low, stands.ordered, later (after t brackets))
+
+pub sheet_ascends : TokensRestart → (source : List ℕ) → AreAscending 0 (lexemes_of source)
+sheet_ascends law source =
+    let s = sheet_tokens law source in
+    ascending_lower 0 s.from (lexemes_of source) (omega arith) (restarts_ascend source s.from [] (tokens source true).tokens s.restart)
+
+-- no more tokens than bytes
+pub few_solids : (source : List ℕ) (place from : ℕ) (ts : List Token) → from ≤ length source → Restarts source from ts → length (solids_to place source ts) + from ≤ length source
+few_solids source place from [] low all = omega (arith, low)
+few_solids source place from (t ∷ ts) low (behind, stands, again, all) = which (nat_le t.span.«end» place) (is_white_kind t.kind) (few_solids source place t.span.«end» ts stands.inside all)
+  where
+    which : (b w : Bool) → length (solids_to place source ts) + t.span.«end» ≤ length source → length (cond b (cond w (solids_to place source ts) (solid_of source t ts ∷ solids_to place source ts)) []) + from ≤ length source
+    which true true later = omega (arith, later, behind, stands.ordered)
+    which true false later = omega (arith, later, behind, stands.ordered)
+    which false w later = omega (arith, low)
+
+pub few_in : TokensRestart → (source : List ℕ) (piece : Piece) → piece.start ≤ length source → length (solids_in source piece) ≤ length source
+few_in law source piece inside = (let f = few_solids source piece.«end» piece.start (stream piece.start (drop piece.start source)).tokens inside (law source piece.start inside) in omega (arith, f))

@@ -1,98 +1,87 @@
--- The words of tokens, and what they spell.
-use Rattle.std.proofs.Common.{ℕ, ◌-◌, ◌≤◌, ◌≡◌, Ok, length, drop, arith, Bool, true, false, not, cond, List, [], ◌∷◌, ◌++◌, Option, Some, None, map, refl, sym, ap, ◌∙◌, append_assoc}
+-- The tokens of a piece, as they are walked.
+use Rattle.std.proofs.Common.{ℕ, ◌≡◌, Bool, true, false, not, cond, List, [], ◌∷◌, ◌++◌, Option, Some, None, refl, sym, ap, ◌∙◌, append_assoc}
 use Rattle.std.specs.Prelude.{nat_le, MatchOption}
-use Rattle.std.specs.List.{AllByRecursion, flat_map}
-use Rattle.std.specs.Option.{is_some}
-use Rattle.std.proofs.lemmas.List.{append-nil, length-drop, length-take-le, take-append-drop}
+use Rattle.std.specs.List.{AllByRecursion}
+use Rattle.std.proofs.lemmas.Bool.{and_parts}
+use Rattle.std.proofs.lemmas.List.{append-nil}
 use Rattle.css_model.specs.declared.token.Gap.{Gap}
-use Rattle.css_model.specs.declared.token.Lexeme.{Lexeme}
 use Rattle.css_model.specs.declared.token.Token.{Token}
-use Rattle.css_model.specs.Text.Kept.{Solid, solid, between, behind_last, kept}
+use Rattle.css_model.specs.Text.Kept.{Solid, between, behind_last, kept}
 use Rattle.css_model.specs.Text.Lexemes.{is_white_kind, gap_of}
-use Rattle.css_model.specs.Text.Source.{text_at}
 use Rattle.css_tokens.specs.Laws.{StandsIn, Restarts}
-use Rattle.css_print.specs.Words.{WordTexts, up_to, seen, is_solid, after_white, solids, behind_before, words}
+use Rattle.css_print.specs.Words.{behind_kept, cut, front, is_ahead, kind_of_first, past_white, solid_of, solids_to}
 
--- a word with what is printed behind it, and without
-abbrev pub spelled : WordTexts → List ℕ
-spelled w = w.text ++ w.behind
+-- one more token of kept text
+pub kept_more : (done : List ℕ) (s : Solid) (ss : List Solid) → (done ++ (s.bytes ++ behind_kept s (kind_of_first ss))) ++ kept ss ≡ done ++ kept (s ∷ ss)
+kept_more done s [] = append-nil (done ++ (s.bytes ++ behind_last s))
+kept_more done s (t ∷ ss) = append_assoc done (s.bytes ++ between s) (kept (t ∷ ss))
 
-abbrev pub bare : WordTexts → List ℕ
-bare w = w.text
-
-pub words_kept : (ss : List Solid) → flat_map spelled (words ss) ≡ kept ss
-words_kept [] = refl
-words_kept (s ∷ []) = append-nil (s.bytes ++ behind_last s)
-words_kept (s ∷ t ∷ ss) = ap (λ (rest : List ℕ). s.bytes ++ between s ++ rest) (words_kept (t ∷ ss))
-
-pub words_bare : (source : List ℕ) (xs : List Lexeme) → flat_map bare (words (map (solid source) xs)) ≡ flat_map (λ (x : Lexeme). text_at source x.span) xs
-words_bare source [] = refl
-words_bare source (x ∷ xs) = ap (λ (rest : List ℕ). text_at source x.span ++ rest) (words_bare source xs)
-
--- one more word that was written
-pub one_more : (f : WordTexts → List ℕ) (done : List ℕ) (old : List WordTexts) (w : WordTexts) (new : List WordTexts) → old ≡ w ∷ new → (done ++ f w) ++ flat_map f new ≡ done ++ flat_map f old
-one_more f done old w new is = append_assoc done (f w) (flat_map f new) ∙ ap (λ (ws : List WordTexts). done ++ flat_map f ws) (sym is)
-
--- white space makes no word
-pub solids_after_white : (source : List ℕ) (ts : List Token) → solids source (after_white ts) ≡ solids source ts
-solids_after_white source [] = refl
-solids_after_white source (t ∷ ts) = which (is_white_kind t.kind) refl (solids_after_white source ts)
+-- a token that is cut off is no part
+pub cut_front : (place : ℕ) (o : Option Token) (ts : List Token) → past_white place (front (cut place o) ts) ≡ past_white place (front o ts)
+cut_front place None ts = refl
+cut_front place (Some t) ts = which (nat_le t.span.«end» place) refl
   where
-    which : (w : Bool) → is_white_kind t.kind ≡ w → solids source (after_white ts) ≡ solids source ts → solids source (after_white (t ∷ ts)) ≡ solids source (t ∷ ts)
-    which true white later = rw white later
-    which false other later = rw other (rw other refl)
+    which : (b : Bool) → nat_le t.span.«end» place ≡ b → past_white place (front (cond b (Some t) None) ts) ≡ past_white place (t ∷ ts)
+    which true e = refl
+    which false e = sym (ap (λ b. cond b (cond (is_white_kind t.kind) (past_white place ts) (t ∷ ts)) []) e)
 
-no_white : (b : Bool) → not b ≡ true → b ≡ false
-no_white true is = absurd (cc)
-no_white false is = refl
+-- a token of the piece that is white space
+pub white_passed : (place : ℕ) (t : Token) (o : Option Token) (old new : List Token) → cut place (Some t) ≡ Some t → is_white_kind t.kind ≡ true → front o new ≡ old
+    → past_white place (front (cut place o) new) ≡ past_white place (t ∷ old)
+white_passed place t o old new inside white e =
+    cut_front place o new ∙ ap (past_white place) e ∙ sym (which (nat_le t.span.«end» place) refl inside)
+  where
+    which : (b : Bool) → nat_le t.span.«end» place ≡ b → cond b (Some t) None ≡ Some t → past_white place (t ∷ old) ≡ past_white place old
+    which true is inside = rw (is, white) refl
+    which false is inside = absurd (let none : ⊥ = cc in none)
 
-pub solid_first : (source : List ℕ) (t : Token) (ts : List Token) → is_solid (Some t) ≡ true
-    → solids source (t ∷ ts) ≡ record { kind = t.kind; bytes = text_at source t.span; gap = gap_of ts } ∷ solids source ts
-solid_first source t ts solid = rw (no_white (is_white_kind t.kind) solid) refl
+-- a token of the piece that is none
+pub solid_stays : (place : ℕ) (t : Token) (ts : List Token) → nat_le t.span.«end» place ≡ true → is_white_kind t.kind ≡ false → past_white place (t ∷ ts) ≡ t ∷ ts
+solid_stays place t ts inside white = rw (inside, white) refl
 
--- whether a word is the last
-pub behind_next : (source : List ℕ) (s : Solid) (ahead : Option Token) (place : ℕ) (ts : List Token) (last : Bool) → is_solid ahead ≡ true → is_some ahead ≡ not last
-    → cond last (behind_last s) (between s) ≡ behind_before s (solids source (seen ahead place ts))
-behind_next source s None place ts true solid told = refl
-behind_next source s None place ts false solid told = absurd (cc)
-behind_next source s (Some t) place ts true solid told = absurd (cc)
-behind_next source s (Some t) place ts false solid told = ap (behind_before s) (sym (solid_first source t (up_to place ts) solid))
+pub cut_inside : (place : ℕ) (o : Option Token) (t : Token) → cut place o ≡ Some t → nat_le t.span.«end» place ≡ true
+cut_inside place None t e = absurd (let none : ⊥ = cc in none)
+cut_inside place (Some u) t e = which (nat_le u.span.«end» place) refl e
+  where
+    which : (b : Bool) → nat_le u.span.«end» place ≡ b → cond b (Some u) None ≡ Some t → nat_le t.span.«end» place ≡ true
+    which true is e = (let same : u ≡ t = cc in ap (λ t. nat_le t.span.«end» place) (sym same) ∙ is)
+    which false is e = absurd (let none : ⊥ = cc in none)
 
--- the words of tokens whose first is no white space
-pub words_first : (source : List ℕ) (t : Token) (ts : List Token) (ahead : Option Token) (place : ℕ) (rest : List Token) (text behind : List ℕ) → is_solid (Some t) ≡ true
-    → seen ahead place rest ≡ after_white ts
-    → text ≡ text_at source t.span → behind ≡ behind_before (record { kind = t.kind; bytes = text_at source t.span; gap = gap_of ts }) (solids source (seen ahead place rest))
-    → words (solids source (t ∷ ts)) ≡ record { text = text; behind = behind } ∷ words (solids source (seen ahead place rest))
-words_first source t ts ahead place rest text behind solid is spells follows =
-    let s : Solid = record { kind = t.kind; bytes = text_at source t.span; gap = gap_of ts } in
-    let same : solids source ts ≡ solids source (seen ahead place rest) = sym (ap (solids source) is ∙ solids_after_white source ts) in
-    ap words (solid_first source t ts solid)
-    ∙ ap (λ (ss : List Solid). words (s ∷ ss)) same
-    ∙ ap (λ (cs : List ℕ). record { text = s.bytes; behind = cs } ∷ words (solids source (seen ahead place rest))) (sym follows)
-    ∙ ap (λ (cs : List ℕ). record { text = cs; behind = behind } ∷ words (solids source (seen ahead place rest))) (sym spells)
+pub solids_past_white : (place : ℕ) (source : List ℕ) (ts : List Token) → solids_to place source (past_white place ts) ≡ solids_to place source ts
+solids_past_white place source [] = refl
+solids_past_white place source (t ∷ ts) = which (nat_le t.span.«end» place) refl (is_white_kind t.kind) refl (solids_past_white place source ts)
+  where
+    which : (b : Bool) → nat_le t.span.«end» place ≡ b → (w : Bool) → is_white_kind t.kind ≡ w → solids_to place source (past_white place ts) ≡ solids_to place source ts
+        → solids_to place source (past_white place (t ∷ ts)) ≡ solids_to place source (t ∷ ts)
+    which true is true white later = rw (is, white) later
+    which true is false white later = rw (is, white) (rw (is, white) refl)
+    which false is w white later = rw is refl
+
+pub solids_first : (place : ℕ) (source : List ℕ) (t : Token) (ts : List Token) → is_ahead place (Some t) ≡ true → solids_to place source (t ∷ ts) ≡ solid_of source t ts ∷ solids_to place source ts
+solids_first place source t ts ahead =
+    let b = and_parts (nat_le t.span.«end» place) (not (is_white_kind t.kind)) ahead in
+    let white : is_white_kind t.kind ≡ false = not_true (is_white_kind t.kind) b.1 in
+    rw (b.0, white) refl
+  where
+    not_true : (b : Bool) → not b ≡ true → b ≡ false
+    not_true true e = sym e
+    not_true false e = refl
 
 pub stand_all : (source : List ℕ) (from : ℕ) (ts : List Token) → Restarts source from ts → AllByRecursion (StandsIn source) ts
 stand_all source from [] all = tt
 stand_all source from (t ∷ ts) (low, stands, again, all) = (stands, stand_all source t.span.«end» ts all)
 
-pub stand_up_to : (source : List ℕ) (place : ℕ) (ts : List Token) → AllByRecursion (StandsIn source) ts → AllByRecursion (StandsIn source) (up_to place ts)
-stand_up_to source place [] all = tt
-stand_up_to source place (t ∷ ts) (first, all) = which (nat_le t.span.«end» place) (stand_up_to source place ts all)
+pub stand_past_white : (source : List ℕ) (place : ℕ) (ts : List Token) → AllByRecursion (StandsIn source) ts → AllByRecursion (StandsIn source) (past_white place ts)
+stand_past_white source place [] all = tt
+stand_past_white source place (t ∷ ts) (first, all) = which (nat_le t.span.«end» place) (is_white_kind t.kind) (stand_past_white source place ts all)
   where
-    which : (b : Bool) → AllByRecursion (StandsIn source) (up_to place ts) → AllByRecursion (StandsIn source) (cond b (t ∷ up_to place ts) [])
-    which true later = (first, later)
-    which false later = tt
-
-pub stand_after_white : (source : List ℕ) (ts : List Token) → AllByRecursion (StandsIn source) ts → AllByRecursion (StandsIn source) (after_white ts)
-stand_after_white source [] all = tt
-stand_after_white source (t ∷ ts) (first, all) = which (is_white_kind t.kind) (stand_after_white source ts all)
-  where
-    which : (b : Bool) → AllByRecursion (StandsIn source) (after_white ts) → AllByRecursion (StandsIn source) (cond b (after_white ts) (t ∷ ts))
-    which true later = later
-    which false later = (first, all)
+    which : (b w : Bool) → AllByRecursion (StandsIn source) (past_white place ts) → AllByRecursion (StandsIn source) (cond b (cond w (past_white place ts) (t ∷ ts)) [])
+    which true true later = later
+    which true false later = (first, all)
+    which false w later = tt
 
 -- what stands before a token that was read ahead, or before the end
-pub gap_seen : (ahead : Option Token) (gap : Gap) → MatchOption ahead (gap ≡ gap_of []) (λ (t : Token). (others : List Token) → gap ≡ gap_of (t ∷ others))
-    → (place : ℕ) (others : List Token) → gap ≡ gap_of (seen ahead place others)
-gap_seen None gap is place others = is
-gap_seen (Some t) gap is place others = is (up_to place others)
+pub gap_seen : (next : Option Token) (gap : Gap) → MatchOption next (gap ≡ gap_of []) (λ (t : Token). (others : List Token) → gap ≡ gap_of (t ∷ others))
+    → (others : List Token) → gap ≡ gap_of (front next others)
+gap_seen None gap is others = is
+gap_seen (Some t) gap is others = is others

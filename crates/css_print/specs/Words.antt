@@ -1,9 +1,12 @@
 -- The tokens of a text that are no white space, up to a place.
 use Rattle.std.specs.Prelude.{ℕ, nat_le, ◌&&◌, Bool, true, not, if◌then◌else◌, List, [], ◌∷◌, Option, Some, None}
+use Rattle.css_model.specs.declared.token.Gap.{Gap}
+use Rattle.css_model.specs.declared.token.Gap.TheVariants as gap
 use Rattle.css_model.specs.declared.token.Token.{Token}
 use Rattle.css_model.specs.declared.token.TokenKind.{TokenKind}
-use Rattle.css_model.specs.Text.Kept.{Solid}
-use Rattle.css_model.specs.Text.Lexemes.{is_white_kind, gap_of}
+use Rattle.css_model.specs.Text.Characters.{close_round}
+use Rattle.css_model.specs.Text.Kept.{Solid, behind_last, between}
+use Rattle.css_model.specs.Text.Lexemes.{gap_of, is_sign_of, is_white_kind}
 use Rattle.css_model.specs.Text.Source.{text_at}
 
 -- a token that was read ahead, before others
@@ -39,3 +42,16 @@ kind_of_first (s ∷ ss) = Some s.kind
 abbrev pub past_white : ℕ → List Token → List Token
 past_white place [] = []
 past_white place (t ∷ ts) = if nat_le t.span.«end» place then (if is_white_kind t.kind then past_white place ts else t ∷ ts) else []
+
+-- `)`
+abbrev pub closes : Solid → Bool
+closes s = is_sign_of close_round s.kind
+
+abbrev pub gap_of_first : List Solid → Gap
+gap_of_first [] = gap.Nothing
+gap_of_first (s ∷ ss) = s.gap
+
+-- what is printed behind a token that is kept, before another or as the last
+abbrev pub behind_kept : Solid → Option TokenKind → List ℕ
+behind_kept s None = behind_last s
+behind_kept s (Some next) = between s

@@ -1,8 +1,9 @@
 //! The printed form of a step and an offset: the shortest notation (Selectors 3, section 6.6.5.2).
 
-ghost use Rattle.std.specs.Prelude.{◌≡◌, ◌∷◌, ◌++◌, [], OnOk};
+ghost use Rattle.std.specs.Prelude.{◌≡◌, ◌∷◌, ◌++◌, OnOk};
 ghost use Rattle.std.specs.Fmt.{signed_decimal};
 ghost use Rattle.css_model.specs.Positions.Printed.{anb_text, letter_n, numbers_text, offset_text, step_text};
+ghost use Rattle.css_print.specs.Terms.{plus_before};
 
 use crate::output::Output;
 use css_model::AnB;
@@ -26,26 +27,40 @@ fn put_step<O: Output>(out: &mut O, step: i32) -> Result<(), O::Error>
     }
 }
 
+/// The sign before a size that has none of its own.
+fn plus_before(offset: i32) -> &'static [u8]
+    ensures { result.now ≡ plus_before offset }
+{
+    if offset < 0 { b"" } else { b"+" }
+}
+
+/// An offset with its sign.
+fn put_signed<O: Output>(out: &mut O, offset: i32) -> Result<(), O::Error>
+    ensures { OnOk result (O.more out.old (plus_before offset ++ signed_decimal offset) out.new) }
+{
+    out.put(plus_before(offset))?;
+    put_number(out, offset)
+}
+
 /// What stands behind the `n`: nothing for 0.
 fn put_offset<O: Output>(out: &mut O, offset: i32) -> Result<(), O::Error>
     ensures { OnOk result (O.more out.old (offset_text offset) out.new) }
 {
     if offset == 0 {
-        return out.put(b"");
+        out.put(b"")
+    } else {
+        put_signed(out, offset)
     }
-    if offset > 0 {
-        out.put(b"+")?;
-    }
-    put_number(out, offset)
 }
 
 /// Both, with the `n` between them.
-fn put_both<O: Output>(out: &mut O, x: AnB) -> Result<(), O::Error>
-    ensures { OnOk result (O.more out.old (step_text x.a ++ letter_n ∷ offset_text x.b) out.new) }
+fn put_both<O: Output>(out: &mut O, step: i32, offset: i32) -> Result<(), O::Error>
+    ensures { OnOk result (O.more out.old (step_text step ++ letter_n ∷ offset_text offset) out.new) }
 {
-    put_step(out, x.a)?;
+    put_step(out, step)?;
     out.put(b"n")?;
-    put_offset(out, x.b)
+    put_offset(out, offset)?;
+    Ok(())
 }
 
 /// The offset alone for step 0, else both.
@@ -55,7 +70,7 @@ fn put_numbers<O: Output>(out: &mut O, x: AnB) -> Result<(), O::Error>
     if x.a == 0 {
         put_number(out, x.b)
     } else {
-        put_both(out, x)
+        put_both(out, x.a, x.b)
     }
 }
 

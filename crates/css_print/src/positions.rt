@@ -1,26 +1,15 @@
 //! The positions that a selector tests, in the order of its text.
 
-ghost use Rattle.std.specs.Prelude.{◌≡◌, ◌∷◌, [], MatchOption};
+ghost use Rattle.std.specs.Prelude.{◌≡◌, ◌∷◌, [], drop, MatchOption};
 ghost use Rattle.selector_laws.specs.Positions.{position_of, positions_in};
 
 use css_model::{AnB, Compound, Selector, Simple, Test};
-use std::marker::Model;
 
-/// The positions that compounds test, which stand from right to left, behind those of simple selectors.
-#[derive(Drop)]
+/// The positions that simple selectors test, and behind them those of compounds, which stand from right to left.
+#[derive(Clone, Copy)]
 pub(crate) struct Positions<'a> {
     simples: &'a [Simple],
     compounds: &'a [Compound],
-}
-
-impl<'a> Model for Positions<'a> {
-    ghost use Rattle.std.specs.Prelude.{List, ◌++◌};
-    ghost use Rattle.css_model.specs.declared.position.AnB.{AnB};
-    ghost use Rattle.selector_laws.specs.Positions.{positions_in, positions_of};
-
-    ghost Value = { List AnB };
-
-    ghost view = { λ p. positions_in p.simples.now ++ positions_of p.compounds.now };
 }
 
 /// The position that a simple selector tests, if it does.
@@ -35,7 +24,7 @@ fn position(simple: &Simple) -> Option<AnB>
 
 /// The first position of simple selectors, which are those behind it then.
 fn next_in(simples: &mut &[Simple]) -> Option<AnB>
-    ensures { MatchOption result (positions_in simples.old.now ≡ []) (λ x. positions_in simples.old.now ≡ x ∷ positions_in simples.new.now) }
+    ensures { MatchOption result ((positions_in simples.old.now ≡ []) × (positions_in simples.new.now ≡ [])) (λ x. positions_in simples.old.now ≡ x ∷ positions_in simples.new.now) }
 {
     'simples: while let [simple, rest @ ..] = *simples {
         *simples = rest;
@@ -47,11 +36,12 @@ fn next_in(simples: &mut &[Simple]) -> Option<AnB>
 }
 
 impl<'a> Positions<'a> {
+    ghost use Rattle.css_print.specs.Positions.{remaining};
     ghost use Rattle.selector_laws.specs.Positions.{positions_of};
 
     /// The positions of a selector.
     pub(crate) fn new(selector: &'a Selector) -> Positions<'a>
-        ensures { result ≡ positions_of selector.now.chain }
+        ensures { remaining result ≡ positions_of selector.now.chain }
     {
         Positions {
             simples: &[],
@@ -61,19 +51,32 @@ impl<'a> Positions<'a> {
 
     /// The next position, or none behind the last.
     pub(crate) fn next(&mut self) -> Option<AnB>
-        ensures { MatchOption result (self.old ≡ []) (λ x. self.old ≡ x ∷ self.new) }
+        ensures { MatchOption result ((remaining self.old ≡ []) × (remaining self.new ≡ [])) (λ x. remaining self.old ≡ x ∷ remaining self.new) }
     {
+        let mut simples = self.simples;
+        let mut compounds = self.compounds;
         'compounds: loop {
-            if let Some(x) = next_in(&mut self.simples) {
+            if let Some(x) = next_in(&mut simples) {
+                *self = Positions { simples, compounds };
                 return Some(x);
             }
-            match self.compounds {
-                [] => return None,
-                [rest @ .., compound] => {
-                    self.compounds = rest;
-                    self.simples = compound.simples.as_slice();
+            match compounds.split_last() {
+                None => {
+                    *self = Positions { simples, compounds };
+                    return None;
+                }
+                Some((compound, rest)) => {
+                    compounds = rest;
+                    simples = compound.simples.as_slice();
                 }
             }
         }
+    }
+
+    /// Passes the next position, if there is one.
+    pub(crate) fn pass(&mut self)
+        ensures { remaining self.new ≡ drop 1 (remaining self.old) }
+    {
+        self.next();
     }
 }

@@ -9,16 +9,30 @@ ghost use Rattle.css_model.specs.Sheets.Sound.{IsSoundSelector, IsSoundDeclarati
 ghost use Rattle.css_model.specs.Sheets.Spelling.{kept_text};
 ghost use Rattle.css_print.specs.Fronts.{tally_of};
 ghost use Rattle.css_print.specs.Places.{BeginsAt};
+ghost use Rattle.css_print.specs.Walking.{solid_of};
+ghost use Rattle.css_print.specs.Words.{behind_kept};
 
 use crate::output::Output;
+use crate::selector::put_selector;
 use crate::tally::Tally;
-use crate::walk::Walk;
-use css_model::{DeclItem, Item, Piece, Rule, SelItem, Sheet};
+use crate::walk::{Walk, Word};
+use css_model::{DeclItem, Item, Piece, Rule, SelItem, Sheet, TokenKind};
 use css_tokens::tokens_restart;
 use std::alloc::{AllocError, Global};
+use verbatim_text::{behind_last, between};
 
 /// U+FEFF in UTF-8.
 const BYTE_ORDER_MARK: &[u8] = b"\xEF\xBB\xBF";
+
+/// What is printed behind a token that is kept, before another or as the last.
+fn behind(word: Word<'_>, next: Option<TokenKind>) -> &'static [u8]
+    ensures { result.now ≡ behind_kept (solid_of word.entry) next }
+{
+    match next {
+        None => behind_last(word.kind),
+        Some(_) => between(word.kind, word.text, word.gap),
+    }
+}
 
 /// Writes the kept text of a piece.
 fn put_kept<O: Output>(out: &mut O, piece: Piece, source: &[u8]) -> Result<(), O::Error>
@@ -30,21 +44,7 @@ fn put_kept<O: Output>(out: &mut O, piece: Piece, source: &[u8]) -> Result<(), O
     let mut walk = Walk::new(source, piece);
     'words: while let Some(word) = walk.next() {
         out.put(word.text)?;
-        out.put(word.behind)?;
-    }
-    Ok(())
-}
-
-/// Writes the tokens of a selector, with nothing between them.
-fn put_selector<O: Output>(out: &mut O, item: &SelItem, source: &[u8]) -> Result<(), O::Error>
-    requires length { length source.now ≤ max_bytes }
-    requires sound { IsSoundSelector source.now item.now }
-    ensures { OnOk result (O.more out.old (printed_selector source.now item.now) out.new) }
-{
-    tokens_restart();
-    let mut walk = Walk::new(source, item.piece);
-    'words: while let Some(word) = walk.next() {
-        out.put(word.text)?;
+        out.put(behind(word, walk.next_kind()))?;
     }
     Ok(())
 }
@@ -159,7 +159,8 @@ pub fn print_len(sheet: &Sheet, source: &[u8]) -> u64
     tally(sheet.items.as_slice(), source).len_behind_mark()
 }
 
-/// The printed text of a selector: its tokens in `source`, which the item is sound for.
+/// The printed text of a selector that is sound for `source`: its tokens there, with white space only where it is a
+/// combinator (Selectors 3, section 8), and each argument of `:nth-child()` and its kin in its shortest notation.
 pub fn print_selector(alloc: Global, item: &SelItem, source: &[u8]) -> Result<Vec<u8>, AllocError>
     requires length { length source.now ≤ max_bytes }
     requires sound { IsSoundSelector source.now item.now }

@@ -113,8 +113,8 @@ impl<'a> Walk<'a> {
 
     /// What the next token is, if there is one.
     pub(crate) fn next_kind(&self) -> Option<TokenKind>
-        requires { IsReady self }
-        ensures { result ≡ kind_of_first (left self) }
+        requires { IsReady self.now }
+        ensures { result ≡ kind_of_first (left self.now) }
     {
         let token = self.ahead?;
         Some(token.kind)

@@ -50,7 +50,7 @@ fn is_lone(kind: TokenKind) -> bool
 }
 
 /// What stands for what is behind a token of these bytes that is no lone backslash.
-fn gap_text(text: &[u8], gap: Gap) -> &'static [u8]
+pub fn gap_text(text: &[u8], gap: Gap) -> &'static [u8]
     ensures { result.now ≡ kept.gap_text text.now gap }
 {
     match gap {

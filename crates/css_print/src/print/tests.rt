@@ -1,13 +1,12 @@
 //! Printed texts of sheets that are made by hand, and their lengths.
 
-ghost use Rattle.std.specs.Prelude.{◌≡◌, ◌∷◌, [], IfOk};
-ghost use Rattle.css_model.specs.Sheets.Selectors.{of_one_test, class_test};
+ghost use Rattle.std.specs.Prelude.{◌≡◌, ◌∷◌, [], None, false, pos, codes, IfOk};
 ghost use Rattle.css_model.specs.Sheets.Sound.{IsSoundSelector, IsSoundDeclaration, IsSoundRule, IsSoundItem, IsSound};
 
 use super::{print_decl, print_len, print_selector, print_sheet};
 use css_model::{
-    AttrTest, Bytes, Compound, Decl, DeclItem, Item, Op, Piece, Rule, SelItem, Selector, Sheet,
-    Simple, Test, Text,
+    AnB, AttrTest, Bytes, Combinator, Compound, Decl, DeclItem, Item, Op, Piece, Rule, SelItem,
+    Selector, Sheet, Simple, Test, Text,
 };
 use smallvec::SmallVec;
 use std::alloc::{AllocError, Global};
@@ -24,15 +23,24 @@ const BLOCK: &[u8] = b"@m  a /* */ b/* */(c)\\31/**/ d \\\n {e}\n";
 /// A byte order mark, and a selector that begins with one more.
 const MARKED: &[u8] = b"\xEF\xBB\xBF\xEF\xBB\xBF{}";
 
-/// The selector of one simple selector.
-fn selector(alloc: Global, test: Test) -> Result<Selector, AllocError>
-    ensures { IfOk result (λ s. s ≡ of_one_test test) }
+/// A position with white space in its argument, inside another element, with a comment before it.
+const INSIDE: &[u8] = b"b /**/a:nth-child( 2n + 1 ){top:0}";
+
+fn simple(test: Test) -> Simple
+    ensures { result ≡ record { negated = false; test = test } }
 {
-    let mut simples = SmallVec::new(alloc);
-    simples.push(Simple {
+    Simple {
         negated: false,
         test,
-    })?;
+    }
+}
+
+/// The selector of one simple selector.
+fn selector(alloc: Global, test: Test) -> Result<Selector, AllocError>
+    ensures { IfOk result (λ s. s ≡ record { chain = ((record { negated = false; test = test }) ∷ []) ∷ []; links = []; pseudo = None }) }
+{
+    let mut simples = SmallVec::new(alloc);
+    simples.push(simple(test))?;
     let mut chain = Vec::new(alloc);
     chain.push(Compound { simples })?;
     Ok(Selector {
@@ -42,15 +50,35 @@ fn selector(alloc: Global, test: Test) -> Result<Selector, AllocError>
     })
 }
 
-fn type_selector(alloc: Global) -> Result<Selector, AllocError>
-    ensures { IfOk result (λ s. s ≡ of_one_test (Test.Kind (97 ∷ []))) }
+fn name(alloc: Global, letter: char) -> Result<Test, AllocError>
+    ensures { IfOk result (λ t. t ≡ Test.Kind (letter ∷ [])) }
 {
-    let name = Text::new(Vec::from_slice(alloc, &['a'])?);
-    selector(alloc, Test::Kind(name))
+    Ok(Test::Kind(Text::new(Vec::from_slice(alloc, &[letter])?)))
+}
+
+/// The type selector `a` with an odd position, inside `b`.
+fn inside_selector(alloc: Global) -> Result<Selector, AllocError>
+    ensures { IfOk result (λ s. s ≡ record { chain = ((record { negated = false; test = Test.Kind (97 ∷ []) }) ∷ (record { negated = false; test = Test.Nth (record { a = pos 2; b = pos 1 }) }) ∷ []) ∷ ((record { negated = false; test = Test.Kind (98 ∷ []) }) ∷ []) ∷ []; links = Combinator.Inside ∷ []; pseudo = None }) }
+{
+    let mut inner = SmallVec::new(alloc);
+    inner.push(simple(name(alloc, 'a')?))?;
+    inner.push(simple(Test::Nth(AnB { a: 2, b: 1 })))?;
+    let mut outer = SmallVec::new(alloc);
+    outer.push(simple(name(alloc, 'b')?))?;
+    let mut chain = Vec::new(alloc);
+    chain.push(Compound { simples: inner })?;
+    chain.push(Compound { simples: outer })?;
+    let mut links = Vec::new(alloc);
+    links.push(Combinator::Inside)?;
+    Ok(Selector {
+        chain,
+        links,
+        pseudo: None,
+    })
 }
 
 fn class_selector(alloc: Global) -> Result<Selector, AllocError>
-    ensures { IfOk result (λ s. s ≡ of_one_test (class_test (98 ∷ []))) }
+    ensures { IfOk result (λ s. s ≡ record { chain = ((record { negated = false; test = Test.Attr (record { name = codes "class"; op = Op.Word; value = 98 ∷ [] }) }) ∷ []) ∷ []; links = []; pseudo = None }) }
 {
     let class = AttrTest {
         name: Text::new(Vec::from_slice(alloc, &['c', 'l', 'a', 's', 's'])?),
@@ -65,7 +93,7 @@ fn type_item(alloc: Global) -> Result<SelItem, AllocError>
     ensures { IfOk result (IsSoundSelector RULE.now) }
 {
     Ok(SelItem {
-        selector: type_selector(alloc)?,
+        selector: selector(alloc, name(alloc, 'a')?)?,
         piece: Piece { start: 0, end: 1 },
     })
 }
@@ -77,6 +105,16 @@ fn class_item(alloc: Global) -> Result<SelItem, AllocError>
     Ok(SelItem {
         selector: class_selector(alloc)?,
         piece: Piece { start: 2, end: 8 },
+    })
+}
+
+/// The selector of an element inside another.
+fn inside_item(alloc: Global) -> Result<SelItem, AllocError>
+    ensures { IfOk result (IsSoundSelector INSIDE.now) }
+{
+    Ok(SelItem {
+        selector: inside_selector(alloc)?,
+        piece: Piece { start: 0, end: 27 },
     })
 }
 
@@ -162,6 +200,9 @@ fn prints_selectors(rt: HostRuntime) -> Result<(), Fail> {
     let item = class_item(rt.alloc())?;
     let text = print_selector(rt.alloc(), &item, RULE)?;
     assert_eq!(rt; text.as_slice(), b".b".as_slice());
+    let item = inside_item(rt.alloc())?;
+    let text = print_selector(rt.alloc(), &item, INSIDE)?;
+    assert_eq!(rt; text.as_slice(), b"b a:nth-child(odd)".as_slice());
     Ok(())
 }
 

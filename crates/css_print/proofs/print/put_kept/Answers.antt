@@ -1,11 +1,9 @@
-use Rattle.std.proofs.Common.{List, [], ◌++◌, map, ap, ◌∙◌}
-use Rattle.std.specs.List.{flat_map}
-use Rattle.css_model.specs.Text.Kept.{solid}
-use Rattle.css_model.specs.Sheets.Spelling.{tokens_in}
-use Rattle.css_print.specs.Walking.{left}
-use Rattle.css_print.specs.Words.{WordTexts}
-use Rattle.css_print.proofs.PieceWords.{begins_inside, begins_words}
-use Rattle.css_print.proofs.WordLemmas.{spelled, words_kept, one_more}
+use Rattle.std.proofs.Common.{◌≡◌, ℕ, List, [], ◌++◌, ap, sym, ◌∙◌}
+use Rattle.css_model.specs.Text.Kept.{Solid, kept}
+use Rattle.css_print.specs.Walking.{left, solid_of}
+use Rattle.css_print.specs.Words.{behind_kept, kind_of_first}
+use Rattle.css_print.proofs.PieceWords.{begins_inside, begins_solids}
+use Rattle.css_print.proofs.WordLemmas.{kept_more}
 use Rattle.css_print.proofs.print.put_kept.Goals as goal
 
 pub new-walk-requires-clause-start : goal.new-walk-requires-clause-start
@@ -17,18 +15,19 @@ words-init g c =
     let piece = c.args.piece in (
       [],
       g.met.O.Output.nothing c.args.out.now,
-      ap (λ (ws : List WordTexts). flat_map spelled ws) (c.new-walk.ensures.left ∙ begins_words c.tokens_restart.ensures source piece c.requires.begins) ∙ words_kept (map (solid source) (tokens_in source piece)),
+      ap kept (c.new-walk.ensures.left ∙ begins_solids c.tokens_restart.ensures source piece c.requires.begins),
       c.new-walk.ensures.ready,
     )
 
 pub words-preserved : goal.words-preserved
 words-preserved g c =
     let done = c.words.invariant.0 in
-    let text = c.in-Some.word.text.now in
-    let behind = c.in-Some.word.behind.now in
-    let word : WordTexts = record { text = text; behind = behind } in (
-      done ++ (text ++ behind),
-      g.met.O.Output.joins _ _ _ done (text ++ behind) c.words.invariant.1 (g.met.O.Output.joins _ _ _ text behind c.in_ok-put.ensures c.in_ok-put-2.ensures),
-      one_more spelled done (left c.words.walk) word (left c.next.new.self) c.in-Some.ensures.word ∙ c.words.invariant.2,
+    let s : Solid = solid_of c.in-Some.word in
+    let rest = left c.next.new.self in
+    let behind = c.behind.result.now in
+    let text : behind ≡ behind_kept s (kind_of_first rest) = c.behind.ensures ∙ ap (behind_kept s) c.next_kind.ensures in (
+      done ++ (s.bytes ++ behind),
+      g.met.O.Output.joins _ _ _ done (s.bytes ++ behind) c.words.invariant.1 (g.met.O.Output.joins _ _ _ s.bytes behind c.in_ok-put.ensures c.in_ok-put-2.ensures),
+      ap (λ (w : List ℕ). (done ++ (s.bytes ++ w)) ++ kept rest) text ∙ kept_more done s rest ∙ sym (ap (λ (ss : List Solid). done ++ kept ss) c.in-Some.ensures.word) ∙ c.words.invariant.2,
       c.next.ensures.ready,
     )
