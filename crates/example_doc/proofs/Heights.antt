@@ -1,5 +1,5 @@
 -- The depths of slots.
-use Rattle.std.proofs.Common.{Bool, List, [], arith, false, length, suc, true, ℕ, ◌*◌, ◌+◌, ◌<◌, ◌^◌, ◌∷◌, ◌≤◌}
+use Rattle.std.proofs.Common.{Bool, List, [], arith, false, length, true, ◌*◌, ◌<◌, ◌^◌, ◌∷◌, ◌≤◌}
 use Rattle.example_doc.specs.Lines.{depth_from, height, rise, top_depth}
 use Rattle.slot_plan.specs.declared.shape.SlotStep.{SlotStep}
 use Rattle.slot_plan.specs.declared.shape.SlotStep.TheVariants.{Further, NextTo, UpMore, UpOne}

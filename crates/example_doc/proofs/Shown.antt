@@ -1,5 +1,5 @@
 -- What the example that is built shows.
-use Rattle.std.proofs.Common.{List, None, Option, Some, [], arith, length, subst, suc, sym, zero, ℕ, ◌*◌, ◌+◌, ◌∷◌, ◌≡◌, ◌≤◌}
+use Rattle.std.proofs.Common.{List, None, Some, [], arith, length, subst, suc, sym, zero, ℕ, ◌∷◌, ◌≡◌, ◌≤◌}
 use Rattle.std.proofs.lemmas.List.Elements.{All-contains}
 use Rattle.std.specs.List.{All, AllByRecursion, slice_get}
 use Rattle.std.specs.Prelude.{Contains}

@@ -1,22 +1,22 @@
 -- Where the compounds of a slot stand in the table of two selectors.
-use Rattle.std.proofs.Common.{Bool, List, None, Option, Some, [], ap, arith, false, get_or, inl, inr, length, map, refl, subst, suc, sym, true, zero, ℕ, ◌*◌, ◌++◌, ◌+◌, ◌-◌, ◌<◌, ◌∙◌, ◌∷◌, ◌≡◌, ◌≢◌, ◌≤◌, ◌⊎◌}
+use Rattle.std.proofs.Common.{Bool, List, None, Option, Some, [], ap, arith, false, get_or, inl, inr, length, refl, subst, suc, sym, true, zero, ℕ, ◌*◌, ◌++◌, ◌+◌, ◌-◌, ◌<◌, ◌∙◌, ◌∷◌, ◌≡◌, ◌≤◌, ◌⊎◌}
 use Rattle.std.proofs.lemmas.Bool.{eq-eqb, eqb-true, false≢true}
 use Rattle.std.proofs.lemmas.List.{append-nil}
 use Rattle.std.proofs.lemmas.Option.{get_or_from_slice_get, slice_get_within}
-use Rattle.std.specs.List.{AllByRecursion, flat_map, slice_get}
+use Rattle.std.specs.List.{flat_map, slice_get}
 use Rattle.std.specs.Prelude.{Contains, Ok, if◌then◌else◌, ◌==◌}
 use Rattle.css_model.specs.Documents.FeatureParts.{FeatureParts}
-use Rattle.css_model.specs.Documents.Features.{CanSuit}
 use Rattle.css_model.specs.Documents.SelectorParts.{SelectorParts}
 use Rattle.css_model.specs.declared.selector.Simple.{Simple}
 use Rattle.compound_fit.specs.Fitting.{AreFeatures, IsFit}
-use Rattle.compound_fit.specs.Table.{AreFits, IsTable, groups, others, target, with_each}
+use Rattle.compound_fit.specs.Table.{AreFits, IsTable, groups, with_each}
 use Rattle.compound_fit.specs.TableParts.{TableParts}
 use Rattle.example_doc.specs.Groups.{group_in, group_of, one_more, place_in}
 use Rattle.list_facts.proofs.Members.{Contains-cons_cases, Contains-nil}
+use Rattle.list_facts.proofs.Zips.{some_not_none}
 use Rattle.shape_laws.proofs.ForCallers.{slots_length}
 use Rattle.slot_plan.specs.ShapeParts.{ShapeParts}
-use Rattle.slot_plan.specs.ValidShape.{Ascend, SlotsOf, ValidShape, simples_at, simples_in}
+use Rattle.slot_plan.specs.ValidShape.{SlotsOf, ValidShape, simples_at, simples_in}
 
 -- ---- Compounds in slots
 
@@ -162,7 +162,7 @@ none_there (x ∷ xs) n e in' = of (x == n) refl e (none_there xs n)
     no_more (Some j) e = absurd (let bad : Some (suc j) ≡ None = e in cc)
 
     of : (b : Bool) → (x == n) ≡ b → (if b then Some 0 else one_more (place_in xs n)) ≡ None → (place_in xs n ≡ None → Contains xs n → ⊥) → ⊥
-    of true is e rest = let bad : Some 0 ≡ None = e in cc
+    of true is e rest = some_not_none 0 e
     of false is e rest = elim (Contains-cons_cases x xs n in') [
       | inl same ↦ false≢true (sym is ∙ eq-eqb x n same)
       | inr more ↦ rest (no_more (place_in xs n) e) more

@@ -1,10 +1,10 @@
 -- The lines that are written are those of the tree of a shape.
-use Rattle.std.proofs.Common.{Bool, List, [], ap, arith, false, length, refl, subst, suc, sym, true, zero, ℕ, ◌*◌, ◌++◌, ◌+◌, ◌-◌, ◌<◌, ◌^◌, ◌∙◌, ◌∷◌, ◌≡◌, ◌≤◌}
+use Rattle.std.proofs.Common.{Bool, List, [], ap, arith, false, length, refl, suc, sym, true, zero, ℕ, ◌*◌, ◌++◌, ◌+◌, ◌-◌, ◌<◌, ◌^◌, ◌∙◌, ◌∷◌, ◌≡◌, ◌≤◌}
 use Rattle.std.proofs.lemmas.List.{append-nil, append_assoc, length-append}
 use Rattle.css_model.specs.Documents.FeatureParts.{FeatureParts}
 use Rattle.css_model.specs.declared.example.RunLine.{RunLine}
-use Rattle.document_laws.specs.Trees.{behind_plain, grown, line_from, plain, plain_runs, topped, tree_from, tree_with}
-use Rattle.example_doc.specs.Lines.{AllFall, Falls, back_lines, depth_from, front_lines, height, line, lines_behind, lines_between, plain_line, rise, top_depth, top_lines}
+use Rattle.document_laws.specs.Trees.{behind_plain, grown, line_from, plain, plain_runs, tree_from, tree_with}
+use Rattle.example_doc.specs.Lines.{AllFall, Falls, back_lines, depth_from, front_lines, line, lines_behind, lines_between, plain_line, rise, top_lines}
 use Rattle.line_laws.specs.Runs.{Runs, done, lines_of, run}
 use Rattle.slot_plan.specs.Counts.{CountsFit, StepCounts}
 use Rattle.slot_plan.specs.declared.shape.SlotStep.{SlotStep}

@@ -104,7 +104,7 @@ fn example_of(
 /// Its lines, and the number of the marked one: of the steps of a shape, of the numbers of siblings before and behind
 /// the slots, and of their elements.
 #[tactic(auto, using(crate::proofs::Written::counts_some))]
-fn written(
+pub(crate) fn written(
     alloc: Global,
     top_is_root: bool,
     steps: &[SlotStep],

@@ -8,3 +8,6 @@ mod lines;
 mod slots;
 
 pub use example::build;
+
+#[cfg(test)]
+mod tests;

@@ -1,4 +1,3 @@
-use Rattle.std.proofs.Common.{[], ap, sym, ◌++◌, ◌∙◌, ◌∷◌}
 use Rattle.example_doc.proofs.Written.{written_is}
 use Rattle.example_doc.proofs.example.written_around.Goals as goal
 

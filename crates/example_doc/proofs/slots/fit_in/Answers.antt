@@ -1,4 +1,4 @@
-use Rattle.std.proofs.Common.{arith, None, Some, length, subst, sym, ℕ, ◌<◌, ◌∙◌, ◌≡◌}
+use Rattle.std.proofs.Common.{arith, None, length, subst, sym, ℕ, ◌<◌}
 use Rattle.compound_fit.specs.Fitting.{AreFeatures}
 use Rattle.example_doc.proofs.Table.{fit_at, is_the, none_is_no}
 use Rattle.example_doc.proofs.slots.fit_in.Goals as goal
