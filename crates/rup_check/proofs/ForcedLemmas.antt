@@ -1,14 +1,14 @@
 -- A clause is forced where unit propagation from its negated literals ends in a conflict, or makes one
 -- of its literals true.
-use Rattle.std.proofs.Common.{◌≡◌, ℕ, Bool, true, false, not, ◌&&◌, ◌||◌, ◌⊎◌, IsTrue, Option, None, Some, List, [], ◌∷◌, ◌++◌, map, refl, sym, ap, subst, ◌∙◌, inl, inr}
-use Rattle.std.specs.List.{list_all, list_any}
+use Rattle.std.proofs.Common.{◌≡◌, ℕ, false, ◌&&◌, ◌||◌, ◌⊎◌, IsTrue, Option, None, Some, List, [], ◌∷◌, ◌++◌, map, refl, sym, ap, subst, ◌∙◌, inl, inr}
+use Rattle.std.specs.List.{list_all}
 use Rattle.std.specs.Prelude.{MatchOption}
 use Rattle.std.proofs.lemmas.Bool.{and_from, or_cases, or_left, or_right, false≢true, not_from_true}
 use Rattle.std.proofs.lemmas.List.{append-nil, map_push}
 use Rattle.cnf.specs.declared.lit.Lit.{Lit}
 use Rattle.cnf.specs.Lits.{negation, same, is_among}
-use Rattle.cnf.specs.Propagation.{is_refuted, finds, finds_each, is_conflict, IsForced, is_open, is_consistent}
-use Rattle.cnf.proofs.ForCallers.{list_all-mono, same-eq, same-refl, same-from_eq, all-among, any-at, negation-twice, among-append_left, among-append_right, among-append_cases}
+use Rattle.cnf.specs.Propagation.{is_refuted, finds_each, IsForced, is_open, is_consistent}
+use Rattle.cnf.proofs.ForCallers.{list_all-mono, same-eq, same-from_eq, all-among, any-at, negation-twice, among-append_cases}
 use Rattle.sat_trail.specs.declared.entry.Entry.{Entry}
 use Rattle.sat_trail.specs.Trail.{lits}
 use Rattle.sat_watch.specs.Numbered.{Numbered, clauses_of}

@@ -1,5 +1,5 @@
 -- Lemmas on the steps of a log.
-use Rattle.std.proofs.Common.{◌≡◌, ◌+◌, ℕ, Bool, true, false, not, ◌&&◌, ◌||◌, IsTrue, zero, suc, Some, List, [], ◌∷◌, ◌++◌, length, take, drop, refl, sym, ap, subst, ◌∙◌, inl, inr, arith, add-one, append_assoc}
+use Rattle.std.proofs.Common.{◌≡◌, ◌+◌, ℕ, Bool, true, false, ◌&&◌, ◌||◌, IsTrue, zero, suc, Some, List, [], ◌∷◌, ◌++◌, take, drop, refl, sym, ap, subst, ◌∙◌, inl, inr, arith, add-one, append_assoc}
 use Rattle.std.specs.List.{list_all, list_any, slice_get}
 use Rattle.std.proofs.lemmas.Bool.{and_parts, and_from, or_cases, or_left, or_right, false≢true}
 use Rattle.std.proofs.lemmas.List.{append-nil, length-take-le}
@@ -10,12 +10,12 @@ use Rattle.cnf.specs.Lits.{same, is_among}
 use Rattle.cnf.specs.Values.{holds, all_hold}
 use Rattle.cnf.specs.Propagation.{is_refuted, finds, finds_each, is_conflict, IsForced}
 use Rattle.cnf.proofs.ForCallers.{list_all-append-from, list_all-mono, follows-from_forced}
-use Rattle.sat_watch.specs.Nonempty.{is_nonempty, are_nonempty}
+use Rattle.sat_watch.specs.Nonempty.{are_nonempty}
 use Rattle.sat_trail.proofs.ForCallers.{some≢none, in_some}
 use Rattle.sat_watch.proofs.ForCallers.{take-at}
 use Rattle.rup_check.specs.declared.log.Checked.{Checked}
 use Rattle.rup_check.specs.declared.log.Checked.TheVariants.{Yes, No}
-use Rattle.rup_check.specs.Checks.{EachForced, EndsEmpty, IsAtEnd, IsChecked, IsFault, IsLastEmpty, IsRefutation}
+use Rattle.rup_check.specs.Checks.{EachForced, EndsEmpty, IsAtEnd, IsChecked, IsFault, IsRefutation}
 
 -- ---- where the empty clause is forced, each clause is, with more clauses too
 

@@ -1,7 +1,7 @@
 -- A clause is not forced where unit propagation from its negated literals comes to rest.
-use Rattle.std.proofs.Common.{◌≡◌, ◌⊎◌, ℕ, Bool, true, false, not, ◌&&◌, ◌||◌, IsTrue, List, [], ◌∷◌, ◌++◌, map, append_assoc, refl, sym, ap, subst, ◌∙◌, inl, inr}
+use Rattle.std.proofs.Common.{◌≡◌, true, not, ◌&&◌, ◌||◌, IsTrue, List, [], ◌∷◌, ◌++◌, map, append_assoc, refl, sym, subst, ◌∙◌, inl, inr}
 use Rattle.std.specs.List.{list_all, list_any}
-use Rattle.std.proofs.lemmas.Bool.{and_parts, and_from, or_cases, or_left, or_right, false≢true, false_from_ne_true, cases_Bool, not_from_true, not_from_false}
+use Rattle.std.proofs.lemmas.Bool.{and_parts, and_from, or_cases, false≢true, false_from_ne_true, not_from_true, not_from_false}
 use Rattle.cnf.specs.declared.lit.Lit.{Lit}
 use Rattle.cnf.specs.Lits.{negation, same, is_among}
 use Rattle.cnf.specs.Propagation.{is_refuted, finds, finds_each, is_conflict, IsForced, is_open, is_consistent, has_two_open, is_at_rest}

@@ -1,6 +1,6 @@
 -- Lemmas on the clauses and the trail between propagations.
-use Rattle.std.proofs.Common.{◌≡◌, ◌≢◌, ◌+◌, ◌<◌, ◌≤◌, ℕ, Bool, true, false, IsTrue, is_some, Option, None, Some, List, [], ◌∷◌, ◌++◌, length, refl, sym, ap, subst, ◌∙◌, inl, inr, arith, append_assoc}
-use Rattle.std.specs.Prelude.{IfNone, MatchBool, MatchOption}
+use Rattle.std.proofs.Common.{◌≡◌, ◌+◌, ℕ, Bool, true, false, IsTrue, is_some, Option, None, Some, List, [], ◌∷◌, ◌++◌, length, refl, sym, ap, subst, ◌∙◌, inl, inr, arith}
+use Rattle.std.specs.Prelude.{IfNone, MatchBool}
 use Rattle.std.specs.List.{Contains}
 use Rattle.std.proofs.lemmas.Bool.{and_from, cases_eq, false≢true}
 use Rattle.std.proofs.lemmas.List.{map-append}
@@ -11,12 +11,12 @@ use Rattle.cnf.proofs.ForCallers.{is_below-negation, negation-twice, among-appen
 use Rattle.sat_trail.specs.declared.entry.Entry.{Entry}
 use Rattle.sat_trail.specs.Trail.{Assignment, lits, value_in, up_to, undone_to, with_decided, RiseTo, IsTrail}
 use Rattle.sat_trail.proofs.ForCallers.{up_to-all, up_to-up_to}
-use Rattle.sat_arena.specs.Arena.{WatchedClauses, indexes, clause_of, clause_at, new_clause, last_watch, next_watch, IsArena}
+use Rattle.sat_arena.specs.Arena.{WatchedClauses, indexes, clause_of, clause_at, new_clause}
 use Rattle.sat_watch.specs.Numbered.{Numbered, numbered, clauses_of}
 use Rattle.sat_watch.specs.Nonempty.{is_nonempty, are_nonempty}
 use Rattle.sat_watch.specs.Soundness.{is_false, IsSound, IsConflict, Propagated}
 use Rattle.sat_watch.specs.Watches.{IsLonger, IsReady, ShortAreTrue, head_within}
-use Rattle.sat_watch.proofs.ForCallers.{clause_of-new, clauses_of-push, numbered-push, reasoned-wider, rested, ready-start, ready-decided, looked-undone, within-low, sound-decide, open-negation}
+use Rattle.sat_watch.proofs.ForCallers.{clause_of-new, clauses_of-push, numbered-push, reasoned-wider, rested, ready-decided, looked-undone, within-low, sound-decide, open-negation}
 use Rattle.rup_check.specs.Root.{DecidedBy, IsKept, IsQuiet, IsRoot}
 use Rattle.rup_check.proofs.DecidedLemmas.{decided-append, decided-flat, decided-longer}
 use Rattle.rup_check.proofs.ForcedLemmas.{forced-conflict}

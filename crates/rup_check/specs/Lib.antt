@@ -1,3 +1,5 @@
 pub mod Checks
+pub mod Fronts
+pub mod Reading
 pub mod Root
 pub mod Text

@@ -3,17 +3,21 @@
 #![tactic(auto)]
 
 mod check;
+mod fronts;
 mod laws;
+mod lines;
 mod log;
 mod print;
+mod read;
 mod root;
 mod step;
 mod steps;
 
 pub use check::check_log;
 pub use laws::checked_log_refutes;
-pub use log::{Checked, Log};
+pub use log::{Checked, Log, LogError};
 pub use print::print_log;
+pub use read::read_log;
 pub use steps::can_be_checked;
 
 #[cfg(test)]

@@ -1,5 +1,6 @@
 //! A log, and what is said of it.
 use cnf::{Clause, Formula};
+use std::alloc::{AllocError, AllocFailed};
 
 /// A formula, and clauses that are to follow from it, each from the formula and the clauses before it.
 #[derive(Debug, Drop)]
@@ -8,6 +9,37 @@ pub struct Log {
     pub formula: Formula,
     /// The steps.
     pub steps: Vec<Clause>,
+}
+
+/// Why a text is not a log.
+#[derive(Clone, Copy, Debug, PartialEq, Eq)]
+pub enum LogError {
+    /// The first line that is none of a log, counted from 1: one past the last where a line is missing.
+    BadLine(u64),
+    /// Memory ran out.
+    NoMemory,
+}
+
+impl From<AllocError> for LogError {
+    ghost use Rattle.std.specs.Prelude.{◌≡◌};
+    ghost use Rattle.rup_check.specs.declared.log.LogError.TheVariants.{NoMemory};
+
+    ghost from_gives = { λ _ e. e ≡ NoMemory };
+
+    fn from(_: AllocError) -> LogError {
+        LogError::NoMemory
+    }
+}
+
+impl<T: Drop> From<AllocFailed<T>> for LogError {
+    ghost use Rattle.std.specs.Prelude.{◌≡◌};
+    ghost use Rattle.rup_check.specs.declared.log.LogError.TheVariants.{NoMemory};
+
+    ghost from_gives = { λ _ e. e ≡ NoMemory };
+
+    fn from(_: AllocFailed<T>) -> LogError {
+        LogError::NoMemory
+    }
 }
 
 /// What the check of a log says.

@@ -1,8 +1,9 @@
 //! Whether clauses can be steps of a log.
 ghost use Rattle.std.specs.Prelude.{◌≡◌};
 ghost use Rattle.cnf.specs.Lits.{is_among, are_below};
-ghost use Rattle.cnf.specs.Propagation.{is_consistent};
+ghost use Rattle.cnf.specs.Propagation.{is_consistent, is_distinct};
 ghost use Rattle.rup_check.specs.Checks.{are_steps, is_step};
+ghost use Rattle.rup_check.specs.Reading.{is_plain};
 
 use crate::log::Log;
 use cnf::{Clause, Lit};
@@ -27,6 +28,26 @@ fn is_step(vars: u32, clause: &[Lit]) -> bool
     ensures { result ≡ is_step vars clause.now }
 {
     are_below(clause, vars) && is_consistent(clause)
+}
+
+/// Whether a clause can be read as a step: it can be one, and no literal stands twice. Takes no memory.
+pub(crate) fn is_plain(vars: u32, clause: &[Lit]) -> bool
+    ensures { result ≡ is_plain vars clause.now }
+{
+    is_step(vars, clause) && is_distinct(clause)
+}
+
+/// Whether no literal stands twice. Takes no memory.
+fn is_distinct(lits: &[Lit]) -> bool
+    ensures { result ≡ is_distinct lits.now }
+{
+    for k in 0..lits.len() {
+        let (_, others) = lits.split_at(k + 1);
+        if is_among(others, lits[k]) {
+            return false;
+        }
+    }
+    true
 }
 
 /// Whether the variables of literals are among so many. Takes no memory.

@@ -83,3 +83,38 @@ fn follows_small_logs(rt: HostRuntime) -> Result<(), Fail> {
     }
     Ok(())
 }
+
+// Texts, and how many clauses and steps each has, or the line that is none.
+const TEXTS: [(&str, Result<(usize, usize), LogError>); 16] = [
+    ("vars 2 clauses 2\n1 2 0\n-1 0\n2 0\n0\n", Ok((2, 2))),
+    ("vars 0 clauses 0\n", Ok((0, 0))),
+    ("vars 1 clauses 1\n2 0\n", Err(LogError::BadLine(2))),
+    ("vars 1 clauses 1\n0 0\n", Err(LogError::BadLine(2))),
+    ("vars 1 clauses 2\n1 0\n", Err(LogError::BadLine(3))),
+    ("vars 1 clauses 1\n1 0", Err(LogError::BadLine(2))),
+    ("vars 1 clauses 1\n01 0\n", Err(LogError::BadLine(2))),
+    ("vars 1 clauses 1\n1  0\n", Err(LogError::BadLine(2))),
+    ("vars 1 clauses 1\n1 1 0\n", Ok((1, 0))),
+    ("vars 1 clauses 1\n1 0\n1 1 0\n", Err(LogError::BadLine(3))),
+    ("vars 1 clauses 1\n1 0\n1 -1 0\n", Err(LogError::BadLine(3))),
+    ("vars 1 clauses 1\n1 0\n\n", Err(LogError::BadLine(3))),
+    ("vars 16777216 clauses 0\n", Err(LogError::BadLine(1))),
+    (
+        "vars 16777215 clauses 4294967296\n",
+        Err(LogError::BadLine(1)),
+    ),
+    ("vars 1 clauses 0", Err(LogError::BadLine(1))),
+    ("", Err(LogError::BadLine(1))),
+];
+
+#[test]
+fn reads_texts(rt: HostRuntime) -> Result<(), Fail> {
+    for (text, want) in TEXTS {
+        let read = match read_log(rt.alloc(), text.as_bytes()) {
+            Ok(log) => Ok((log.formula.len(), log.steps.len())),
+            Err(error) => Err(error),
+        };
+        assert_eq!(rt; read, want, "{text}");
+    }
+    Ok(())
+}
