@@ -34,7 +34,7 @@ use Rattle.overlap.specs.Singles.{IsSingleAnswer}
 
 -- ---- Pseudo-elements
 
-same_self : (a : Option Pseudo) → same_pseudo a a ≡ true
+pub same_self : (a : Option Pseudo) → same_pseudo a a ≡ true
 same_self None = refl
 same_self (Some FirstLine) = refl
 same_self (Some FirstLetter) = refl

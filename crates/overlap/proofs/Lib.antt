@@ -1,3 +1,4 @@
+mod Apartness
 mod Deciding
 mod Limits
 mod TrueLists
