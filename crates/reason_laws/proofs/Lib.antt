@@ -1,0 +1,5 @@
+mod Places
+mod Told
+mod ToldStates
+mod ToldTerms
+mod ToldTests
