@@ -157,7 +157,7 @@ impl Simple {
 #[derive(Debug, Drop)]
 pub struct Compound {
     /// The simple selectors.
-    pub simples: SmallVec<Simple, 4>,
+    pub simples: SmallVec<Simple, 1>,
 }
 
 impl Model for Compound {

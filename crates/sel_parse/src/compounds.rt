@@ -29,7 +29,7 @@ pub(crate) struct SoFar {
     /// The combinators behind them.
     pub(crate) links: Vec<Combinator>,
     /// The compound that is being read, empty where one has to begin.
-    pub(crate) compound: SmallVec<Simple, 4>,
+    pub(crate) compound: SmallVec<Simple, 1>,
     /// The pseudo-element, behind which nothing may follow.
     pub(crate) pseudo: Option<Pseudo>,
     /// How many positions whose step has a size of 2 or more there are.
