@@ -1,4 +1,5 @@
 pub mod EntryLemmas
+mod Examples
 pub mod ForCallers
 pub mod HeapLemmas
 pub mod LevelLemmas
