@@ -1,5 +1,6 @@
 mod Back
 mod Length
 mod Levels
+mod Profile
 mod Source
 mod Tokens

@@ -1,6 +1,7 @@
 //! The laws. They do nothing when they run.
 
 ghost use Rattle.print_laws.specs.Printing.{PrintedIsNoLonger, PrintedReadsBack};
+ghost use Rattle.print_laws.specs.Profile.{PrintedSelectorsAreRead, SelectorsAreInProfile};
 
 /// The printed text of a sheet that was read, or of one that is made of its parts with its kept items in
 /// their places, is read back as that sheet up to spelling, and printed again it is the same text. The
@@ -12,4 +13,11 @@ pub fn printed_reads_back()
 /// The printed text of a sheet as read is no longer than its source.
 pub fn printed_is_no_longer()
     ensures { PrintedIsNoLonger }
+{}
+
+/// The printed text of a selector of a sheet that was read, by itself, is read as this selector, and is no longer than
+/// a sheet may be. So each selector of a sheet that is made of its parts is in the profile.
+pub fn selectors_are_in_the_profile()
+    ensures one { PrintedSelectorsAreRead }
+    ensures all { SelectorsAreInProfile }
 {}

@@ -1,7 +1,7 @@
-//! Laws on the printed text of a style sheet: that it is read back, and that it is no longer than its source. They
-//! stand on definitions, and no function that prints needs them.
+//! Laws on the printed text of a style sheet: that it is read back, that it is no longer than its source, and that the
+//! text of each selector is read as this selector. They stand on definitions, and no function that prints needs them.
 #![tactic(auto)]
 
 mod laws;
 
-pub use laws::{printed_is_no_longer, printed_reads_back};
+pub use laws::{printed_is_no_longer, printed_reads_back, selectors_are_in_the_profile};

@@ -53,6 +53,7 @@ block-stands item =
 -- a selector of a source
 pub record SoundSelector (source : List ℕ) (s : SelItem) : Type 0 where
   pub of : IsOfSelector source s
+  pub part : IsPartOf (lexemes_of source) (tokens_in source s.piece)
   pub shown : IsShownSelector source s
 
 ident-is : (k : TokenKind) → is_ident k ≡ true → k ≡ kind.Ident
@@ -77,7 +78,7 @@ sound-selector source g s sound =
     let alone : tokens_in source s.piece ≡ sound.part = ap (tokens_in source) (selector_in source sound.part s sound.reads).1 ∙ stand_alone_in source g.good sound.part stands in
     let spelled : IsSpelledBy source g.parts.ps = record { lexed = g.parts.lexed; solids = g.parts.spelled } in
     let stand : IsPartOf (lexemes_of source) (tokens_in source s.piece) = subst (IsPartOf (lexemes_of source)) (sym alone) (part-of-stands stands) in
-    record { of = of; shown = shown-selector source g.parts.ps spelled s of stand (filtered (IsGoodLexeme source) (stands_in s.piece) (lexemes_of source) g.each) }
+    record { of = of; part = stand; shown = shown-selector source g.parts.ps spelled s of stand (filtered (IsGoodLexeme source) (stands_in s.piece) (lexemes_of source) g.each) }
 
 -- a declaration of a source
 pub record SoundDeclaration (source : List ℕ) (d : DeclItem) : Type 0 where

@@ -29,7 +29,7 @@ use Rattle.print_laws.specs.Printing.{PrintedReadsBack}
 use Rattle.list_facts.proofs.Cuts.{None_of}
 use Rattle.sheet_laws.proofs.ForCallers.{DoFit, IsPrintOf, find_none, sheet_reads_back, ends_in, ends_with_block, is_ended, is_nil, places_in_order, AreInOrder, IsFrom, ends_itself, item_shown, sheet_shown, HasNoFault, in_order, no_map, read_from, tested}
 use Rattle.print_laws.proofs.Tokens.Chain.{chain-shown, parts_of}
-use Rattle.print_laws.proofs.Source.Items.{ground, sheet-bytes}
+use Rattle.print_laws.proofs.Source.Items.{Ground, ground, sheet-bytes}
 use Rattle.print_laws.proofs.Tokens.Lexed.{AreReadItems, IsEndedBySign, IsEndedItem, IsSpelledBy, sheet-lexed}
 use Rattle.print_laws.proofs.Back.Tokens.{printed-tokens}
 use Rattle.print_laws.proofs.Levels.Sheet.{IsFlatItem, sheet-chain}
@@ -39,12 +39,12 @@ use Rattle.print_laws.proofs.Tokens.Texts.{IsTextOfItem, sheet-text}
 use Rattle.print_laws.proofs.Tokens.Utf8.{each-append, one-space, shown-utf8}
 
 -- a source that is read without a fault
-record Clean (source : List ℕ) (its : List Item) : Type 0 where
-  utf8 : IsUtf8 source
-  clean : (tokens source true).fault ≡ None
-  reads : sheet_of_tokens source (tokens source true).tokens ≡ Ok its
+pub record Clean (source : List ℕ) (its : List Item) : Type 0 where
+  pub utf8 : IsUtf8 source
+  pub clean : (tokens source true).fault ≡ None
+  pub reads : sheet_of_tokens source (tokens source true).tokens ≡ Ok its
 
-clean-of : (source : List ℕ) (its : List Item) → sheet_of source ≡ Ok its → Clean source its
+pub clean-of : (source : List ℕ) (its : List Item) → sheet_of source ≡ Ok its → Clean source its
 clean-of source its e = which (nat_lt MAX_BYTES (length source)) (nat_lt (utf8_valid_len source) (length source)) refl (tokens source true).fault refl e
   where
     which : (long wrong : Bool) → nat_lt (utf8_valid_len source) (length source) ≡ wrong → (f : Option TokenFault) → (tokens source true).fault ≡ f
@@ -57,6 +57,22 @@ clean-of source its e = which (nat_lt MAX_BYTES (length source)) (nat_lt (utf8_v
         let le = utf8_valid_len_le source in
         let ge = ltb-false (utf8_valid_len source) (length source) is in
         record { utf8 = whole_is_utf8 source (let same : utf8_valid_len source ≡ length source = omega (arith, le, ge) in same); clean = fault; reads = e }
+
+-- it has none of the faults that are tested over the whole of it
+abbrev Tested : List ℕ → List Item → Type 0
+Tested source its =
+    HasNoFault (too_deep (lexemes_of source)) (unclosed (tokens source true).tokens) (namespace_at source (raw_items source))
+    (too_many_items (read_items source (raw_items source))) (too_many_pairs 0 (read_items source (raw_items source))) (read_items source (raw_items source)) its
+
+tested-of : (source : List ℕ) (its : List Item) → Clean source its → Tested source its
+tested-of source its c =
+    tested (too_deep (lexemes_of source)) (unclosed (tokens source true).tokens) (namespace_at source (raw_items source))
+    (too_many_items (read_items source (raw_items source))) (too_many_pairs 0 (read_items source (raw_items source))) (read_items source (raw_items source)) its c.reads
+
+pub ground-of : (source : List ℕ) (its : List Item) → sheet_of source ≡ Ok its → Ground source
+ground-of source its e =
+    let c = clean-of source its e in
+    ground source c.clean c.utf8 (tested-of source its c).no_unclosed
 
 -- an item that ends by itself ends with a sign
 sign-first : (b level : ℕ) (x : Lexeme) → is_sign_at b level x ≡ true → x.kind ≡ kind.Sign b
@@ -134,13 +150,8 @@ sheet-utf8 source (item ∷ items) (one, rest) = each-append (λ s. IsUtf8 s.byt
 
 pub reads-back : PrintedReadsBack
 reads-back source old new e from short =
-    let c = clean-of source old e in
-    let ts = (tokens source true).tokens in
-    let tests : HasNoFault (too_deep (lexemes_of source)) (unclosed ts) (namespace_at source (raw_items source)) (too_many_items (read_items source (raw_items source)))
-    (too_many_pairs 0 (read_items source (raw_items source))) (read_items source (raw_items source)) old =
-    tested (too_deep (lexemes_of source)) (unclosed ts) (namespace_at source (raw_items source)) (too_many_items (read_items source (raw_items source)))
-    (too_many_pairs 0 (read_items source (raw_items source))) (read_items source (raw_items source)) old c.reads in
-    let g = ground source c.clean c.utf8 tests.no_unclosed in
+    let tests = tested-of source old (clean-of source old e) in
+    let g = ground-of source old e in
     let names : None_of (is_namespace source) (raw_items source) =
     find_none (is_namespace source) (raw_items source) (no_map (λ item. (piece_of item).start) (find (is_namespace source) (raw_items source)) tests.no_namespace) in
     let sheet = read_from source old g.good e in

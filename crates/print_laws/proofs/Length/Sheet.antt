@@ -107,13 +107,13 @@ module _ (source : List ℕ) (at : ℕ) (ascending : AreAscending at (lexemes_of
       which false (suc m) all = kept m (is_whole (x ∷ take m xs)) all
 
 -- the tokens of a source have room in it, behind a byte order mark that is skipped
-record HasRoom (source : List ℕ) (s : Stream) : Type 0 where
-  from : ℕ
-  fits : Fits source from (lexemes s.tokens) (length source)
-  reads : FirstReads source (lexemes s.tokens)
-  mark : (0 < from) ⊎ (starts_with nat_eq source byte_order_mark ≡ false)
+pub record HasRoom (source : List ℕ) (s : Stream) : Type 0 where
+  pub from : ℕ
+  pub fits : Fits source from (lexemes s.tokens) (length source)
+  pub reads : FirstReads source (lexemes s.tokens)
+  pub mark : (0 < from) ⊎ (starts_with nat_eq source byte_order_mark ≡ false)
 
-has_room : (source : List ℕ) → (tokens source true).fault ≡ None → HasRoom source (tokens source true)
+pub has_room : (source : List ℕ) → (tokens source true).fault ≡ None → HasRoom source (tokens source true)
 has_room source = which (starts_with nat_eq source byte_order_mark) refl
   where
     at : (s : Stream) (from : ℕ) → Cover source from s.tokens (place_of s.fault (length source)) → Restarts source from s.tokens

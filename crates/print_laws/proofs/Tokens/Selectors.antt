@@ -131,7 +131,7 @@ calm (p ∷ ps) lexed ends =
 -- ---- a selector of a source
 
 -- its tokens, by the parts of the source
-selector-in : (source : List ℕ) (ps : List Part) → IsSpelledBy source ps → (s : SelItem) → IsOfSelector source s → (p : IsPartOf (lexemes_of source) (tokens_in source s.piece))
+pub selector-in : (source : List ℕ) (ps : List Part) → IsSpelledBy source ps → (s : SelItem) → IsOfSelector source s → (p : IsPartOf (lexemes_of source) (tokens_in source s.piece))
     → IsSelectorIn ps (length p.before) (length (tokens_in source s.piece)) (map (solid source) (tokens_in source s.piece)) s.selector
 selector-in source ps spelled s of p = record { lexed = spelled.lexed; are = sym (part-solids source ps (tokens_in source s.piece) spelled p); reads = of.reads }
 
