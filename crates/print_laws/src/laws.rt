@@ -1,6 +1,6 @@
 //! The laws. They do nothing when they run.
 
-ghost use Rattle.print_laws.specs.Printing.{PrintedIsNoLonger, PrintedReadsBack};
+ghost use Rattle.print_laws.specs.Printing.{PrintedIsNoLonger, PrintedReadsBack, PrintedReadsBackAsTwin};
 ghost use Rattle.print_laws.specs.Profile.{PrintedSelectorsAreRead, SelectorsAreInProfile};
 
 /// The printed text of a sheet that was read, or of one that is made of its parts with its kept items in
@@ -8,6 +8,12 @@ ghost use Rattle.print_laws.specs.Profile.{PrintedSelectorsAreRead, SelectorsAre
 /// sheet has no more items and pairs than one may have, and the text no more bytes.
 pub fn printed_reads_back()
     ensures { PrintedReadsBack }
+{}
+
+/// What that text is read back as is the twin of the sheet: item by item, and in rules selector by selector
+/// and declaration by declaration, it says the same and is printed alike.
+pub fn printed_reads_back_as_twin()
+    ensures { PrintedReadsBackAsTwin }
 {}
 
 /// The printed text of a sheet as read is no longer than its source.

@@ -1,7 +1,7 @@
 -- What the crates above cite of the proofs here: what a source that is read gives its items, and how what is printed for
 -- items is read.
 pub use Rattle.sheet_laws.proofs.Printed.Blocks.{IsOfDeclaration}
-pub use Rattle.sheet_laws.proofs.Printed.Faults.{DoFit, IsPrintOf, find_none, sheet_reads_back}
+pub use Rattle.sheet_laws.proofs.Printed.Faults.{DoFit, IsPrintOf, IsSameSheet, find_none, sheet_reads_back}
 pub use Rattle.sheet_laws.proofs.Printed.Items.{IsClosedRule, closed_rule, ends_in, ends_with_block, is_ended, is_nil}
 pub use Rattle.sheet_laws.proofs.Printed.Joins.{StandsIn, stands_behind, stands_inside, stands_whole}
 pub use Rattle.sheet_laws.proofs.Printed.Preludes.{IsOfSelector, selector_in}

@@ -1,6 +1,6 @@
 -- The printed text of a sheet is read back as the sheet.
-use Rattle.std.proofs.Common.{◌≡◌, ℕ, ◌+◌, ◌≤◌, nat_eq, nat_lt, Bool, true, false, cond, List, [], ◌∷◌, length, Option, Some, None, Ok, Err, refl, sym, ap, subst, arith}
-use Rattle.std.specs.Prelude.{◌&&◌}
+use Rattle.std.proofs.Common.{◌≡◌, ℕ, ◌+◌, ◌≤◌, nat_eq, nat_lt, Bool, true, false, cond, List, [], ◌∷◌, length, Option, Some, None, Ok, Err, refl, sym, ◌∙◌, ap, subst, arith}
+use Rattle.std.specs.Prelude.{◌&&◌, Result}
 use Rattle.std.specs.List.{AllByRecursion, find, flat_map, last_or, starts_with}
 use Rattle.std.specs.Option.{option_map}
 use Rattle.std.specs.Str.{IsUtf8}
@@ -8,6 +8,7 @@ use Rattle.std.specs.Str.Lossy.{utf8_valid_len}
 use Rattle.std.proofs.lemmas.Bool.{false≢true, and_parts, eqb-true, ltb-true, ltb-false}
 use Rattle.std.proofs.lemmas.Str.{IsUtf8-append, utf8_valid_len-IsUtf8, utf8_valid_len_le}
 use Rattle.css_model.specs.declared.fault.FaultKind.TheVariants.{TooLong, NotUtf8}
+use Rattle.css_model.specs.declared.fault.SheetFault.{SheetFault}
 use Rattle.css_model.specs.declared.limits.TheConstants.{MAX_BYTES, MAX_PAIRS}
 use Rattle.css_model.specs.declared.sheet.Item.{Item}
 use Rattle.css_model.specs.declared.sheet.Item.TheVariants.{Rule, KeptRule, KeptBlock}
@@ -24,10 +25,12 @@ use Rattle.css_model.specs.Sheets.Sound.{IsSoundItem, raw_items}
 use Rattle.css_model.specs.Sheets.Spelling.{lexemes_of, tokens_in}
 use Rattle.css_model.specs.Text.Tokens.{byte_order_mark, text_of, tokens}
 use Rattle.css_tokens.proofs.ForCallers.{whole_is_utf8}
-use Rattle.css_model.specs.Sheets.ComesFrom.{pair_count}
-use Rattle.print_laws.specs.Printing.{PrintedReadsBack}
+use Rattle.css_model.specs.Sheets.ComesFrom.{ComesFrom, pair_count}
+use Rattle.css_model.specs.Sheets.Limits.{max_bytes}
+use Rattle.sheet_laws.specs.Twins.{AreTwins}
+use Rattle.print_laws.specs.Printing.{PrintedReadsBack, PrintedReadsBackAsTwin}
 use Rattle.list_facts.proofs.Cuts.{None_of}
-use Rattle.sheet_laws.proofs.ForCallers.{DoFit, IsPrintOf, find_none, sheet_reads_back, ends_in, ends_with_block, is_ended, is_nil, places_in_order, AreInOrder, IsFrom, ends_itself, item_shown, sheet_shown, HasNoFault, in_order, no_map, read_from, tested}
+use Rattle.sheet_laws.proofs.ForCallers.{DoFit, IsPrintOf, IsSameSheet, find_none, sheet_reads_back, ends_in, ends_with_block, is_ended, is_nil, places_in_order, AreInOrder, IsFrom, ends_itself, item_shown, sheet_shown, HasNoFault, in_order, no_map, read_from, tested}
 use Rattle.print_laws.proofs.Tokens.Chain.{chain-shown, parts_of}
 use Rattle.print_laws.proofs.Source.Items.{Ground, ground, sheet-bytes}
 use Rattle.print_laws.proofs.Tokens.Lexed.{AreReadItems, IsEndedBySign, IsEndedItem, IsSpelledBy, sheet-lexed}
@@ -148,8 +151,9 @@ sheet-utf8 : (source : List ℕ) (items : List Item) → AllByRecursion (SoundIt
 sheet-utf8 source [] each = tt
 sheet-utf8 source (item ∷ items) (one, rest) = each-append (λ s. IsUtf8 s.bytes) (item_shown source item) (sheet_shown source items) one.utf8 (sheet-utf8 source items rest)
 
-pub reads-back : PrintedReadsBack
-reads-back source old new e from short =
+-- the printed text of a sheet, as it is read
+read-back : (source : List ℕ) (old new : List Item) → sheet_of source ≡ Ok old → ComesFrom source old new → length (printed source new) ≤ max_bytes → IsSameSheet (printed source new) source new
+read-back source old new e from short =
     let tests = tested-of source old (clean-of source old e) in
     let g = ground-of source old e in
     let names : None_of (is_namespace source) (raw_items source) =
@@ -175,5 +179,17 @@ reads-back source old new e from short =
       shown_as = has.shown_as;
     } in
     let fit : DoFit new = record { items = from.few_items; pairs = pairs-fit 0 new (omega (arith, from.few_pairs)) } in
-    let same = sheet_reads_back (printed source new) source new (each-is (SoundItem source) (IsFrom source) new (λ x h. h.from) each) order fit sheet.shallow print in
+    sheet_reads_back (printed source new) source new (each-is (SoundItem source) (IsFrom source) new (λ x h. h.from) each) order fit sheet.shallow print
+
+pub reads-back : PrintedReadsBack
+reads-back source old new e from short =
+    let same = read-back source old new e from short in
     (same.read, same.reads, sym same.says, same.prints)
+
+pub reads-back-as-twin : PrintedReadsBackAsTwin
+reads-back-as-twin source old new again e from short read =
+    let same = read-back source old new e from short in
+    subst (AreTwins source (printed source new) new) (ok-same same.read again (sym same.reads ∙ read)) same.twins
+  where
+    ok-same : (xs ys : List Item) → ◌≡◌ {A = Result (List Item) SheetFault} (Ok xs) (Ok ys) → xs ≡ ys
+    ok-same xs ys e = cc

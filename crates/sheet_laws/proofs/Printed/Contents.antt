@@ -1,5 +1,5 @@
 -- A sheet that is read from what was printed for another says what that one says, and is printed alike.
-use Rattle.std.proofs.Common.{◌≡◌, ℕ, ◌*◌, List, [], ◌∷◌, ◌++◌, length, map, None, refl, ◌∙◌, ap}
+use Rattle.std.proofs.Common.{◌≡◌, ℕ, ◌*◌, List, [], ◌∷◌, ◌++◌, length, map, None, refl, sym, ◌∙◌, ap, ap₂}
 use Rattle.std.specs.List.{AllZip, AllByRecursion, flat_map, join_with_byte, filter, find}
 use Rattle.css_model.specs.declared.sheet.DeclItem.{DeclItem}
 use Rattle.css_model.specs.declared.sheet.Item.{Item}
@@ -16,6 +16,7 @@ use Rattle.css_model.specs.Sheets.Sheet.{is_namespace, read_items, pairs_of}
 use Rattle.css_model.specs.Text.Source.{text_at}
 use Rattle.css_model.specs.Sheets.Spelling.{Style, Kept, Block, content, all_content, lexemes_of, tokens_in, kept_text}
 use Rattle.css_model.specs.Sheets.StyleRule.{selectors_of}
+use Rattle.sheet_laws.specs.Twins.{selector_with_text, decl_with_text, AreTwinItems, AreTwins}
 use Rattle.sheet_laws.proofs.Printed.Blocks.{IsDeclarationAgain}
 use Rattle.list_facts.proofs.Zips.{zip_length}
 use Rattle.sheet_laws.proofs.Source.Pieces.{AreAscending, stand_alone}
@@ -123,6 +124,42 @@ items_say new old order (item' ∷ its') (item ∷ its) z =
       pairs = ap (λ (n : ℕ). n ∷ map pairs_of its') here.pairs ∙ ap (λ (ns : List ℕ). pairs_of item ∷ ns) rest.pairs;
     }
 
+-- ---- Item by item, with the texts of the parts
+
+selectors_with_texts : (new old : List ℕ) → InOrder new → (ss' ss : List SelItem) → AllZip (IsSelectorAgain new old (lexemes_of new)) ss' ss
+    → map (selector_with_text old) ss ≡ map (selector_with_text new) ss'
+selectors_with_texts new old order [] [] z = refl
+selectors_with_texts new old order [] (s ∷ ss) z = absurd z
+selectors_with_texts new old order (s' ∷ ss') [] z = absurd z
+selectors_with_texts new old order (s' ∷ ss') (s ∷ ss) z =
+    ap₂ (λ t ts. t ∷ ts) (ap₂ (λ value text. (value, text)) (sym z.0.same) (sym (selector_prints new old order s' s z.0))) (selectors_with_texts new old order ss' ss z.1)
+
+decls_with_texts : (new old : List ℕ) (ds' ds : List DeclItem) → AllZip (IsDeclarationAgain new old) ds' ds
+    → map (decl_with_text old) ds ≡ map (decl_with_text new) ds'
+decls_with_texts new old [] [] z = refl
+decls_with_texts new old [] (d ∷ ds) z = absurd z
+decls_with_texts new old (d' ∷ ds') [] z = absurd z
+decls_with_texts new old (d' ∷ ds') (d ∷ ds) z =
+    ap₂ (λ t ts. t ∷ ts) (ap₂ (λ value text. (value, text)) (sym z.0.same) (sym (declaration_prints new old d' d z.0))) (decls_with_texts new old ds' ds z.1)
+
+twin_items : (new old : List ℕ) → InOrder new → (item' item : Item) → IsAgain new old (lexemes_of new) item' item → AreTwinItems old new item item'
+twin_items new old order (Rule r') (Rule r) again =
+    record { selectors = selectors_with_texts new old order r'.selectors r.selectors again.selectors; decls = decls_with_texts new old r'.decls r.decls again.decls }
+twin_items new old order (Rule r') (KeptRule k) again = absurd again
+twin_items new old order (Rule r') (KeptBlock p) again = absurd again
+twin_items new old order (KeptRule k') (Rule r) again = absurd again
+twin_items new old order (KeptRule k') (KeptRule k) again = (sym again.1, sym (kept_says new old order k'.piece k.piece again.0), sym again.2)
+twin_items new old order (KeptRule k') (KeptBlock p) again = absurd again
+twin_items new old order (KeptBlock p') (Rule r) again = absurd again
+twin_items new old order (KeptBlock p') (KeptRule k) again = absurd again
+twin_items new old order (KeptBlock p') (KeptBlock p) again = sym (kept_says new old order p' p again)
+
+twins : (new old : List ℕ) → InOrder new → (its' its : List Item) → AllZip (IsAgain new old (lexemes_of new)) its' its → AreTwins old new its its'
+twins new old order [] [] z = tt
+twins new old order [] (item ∷ its) z = absurd z
+twins new old order (item' ∷ its') [] z = absurd z
+twins new old order (item' ∷ its') (item ∷ its) z = (twin_items new old order item' item z.0, twins new old order its' its z.1)
+
 -- a sheet that is read from a text that was printed for another, with its source
 pub record IsReadBack (new old : List ℕ) (its : List Item) : Type 0 where
   pub raw : List (List Lexeme)
@@ -133,6 +170,7 @@ pub record IsReadBack (new old : List ℕ) (its : List Item) : Type 0 where
   pub says : all_content new read ≡ all_content old its
   pub prints : printed new read ≡ printed old its
   pub pairs : map pairs_of read ≡ map pairs_of its
+  pub twins : AreTwins old new its read
 
 pub items_read_back : (new old : List ℕ) (its : List Item) → AllByRecursion (IsFrom old) its → AreInOrder old its → InOrder new
     → map (shown new) (lexemes_of new) ≡ sheet_shown old its → IsReadBack new old its
@@ -148,4 +186,5 @@ items_read_back new old its sound order ascending e =
       says = alike.says;
       prints = ap behind_mark alike.prints;
       pairs = alike.pairs;
+      twins = twins new old ascending again.read its again.each;
     }

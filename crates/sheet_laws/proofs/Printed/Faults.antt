@@ -28,6 +28,7 @@ use Rattle.css_model.specs.Sheets.Fault.{fault_of, unless}
 use Rattle.css_model.specs.Sheets.Sound.{raw_items}
 use Rattle.css_model.specs.Sheets.Spelling.{stands_in, lexemes_of, tokens_in, all_content}
 use Rattle.css_model.specs.Text.Tokens.{tokens}
+use Rattle.sheet_laws.specs.Twins.{AreTwins}
 use Rattle.sheet_laws.proofs.Shown.Alike.{and_false}
 use Rattle.list_facts.proofs.Cuts.{None_of, none_append}
 use Rattle.sheet_laws.proofs.Printed.Joins.{none_joined}
@@ -162,6 +163,7 @@ pub record IsSameSheet (new old : List ℕ) (its : List Item) : Type 0 where
   pub reads : sheet_of new ≡ Ok read
   pub says : all_content new read ≡ all_content old its
   pub prints : printed new read ≡ printed old its
+  pub twins : AreTwins old new its read
 
 length-pairs : (its : List Item) → length (map pairs_of its) ≡ length its
 length-pairs [] = refl
@@ -176,7 +178,7 @@ by_tests deep unclosed namespace many pairs read =
 pub sheet_reads_back : (new old : List ℕ) (its : List Item) → AllByRecursion (IsFrom old) its → AreInOrder old its → DoFit its → find is_deep (lexemes_of old) ≡ None → IsPrintOf new old its
     → IsSameSheet new old its
 sheet_reads_back new old its sound order fit shallow print =
-    record { read = back.read; reads = reads; says = back.says; prints = back.prints }
+    record { read = back.read; reads = reads; says = back.says; prints = back.prints; twins = back.twins }
   where
     back : IsReadBack new old its
     back = items_read_back new old its sound order print.ascending print.shown_as
