@@ -1,0 +1,6 @@
+mod Between
+mod Floors
+mod Hindering
+mod KeptWalls
+mod Keys
+mod Others

@@ -1,0 +1,10 @@
+//! Laws by which a plan need not look at each step again: what hinders a rule from moving hinders it from
+//! going into each rule behind, and it stays while the items that it hangs on do; and the order of a sheet is
+//! that of keys that stay.
+#![tactic(auto)]
+
+mod keyed;
+mod walls;
+
+pub use keyed::{keys_are_order, turns_where_between};
+pub use walls::{floors_hinder, kept_walls_hinder, others_do_not_count, walls_hinder, walls_stay};
