@@ -3,7 +3,7 @@ use Rattle.std.proofs.Common.{Bool, List, None, Option, Some, [], ap, arith, fal
 use Rattle.std.proofs.Math.Path.{fun_ext}
 use Rattle.std.proofs.lemmas.Bool.{and_from}
 use Rattle.std.specs.List.{cons_option, filter_map, list_any}
-use Rattle.clause_encode.specs.Given.{asks_id, share, some_passes}
+use Rattle.clause_encode.specs.Given.{share, some_passes}
 use Rattle.css_model.specs.Documents.SelectorParts.{SelectorParts}
 use Rattle.css_model.specs.Lists.{same_text}
 use Rattle.css_model.specs.declared.selector.Simple.{Simple}

@@ -1,14 +1,8 @@
 pub mod Adding
 pub mod Apart
 pub mod Cells
-pub mod Counting
-pub mod Growing
-pub mod Implied
 pub mod InRange
-pub mod Linked
 pub mod Noded
+pub mod Planned
 pub mod Ready
-pub mod Signed
-pub mod Tested
-pub mod Testing
 pub mod Whole

@@ -1,8 +1,8 @@
 -- What is asked of a node, part by part.
-use Rattle.std.proofs.Common.{Bool, List, None, Option, [], ap, arith, false, length, not, refl, suc, sym, true, zero, ℕ, ◌&&◌, ◌*◌, ◌++◌, ◌+◌, ◌-◌, ◌||◌, ◌∙◌, ◌∷◌, ◌≡◌, ◌≢◌}
+use Rattle.std.proofs.Common.{Bool, List, Option, [], ap, arith, false, length, refl, suc, sym, true, zero, ℕ, ◌&&◌, ◌*◌, ◌++◌, ◌+◌, ◌-◌, ◌||◌, ◌∙◌, ◌≡◌, ◌≢◌}
 use Rattle.std.proofs.lemmas.List.Folds.{list_any-append}
-use Rattle.clause_encode.proofs.Adding.{added_twice}
-use Rattle.clause_encode.specs.Bounds.{IsWhole}
+use Rattle.sibling_clauses.proofs.ForCallers.{added_twice}
+use Rattle.sibling_clauses.specs.Bounds.{IsWhole}
 use Rattle.clause_encode.specs.Fits.{is_fit, is_fit_at}
 use Rattle.cnf.specs.Cnf.{Cnf}
 use Rattle.cnf.specs.Gates.{with_clauses}

@@ -1,10 +1,9 @@
 -- A table decides what nodes ask of elements alone.
-use Rattle.std.proofs.Common.{Bool, Err, List, None, Ok, Option, Some, [], ap, arith, false, get_or, inl, inr, length, map, refl, subst, suc, sym, true, zero, ℕ, ◌*◌, ◌++◌, ◌+◌, ◌<◌, ◌^◌, ◌↔◌, ◌∙◌, ◌∷◌, ◌≡◌, ◌≤◌}
+use Rattle.std.proofs.Common.{List, None, Ok, Option, Some, [], ap, arith, get_or, length, refl, subst, suc, sym, true, zero, ℕ, ◌*◌, ◌++◌, ◌+◌, ◌<◌, ◌↔◌, ◌∙◌, ◌∷◌, ◌≡◌, ◌≤◌}
 use Rattle.std.proofs.Math.Nat.{mul-le-mul_right}
 use Rattle.std.proofs.lemmas.Bool.{false≢true}
 use Rattle.std.proofs.lemmas.List.{append-nil, get_or-append-add, get_or-map, get_or_append_left, length-append}
 use Rattle.std.specs.List.{AllByRecursion, flat_map}
-use Rattle.std.specs.Prelude.{unsigned_abs}
 use Rattle.clause_encode.specs.Fits.{is_fit, is_fit_at}
 use Rattle.compound_fit.specs.Fitting.{IsFit}
 use Rattle.compound_fit.specs.Table.{AreFits, IsTable, groups, others, target, with_each}
@@ -12,17 +11,14 @@ use Rattle.compound_fit.specs.TableParts.{TableParts}
 use Rattle.css_model.specs.Documents.FeatureParts.{FeatureParts}
 use Rattle.css_model.specs.Documents.Features.{CanSuit, element_of}
 use Rattle.css_model.specs.Documents.SelectorParts.{SelectorParts}
-use Rattle.css_model.specs.Sheets.Limits.{max_compounds}
 use Rattle.css_model.specs.declared.selector.Simple.{Simple}
 use Rattle.css_model.specs.declared.selector.Test.{Test}
 use Rattle.css_model.specs.declared.selector.Test.TheVariants.{Any, Attr, Empty, Id, Kind, Nth, NthLast, OnlyChild, Root, State}
 use Rattle.formula_laws.specs.Allowed.{SuitingIsDecided}
 use Rattle.formula_laws.specs.Deciding.{IsReady}
-use Rattle.formula_laws.specs.Formula.{SmallSteps}
-use Rattle.formula_laws.specs.Path.{both_fit, links_fit}
 use Rattle.formula_laws.specs.Positions.{AreSmallTests, IsSmallTest}
-use Rattle.grid_laws.specs.Grid.{Lays, left_alone, right_alone, together}
-use Rattle.grid_laws.specs.Solved.{node_simples, nth_compound}
+use Rattle.grid_laws.specs.Grid.{left_alone, right_alone, together}
+use Rattle.grid_laws.specs.Solved.{nth_compound}
 use Rattle.selector_laws.specs.Limits.{KeepsCompound, KeepsLimits, KeepsTest}
 
 -- a group that has a fit is one that some element passes

@@ -1,25 +1,19 @@
 -- All conditions, one after the other.
-use Rattle.std.proofs.Common.{Bool, List, Option, ap, arith, false, length, refl, suc, sym, true, ℕ, [], ◌∷◌, ◌+◌, ◌<◌, ◌^◌, ◌∙◌, ◌≡◌, ◌≤◌}
-use Rattle.std.specs.Prelude.{◌==◌}
-use Rattle.clause_encode.proofs.Counting.{all_counts_grow}
-use Rattle.clause_encode.proofs.Growing.{positions_grow, steps_grow, when_grows}
+use Rattle.std.proofs.Common.{List, Option, ap, arith, length, suc, sym, ℕ, [], ◌+◌, ◌∙◌, ◌≡◌, ◌≤◌}
 use Rattle.clause_encode.proofs.Ready.{few_simples}
-use Rattle.clause_encode.specs.Bounds.{IsWhole}
+use Rattle.sibling_clauses.specs.Bounds.{IsWhole}
 use Rattle.clause_encode.specs.Fits.{IsSmallFormula, is_fit, numbering_of, pair_formula}
-use Rattle.clause_encode.specs.Rows.{left_tests, right_tests}
-use Rattle.clause_encode.specs.declared.numbering.Numbering.{Numbering}
+use Rattle.sibling_clauses.proofs.ForCallers.{numbers_grow, tests_grow}
+use Rattle.sibling_clauses.specs.declared.numbering.Numbering.{Numbering}
 use Rattle.cnf.specs.Cnf.{Cnf}
 use Rattle.cnf.specs.Gates.{with_clauses}
 use Rattle.css_model.specs.Documents.FeatureParts.{FeatureParts}
 use Rattle.css_model.specs.Documents.SelectorParts.{SelectorParts}
-use Rattle.css_model.specs.Sheets.Limits.{max_compounds}
-use Rattle.formula_laws.specs.Allowed.{Allowed, allowed_by, cell_clauses, node_clauses, node_fits, pair_fits, whole_clauses}
-use Rattle.formula_laws.specs.Counts.{Names, steps_below, with_counts}
+use Rattle.formula_laws.specs.Allowed.{Allowed, allowed_by, cell_clauses, node_fits, whole_clauses}
+use Rattle.formula_laws.specs.Counts.{Names}
 use Rattle.formula_laws.specs.Deciding.{FormulaIsSmall}
-use Rattle.formula_laws.specs.Formula.{digits_for, first_vars, names_of, with_conditions, with_numbers, with_path, with_refusals, with_root, with_tests}
+use Rattle.formula_laws.specs.Formula.{first_vars, names_of, with_conditions, with_numbers, with_path, with_refusals, with_root, with_tests}
 use Rattle.formula_laws.specs.Path.{each_below, last_clauses, path_clauses}
-use Rattle.formula_laws.specs.Positions.{with_positions}
-use Rattle.grid_laws.specs.Solved.{nth_compound, numbers_asked}
 use Rattle.nth_positions.specs.Gaps.{bounds_of}
 use Rattle.selector_laws.specs.Limits.{KeepsLimits}
 use Rattle.slot_plan.specs.Parts.{pair_parts}
@@ -40,39 +34,6 @@ refusals_whole x y m n allowed f hx hy =
     let en : n + 1 ≡ suc (length y.links) = omega arith in
     let make : (a b c : ℕ) → Cnf = λ a b c. with_clauses (with_clauses f (each_below a (λ i. each_below b (λ j. cell_clauses c (node_fits x y allowed) i j)))) (whole_clauses allowed.whole) in
     ap (λ (a : ℕ). make a (n + 1) n) em ∙ ap (λ (b : ℕ). make (suc (length x.links)) b n) en ∙ ap (λ (c : ℕ). make (suc (length x.links)) (suc (length y.links)) c) (sym ly)
-
--- their tests
-pub tests_whole : (x y : SelectorParts) (g : Numbering) (f : Cnf) → IsWhole x g.left → IsWhole y g.right →
-    steps_below (g.right + 1) (right_tests g y.chain) (steps_below (g.left + 1) (left_tests g x.chain) f) ≡ with_tests x y (names_of g.left g.right g.digits) f
-tests_whole x y g f hx hy =
-    let names = names_of g.left g.right g.digits in
-    let lx = hx.links in
-    let ly = hy.links in
-    let em : g.left + 1 ≡ suc (length x.links) = omega arith in
-    let en : g.right + 1 ≡ suc (length y.links) = omega arith in
-    let left : (a b : ℕ) → Cnf = λ a b. steps_below a (λ i. with_positions (i == b) names.rx names.child (names.bx i) (names.ax i) (nth_compound x.chain i)) f in
-    let right : (a b : ℕ) → Cnf = λ a b. steps_below a (λ j. with_positions (j == b) names.ry names.child (names.by j) (names.ay j) (nth_compound y.chain j)) (left (suc (length x.links)) (length x.links)) in
-    ap (steps_below (g.right + 1) (right_tests g y.chain)) (ap (λ (a : ℕ). left a g.left) em ∙ ap (λ (b : ℕ). left (suc (length x.links)) b) (sym lx))
-    ∙ ap (λ (a : ℕ). right a g.right) en ∙ ap (λ (b : ℕ). right (suc (length y.links)) b) (sym ly)
-
-tests_grow : (x y : SelectorParts) (names : Names) (f : Cnf) → f.vars ≤ (with_tests x y names f).vars
-tests_grow x y names f =
-    let left = steps_grow (suc (length x.links)) (λ i. with_positions (i == length x.links) names.rx names.child (names.bx i) (names.ax i) (nth_compound x.chain i)) (λ i f. positions_grow _ _ _ _ _ (nth_compound x.chain i) f) f in
-    let right = steps_grow (suc (length y.links)) (λ j. with_positions (j == length y.links) names.ry names.child (names.by j) (names.ay j) (nth_compound y.chain j)) (λ j f. positions_grow _ _ _ _ _ (nth_compound y.chain j) f)
-    (steps_below (suc (length x.links)) (λ i. with_positions (i == length x.links) names.rx names.child (names.bx i) (names.ax i) (nth_compound x.chain i)) f) in
-    omega arith
-
-pub left_part_room : (x y : SelectorParts) (g : Numbering) (most : ℕ) (f : Cnf) → IsWhole x g.left → IsWhole y g.right → (with_tests x y (names_of g.left g.right g.digits) f).vars ≤ most → (steps_below (g.left + 1) (left_tests g x.chain) f).vars ≤ most
-left_part_room x y g most f hx hy room =
-    let all = ap (λ h. h.vars) (tests_whole x y g f hx hy) in
-    let more = steps_grow (g.right + 1) (right_tests g y.chain) (λ j f. positions_grow _ _ _ _ _ (nth_compound y.chain j) f) (steps_below (g.left + 1) (left_tests g x.chain) f) in
-    omega arith
-
-pub left_part_stays : (g : Numbering) (x : SelectorParts) (f : Cnf) → f.vars ≤ (steps_below (g.left + 1) (left_tests g x.chain) f).vars
-left_part_stays g x f = steps_grow (g.left + 1) (left_tests g x.chain) (λ i f. positions_grow _ _ _ _ _ (nth_compound x.chain i) f) f
-
-numbers_grow : (x y : SelectorParts) (names : Names) (f : Cnf) → f.vars ≤ (with_numbers x y names f).vars
-numbers_grow x y names f = when_grows (numbers_asked x y) (λ f. with_counts x.links y.links names (with_clauses f ((names.one ∷ []) ∷ []))) (λ f. all_counts_grow x.links y.links names (with_clauses f ((names.one ∷ []) ∷ []))) f
 
 -- there is room for each part
 pub record Rooms (x y : SelectorParts) (names : Names) (f : Cnf) (most : ℕ) : Type 0 where

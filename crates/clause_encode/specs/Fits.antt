@@ -1,5 +1,5 @@
 -- The formula of a pair whose table of fits is at hand.
-use Rattle.std.specs.Prelude.{ℕ, zero, suc, ◌+◌, ◌*◌, ◌<◌, ◌^◌, Bool, true, false, List, length, slice_index_or, Option, Some, None, IsTrue}
+use Rattle.std.specs.Prelude.{ℕ, zero, suc, ◌+◌, ◌*◌, ◌<◌, ◌^◌, Bool, false, List, length, slice_index_or, Option, None, IsTrue}
 use Rattle.css_model.specs.Documents.FeatureParts.{FeatureParts}
 use Rattle.css_model.specs.Documents.SelectorParts.{SelectorParts}
 use Rattle.css_model.specs.Lists.{is_some}
@@ -12,7 +12,7 @@ use Rattle.slot_plan.specs.Parts.{pair_parts}
 use Rattle.grid_laws.specs.Grid.{Lays, left_alone, right_alone, together}
 use Rattle.formula_laws.specs.Allowed.{allowed_by}
 use Rattle.formula_laws.specs.Formula.{digits_for, formula_of}
-use Rattle.clause_encode.specs.declared.numbering.Numbering.{Numbering}
+use Rattle.sibling_clauses.specs.declared.numbering.Numbering.{Numbering}
 
 -- whether there are features in the k-th place of a table
 abbrev pub is_fit_at : List (Option FeatureParts) → ℕ → Bool

@@ -8,8 +8,8 @@ ghost use Rattle.formula_laws.specs.Allowed.{all_below, apart_in, own_ids_fit, s
 ghost use Rattle.grid_laws.specs.Solved.{nth_compound};
 ghost use Rattle.slot_plan.specs.ValidShape.{asked_id};
 
-use crate::chains::{chain_of, simples_at};
 use css_model::{Compound, Op, Selector, Simple, Test, Text};
+use sibling_clauses::{chain_of, simples_at};
 
 /// Whether no two compounds of a selector ask for one id.
 pub(crate) fn own_ids_fit(selector: &Selector) -> bool

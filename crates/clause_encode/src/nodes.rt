@@ -1,7 +1,7 @@
 //! The nodes that are refused, and what is refused for the whole pair.
 
 ghost use Rattle.std.specs.Prelude.{◌≡◌, ◌≤◌, ◌<◌, ◌+◌, ◌++◌, ◌&&◌, suc, length, IsTrue, OnOk};
-ghost use Rattle.clause_encode.specs.Bounds.{IsSmall, IsWhole};
+ghost use Rattle.sibling_clauses.specs.Bounds.{IsSmall, IsWhole};
 ghost use Rattle.clause_encode.specs.Fits.{is_fit, is_fit_at};
 ghost use Rattle.cnf.specs.Gates.{with_clauses};
 ghost use Rattle.cnf.specs.Lits.{is_below};
@@ -20,12 +20,12 @@ ghost use Rattle.formula_laws.specs.Path.{each_below, same_bool, unless};
 ghost use Rattle.grid_laws.specs.Grid.{left_alone, right_alone, together};
 ghost use Rattle.slot_plan.specs.ValidShape.{is_empty_test};
 
-use crate::chains::{chain_of, links_of, simples_at};
 use crate::ids::{is_apart, own_ids_fit};
-use crate::links::{both_fit, is_above, left_fits, right_fits};
-use crate::numbering::Numbering;
 use cnf::{Formula, Lit};
 use css_model::{Features, Pseudo, Selector, Simple, Test};
+use sibling_clauses::{
+    Numbering, both_fit, chain_of, is_above, left_fits, links_of, right_fits, simples_at,
+};
 use std::alloc::AllocError;
 
 /// Adds that no node is true which the combinators, `:empty`, ids or features refuse.
@@ -104,7 +104,7 @@ fn add_cell(
 }
 
 /// Adds that a literal is false, unless it is allowed.
-#[tactic(auto, using(crate::proofs::Adding::added_none, crate::proofs::InRange::digits_in_range))]
+#[tactic(auto, using(sibling_clauses::proofs::ForCallers::added_none, crate::proofs::InRange::unit_in_range))]
 fn add_unless(f: &mut Formula, fits: bool, lit: Lit) -> Result<(), AllocError>
     requires { IsTrue (is_below f.old.vars lit) }
     ensures { OnOk result (f.new ≡ with_clauses f.old (unless fits lit)) }
@@ -244,7 +244,7 @@ fn is_empty_test(negated: bool, simple: &Simple) -> bool
 }
 
 /// Adds the empty clause where the pair is refused as a whole.
-#[tactic(auto, using(crate::proofs::Adding::added_none))]
+#[tactic(auto, using(sibling_clauses::proofs::ForCallers::added_none))]
 pub(crate) fn add_whole(
     f: &mut Formula,
     left: &Selector,

@@ -2,7 +2,7 @@
 
 ghost use Rattle.std.specs.Prelude.{◌≡◌, ◌≤◌, ◌<◌, ◌+◌, ◌^◌, if◌then◌else◌, suc, length, IfOk, OnOk};
 ghost use Rattle.std.specs.List.{AllByRecursion};
-ghost use Rattle.clause_encode.specs.Bounds.{IsSmall, IsWhole, max_digits};
+ghost use Rattle.sibling_clauses.specs.Bounds.{IsSmall, IsWhole, max_digits};
 ghost use Rattle.clause_encode.specs.Fits.{IsSmallFormula, is_fit, numbering_of, pair_formula};
 ghost use Rattle.compound_fit.specs.Table.{IsTable};
 ghost use Rattle.formula_laws.specs.Allowed.{allowed_by};
@@ -10,25 +10,19 @@ ghost use Rattle.formula_laws.specs.Formula.{
   first_vars,
   names_of,
   with_conditions,
-  with_numbers,
   with_refusals,
-  with_tests,
 };
 ghost use Rattle.nth_positions.specs.Gaps.{bounds_of};
 ghost use Rattle.selector_laws.specs.Limits.{KeepsCompound, KeepsLimits};
 ghost use Rattle.slot_plan.specs.Parts.{pair_parts};
 
-use crate::asked::{add_left_tests, add_right_tests, numbers_asked};
-use crate::chains::{chain_of, links_of};
-use crate::counts::add_counts;
 use crate::nodes::{add_nodes, add_whole};
-use crate::numbering::Numbering;
 use crate::path::add_path;
-use crate::root::add_root;
 use cnf::Formula;
 use compound_fit::FitTable;
 use css_model::{Features, Selector};
 use formula_laws::formula_is_small;
+use sibling_clauses::{Numbering, add_numbers, add_root, add_tests, links_of, numbers_asked};
 use slot_plan::PairPlan;
 use std::alloc::{AllocError, Global};
 
@@ -97,50 +91,6 @@ fn add_conditions(
     add_root(alloc, f, g, left, right)?;
     add_tests(alloc, f, g, left, right)?;
     add_refusals(f, g, left, right, fits)?;
-    Ok(())
-}
-
-/// Adds the numbers of siblings, where some test looks at them.
-fn add_numbers(
-    alloc: Global,
-    f: &mut Formula,
-    g: Numbering,
-    left: &Selector,
-    right: &Selector,
-) -> Result<(), AllocError>
-    requires small { IsSmall g }
-    requires left { IsWhole left.now g.left }
-    requires right { IsWhole right.now g.right }
-    requires in_range { first_vars g.left g.right g.digits ≤ f.old.vars }
-    requires room { (with_numbers left.now right.now (names_of g.left g.right g.digits) f.old).vars ≤ 2 ^ 30 }
-    ensures { OnOk result (f.new ≡ with_numbers left.now right.now (names_of g.left g.right g.digits) f.old) }
-{
-    if numbers_asked(left, right) {
-        f.add_clause(&[g.one()])?;
-        add_counts(alloc, f, g, links_of(left), links_of(right))?;
-    }
-    Ok(())
-}
-
-/// Adds the tests of positions of both selectors.
-fn add_tests(
-    alloc: Global,
-    f: &mut Formula,
-    g: Numbering,
-    left: &Selector,
-    right: &Selector,
-) -> Result<(), AllocError>
-    requires small { IsSmall g }
-    requires left { IsWhole left.now g.left }
-    requires right { IsWhole right.now g.right }
-    requires left_tests { AllByRecursion KeepsCompound left.now.chain }
-    requires right_tests { AllByRecursion KeepsCompound right.now.chain }
-    requires in_range { first_vars g.left g.right g.digits ≤ f.old.vars }
-    requires room { (with_tests left.now right.now (names_of g.left g.right g.digits) f.old).vars ≤ 2 ^ 30 }
-    ensures { OnOk result (f.new ≡ with_tests left.now right.now (names_of g.left g.right g.digits) f.old) }
-{
-    add_left_tests(alloc, f, g, chain_of(left))?;
-    add_right_tests(alloc, f, g, chain_of(right))?;
     Ok(())
 }
 

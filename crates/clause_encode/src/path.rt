@@ -1,14 +1,14 @@
 //! The path through the grid, as clauses.
 
 ghost use Rattle.std.specs.Prelude.{◌≡◌, ◌≤◌, ◌∷◌, ◌++◌, ◌+◌, ◌<◌, [], suc, nat_lt, ◌&&◌, length, IsTrue, IfOk, OnOk};
-ghost use Rattle.clause_encode.specs.Bounds.{IsSmall};
+ghost use Rattle.sibling_clauses.specs.Bounds.{IsSmall};
 ghost use Rattle.cnf.specs.Gates.{with_clauses};
 ghost use Rattle.cnf.specs.Lits.{are_below, is_below, negation};
 ghost use Rattle.formula_laws.specs.Formula.{nodes_end};
 ghost use Rattle.formula_laws.specs.Path.{each_below, last_clauses, next_clauses, next_lits, path_clauses};
 
-use crate::numbering::Numbering;
 use cnf::{Formula, Lit, exactly_one};
+use sibling_clauses::Numbering;
 use smallvec::SmallVec;
 use std::alloc::{AllocError, Global};
 
@@ -63,7 +63,7 @@ fn add_row(alloc: Global, f: &mut Formula, g: Numbering, i: u32) -> Result<(), A
 }
 
 /// Adds the next nodes of a cell.
-#[tactic(auto, using(crate::proofs::Adding::added_twice, crate::proofs::Adding::added_none, crate::proofs::InRange::nodes_in_range))]
+#[tactic(auto, using(sibling_clauses::proofs::ForCallers::added_twice, sibling_clauses::proofs::ForCallers::added_none, crate::proofs::InRange::next_in_range))]
 fn add_next(alloc: Global, f: &mut Formula, g: Numbering, i: u32, j: u32) -> Result<(), AllocError>
     requires small { IsSmall g }
     requires row { i ≤ g.left }

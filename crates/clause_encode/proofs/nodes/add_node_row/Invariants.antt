@@ -1,4 +1,4 @@
-use Rattle.std.proofs.Common.{length, ◌+◌, ◌≡◌}
+use Rattle.std.proofs.Common.{length, ◌≡◌}
 use Rattle.clause_encode.specs.Fits.{is_fit}
 use Rattle.cnf.specs.Gates.{with_clauses}
 use Rattle.formula_laws.specs.Allowed.{allowed_by, cell_clauses, node_fits}

@@ -1,7 +1,0 @@
-use Rattle.std.proofs.Common.{◌≡◌}
-use Rattle.clause_encode.specs.Rows.{right_tests}
-use Rattle.formula_laws.specs.Counts.{steps_below}
-use Rattle.clause_encode.proofs.asked.add_right_tests.Given as goal
-
-abbrev pub invariant-loop-j : goal.invariant-loop-j
-invariant-loop-j l = l.f ≡ steps_below l.j (right_tests l.g l.chain) l.fn.f

@@ -1,5 +1,0 @@
-use Rattle.std.proofs.Common.{length}
-use Rattle.clause_encode.proofs.relations.+add_same.Given as goal
-
-abbrev pub decreases-add_same : goal.decreases-add_same
-decreases-add_same l = length l.x.now

@@ -1,5 +1,0 @@
-use Rattle.std.proofs.Common.{length}
-use Rattle.clause_encode.proofs.relations.+add_same_if.Given as goal
-
-abbrev pub decreases-add_same_if : goal.decreases-add_same_if
-decreases-add_same_if l = length l.x.now

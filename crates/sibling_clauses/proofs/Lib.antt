@@ -1,0 +1,12 @@
+pub mod Adding
+pub mod Cells
+pub mod Counting
+pub mod ForCallers
+pub mod Growing
+pub mod Implied
+pub mod InRange
+pub mod Linked
+pub mod Signed
+pub mod Tested
+pub mod Testing
+pub mod WholeTests

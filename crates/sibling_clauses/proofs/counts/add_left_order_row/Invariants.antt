@@ -1,0 +1,7 @@
+use Rattle.std.proofs.Common.{◌≡◌}
+use Rattle.formula_laws.specs.Counts.{steps_below, with_order_left}
+use Rattle.formula_laws.specs.Formula.{names_of}
+use Rattle.sibling_clauses.proofs.counts.add_left_order_row.Given as goal
+
+abbrev pub invariant-loop-j : goal.invariant-loop-j
+invariant-loop-j l = l.f ≡ steps_below l.j (with_order_left l.left l.right (names_of l.g.left l.g.right l.g.digits) l.i) l.fn.f
