@@ -1,5 +1,5 @@
 -- The clauses of the path through the grid: which node follows which, and which the combinators refuse.
-use Rattle.std.specs.Prelude.{Bool, List, [], false, length, nat_lt, not, suc, true, zero, ℕ, ◌&&◌, ◌*◌, ◌++◌, ◌+◌, ◌∷◌}
+use Rattle.std.specs.Prelude.{Bool, List, [], false, nat_lt, not, suc, true, zero, ℕ, ◌&&◌, ◌*◌, ◌++◌, ◌+◌, ◌∷◌}
 use Rattle.cnf.specs.Gates.{not_both}
 use Rattle.cnf.specs.Lits.{negation, positive}
 use Rattle.cnf.specs.Values.{value}

@@ -1,9 +1,17 @@
 //! What the formula of a pair decides, and its size.
 
-ghost use Rattle.formula_laws.specs.Deciding.{FormulaIsSound, FormulaIsComplete, FormulaDecidesShapes, FormulaIsSmall};
+ghost use Rattle.formula_laws.specs.Deciding.{FormulaIsSound, FormulaIsComplete, FormulaDecidesShapes, FormulaIsSmall, SatisfyingShapesFit};
 
-use grid_laws::{shapes_are_solved, solved_has_a_shape};
+use grid_laws::{shapes_are_solved, solved_has_a_shape, solved_shapes_fit};
 use shape_laws::shapes_shrink;
+
+/// Where a list of values satisfies all clauses, whatever the width of the numbers, the shape that these values give
+/// fits the pair.
+pub fn satisfying_shapes_fit()
+    ensures { SatisfyingShapesFit }
+{
+    solved_shapes_fit();
+}
 
 /// Where a list of values satisfies all clauses, whatever the width of the numbers, a shape fits the pair.
 pub fn formula_is_sound()

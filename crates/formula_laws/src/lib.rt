@@ -6,4 +6,5 @@ mod deciding;
 
 pub use deciding::{
     formula_decides_shapes, formula_is_complete, formula_is_small, formula_is_sound,
+    satisfying_shapes_fit,
 };

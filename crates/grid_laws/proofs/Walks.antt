@@ -1,3 +1,4 @@
+pub mod Going
 pub mod Laid
 pub mod Listing
 pub mod Pending

@@ -1,4 +1,5 @@
 pub mod Grid
 pub mod Numbers
+pub mod Slots
 pub mod Solved
 pub mod Solving

@@ -4,9 +4,16 @@ use Rattle.css_model.specs.Documents.SelectorParts.{SelectorParts}
 use Rattle.slot_plan.specs.ShapeParts.{ShapeParts}
 use Rattle.slot_plan.specs.ValidShape.{ValidShape}
 use Rattle.grid_laws.specs.Grid.{Nodes}
+use Rattle.grid_laws.specs.Slots.{shape_by}
 use Rattle.grid_laws.specs.Solved.{Solved}
 
--- where all conditions hold, a shape fits
+-- where all conditions hold, the shape along the true nodes fits
+abbrev pub SolvedShapesFit : Type 0
+SolvedShapesFit =
+    (x y : SelectorParts) (v : Nodes) (bx ax by ay : ℕ → ℕ) (root child : Bool) → Solved x y v bx ax by ay root child →
+    ValidShape x y (shape_by x y v bx ax by ay root child)
+
+-- so some shape does
 abbrev pub SolvedHasAShape : Type 0
 SolvedHasAShape =
     (x y : SelectorParts) (v : Nodes) (bx ax by ay : ℕ → ℕ) (root child : Bool) → Solved x y v bx ax by ay root child →

@@ -4,4 +4,4 @@
 
 mod solving;
 
-pub use solving::{shapes_are_solved, solved_has_a_shape};
+pub use solving::{shapes_are_solved, solved_has_a_shape, solved_shapes_fit};

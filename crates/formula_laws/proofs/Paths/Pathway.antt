@@ -2,7 +2,7 @@
 use Rattle.std.proofs.Common.{Bool, IsTrue, List, [], ap, arith, false, inl, inr, length, not, refl, subst, suc, sym, true, zero, ℕ, ◌&&◌, ◌++◌, ◌+◌, ◌<◌, ◌||◌, ◌∙◌, ◌∷◌, ◌≡◌, ◌≤◌, ◌⊎◌}
 use Rattle.std.proofs.lemmas.Bool.{and_from, and_parts, false≢true}
 use Rattle.std.specs.Prelude.{nat_lt}
-use Rattle.formula_laws.specs.Path.{both_fit, each_below, left_fits, next_clauses, next_lits, node_lit, only_if, path_clauses, right_fits, same_bool, true_nodes, unless}
+use Rattle.formula_laws.specs.Path.{both_fit, each_below, left_fits, next_clauses, next_lits, node_lit, only_if, path_clauses, right_fits, same_bool, true_nodes}
 use Rattle.cnf.proofs.ForCallers.{list_all-append-from, list_all-append-parts, value-negation}
 use Rattle.cnf.specs.Lits.{negation}
 use Rattle.cnf.specs.Values.{all_hold, holds, value}

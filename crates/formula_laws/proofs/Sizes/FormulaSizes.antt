@@ -9,7 +9,7 @@ use Rattle.formula_laws.proofs.Whole.Filling.{length_literals}
 use Rattle.formula_laws.specs.Allowed.{Allowed, node_clauses, node_fits, whole_clauses}
 use Rattle.formula_laws.specs.Counts.{Names, implied, steps_below, with_counts, with_equal, with_order_left, with_order_right, with_run}
 use Rattle.formula_laws.specs.Formula.{digits_for, first_vars, formula_of, formula_with, names_of, with_conditions, with_numbers, with_path, with_root, with_tests}
-use Rattle.formula_laws.specs.Path.{both_fit, each_below, last_clauses, left_fits, next_clauses, node_lit, only_if, path_clauses, right_fits, unless}
+use Rattle.formula_laws.specs.Path.{both_fit, each_below, last_clauses, next_clauses, node_lit, only_if, path_clauses, unless}
 use Rattle.formula_laws.specs.Positions.{with_positions}
 use Rattle.formula_laws.specs.Relations.{literals, same_digits}
 use Rattle.formula_laws.specs.Root.{root_clauses, top_clauses}

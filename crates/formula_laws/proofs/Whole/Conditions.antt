@@ -7,7 +7,7 @@ use Rattle.formula_laws.proofs.Items.Items.{Item, both_items, clauses_item}
 use Rattle.formula_laws.proofs.Items.MoreItems.{below_item, item_as, when_item}
 use Rattle.formula_laws.proofs.Items.Ranges.{next_below, node_below}
 use Rattle.formula_laws.proofs.Numbers.Counted.{CountsSay, NamesBelow, counted_back, counted_means, counts_item, numbers}
-use Rattle.formula_laws.proofs.Paths.Ends.{NodesFit, OneLast, TopSays, each_in_range, last_item, node_item, root_item, top_item, unless_below, whole_item}
+use Rattle.formula_laws.proofs.Paths.Ends.{NodesFit, OneLast, TopSays, each_in_range, last_item, node_item, root_item, top_item, whole_item}
 use Rattle.formula_laws.proofs.Paths.Pathway.{Goes, Joined, grid_means, path_back, path_means}
 use Rattle.formula_laws.proofs.Tests.Tested.{CompoundSays, ZeroAtRoot, compound_back, compound_item, compound_means}
 use Rattle.formula_laws.specs.Allowed.{Allowed, node_fits}
@@ -15,7 +15,7 @@ use Rattle.formula_laws.specs.Counts.{Names, with_counts}
 use Rattle.formula_laws.specs.Formula.{SmallSteps, with_conditions, with_numbers, with_path, with_refusals, with_root, with_tests}
 use Rattle.formula_laws.specs.Path.{each_below, links_fit, next_clauses, next_lits, node_lit, only_if, path_clauses, true_nodes}
 use Rattle.formula_laws.specs.Positions.{with_positions}
-use Rattle.cnf.proofs.ForCallers.{is_below-negation, list_all-append-from, one_below}
+use Rattle.cnf.proofs.ForCallers.{is_below-negation, one_below}
 use Rattle.cnf.specs.Gates.{with_clauses}
 use Rattle.cnf.specs.Lits.{are_below, is_below, negation}
 use Rattle.cnf.specs.Sums.{number}

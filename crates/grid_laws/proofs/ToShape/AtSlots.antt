@@ -6,14 +6,14 @@ use Rattle.std.specs.Bool.{MatchBool}
 use Rattle.std.specs.Prelude.{Contains, if◌then◌else◌, ◌==◌}
 use Rattle.css_model.specs.Documents.SelectorParts.{SelectorParts}
 use Rattle.css_model.specs.declared.selector.Simple.{Simple}
-use Rattle.grid_laws.proofs.Walks.Laid.{Laid, NumbersAt, On, laid_at}
+use Rattle.grid_laws.proofs.Walks.Laid.{NumbersAt, On}
 use Rattle.grid_laws.proofs.Walks.Listing.{steps_of}
 use Rattle.grid_laws.proofs.Walks.Placed.{Chained, place_of}
 use Rattle.grid_laws.proofs.Walks.SlotNodes.{at_node, slot_node}
 use Rattle.grid_laws.specs.Grid.{Lays, Nodes, has_left, has_right, left_alone, right_alone, together}
+use Rattle.grid_laws.specs.Slots.{Laid, laid_at}
 use Rattle.grid_laws.specs.Solved.{Solved, if_there, nth_compound, root_left, root_right}
 use Rattle.list_facts.proofs.Members.{Contains-cons_cases, Contains-here, Contains-nil, Contains-there}
-use Rattle.slot_plan.specs.ShapeParts.{ShapeParts}
 use Rattle.slot_plan.specs.ValidShape.{simples_at}
 
 -- the counts in a compound's slot are its numbers
@@ -53,17 +53,6 @@ contains_place p (q ∷ qs) (suc i) = Contains-there p (q ∷ qs) (place_of q qs
 pub place_contained : (p : ℕ) (ps : List ℕ) (k : ℕ) → Contains (p ∷ ps) k → (i : ℕ) × (place_of p ps i ≡ k)
 place_contained p [] k h = elim (Contains-cons_cases p [] k h) [ inl e ↦ (0, e) | inr more ↦ absurd (Contains-nil k more) ]
 place_contained p (q ∷ qs) k h = elim (Contains-cons_cases p (q ∷ qs) k h) [ inl e ↦ (0, e) | inr more ↦ (let r = place_contained q qs k more in (suc r.0, r.1)) ]
-
-abbrev pub shape_of : ℕ → ℕ → Bool → Bool → List Laid → ShapeParts
-shape_of b a root child ss = record {
-  steps = steps_of ss;
-  left = 0 ∷ laid_at has_left 1 ss;
-  right = 0 ∷ laid_at has_right 1 ss;
-  before = b ∷ map (λ s. s.before) ss;
-  after = a ∷ map (λ s. s.after) ss;
-  top_is_root = root;
-  root_is_child = child;
-}
 
 -- slot k and its node, counted from the first compounds
 pub record AtSlot (x y : SelectorParts) (v : Nodes) (ss : List Laid) (k : ℕ) : Type 0 where

@@ -8,11 +8,11 @@ use Rattle.css_model.specs.Documents.SelectorParts.{SelectorParts}
 use Rattle.css_model.specs.declared.selector.Combinator.{Combinator}
 use Rattle.css_model.specs.declared.selector.Simple.{Simple}
 use Rattle.grid_laws.proofs.FromShape.Steps.{own_up}
-use Rattle.grid_laws.proofs.ToShape.AtSlots.{AtSlot, Laying, and_true, contains_place, root_at_left, root_at_right, shape_of}
-use Rattle.grid_laws.proofs.Walks.Laid.{Laid, laid_at}
+use Rattle.grid_laws.proofs.ToShape.AtSlots.{AtSlot, Laying, and_true, contains_place, root_at_left, root_at_right}
 use Rattle.grid_laws.proofs.Walks.Listing.{steps_of}
 use Rattle.grid_laws.proofs.Walks.Placed.{Chained, place_of}
 use Rattle.grid_laws.specs.Grid.{Lays, Nodes, has_left, has_right, goes_up_at, left_alone, right_alone, together}
+use Rattle.grid_laws.specs.Slots.{Laid, laid_at, shape_of}
 use Rattle.grid_laws.specs.Solved.{if_there, is_above, node_above, node_simples, nth_compound, root_left, root_right}
 use Rattle.list_facts.proofs.Members.{Contains-nil}
 use Rattle.slot_plan.specs.Positions.{PositionFits}

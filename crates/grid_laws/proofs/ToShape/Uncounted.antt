@@ -1,5 +1,5 @@
 -- Where no test looks at numbers, the numbers are free, and true nodes alone give a shape.
-use Rattle.std.proofs.Common.{Bool, List, [], ap, arith, false, get_or, inl, inr, length, map, not, refl, subst, suc, sym, true, zero, ℕ, ◌&&◌, ◌+◌, ◌||◌, ◌∙◌, ◌∷◌, ◌≡◌, ◌≤◌, ◌⊎◌}
+use Rattle.std.proofs.Common.{Bool, List, [], ap, arith, false, get_or, inl, inr, length, map, not, refl, suc, sym, true, zero, ℕ, ◌&&◌, ◌||◌, ◌∙◌, ◌∷◌, ◌≡◌, ◌≤◌, ◌⊎◌}
 use Rattle.std.proofs.lemmas.Bool.{and_parts, false≢true}
 use Rattle.std.specs.Bool.{MatchBool}
 use Rattle.std.specs.List.{All, list_any}
@@ -11,16 +11,13 @@ use Rattle.css_model.specs.declared.selector.Test.TheVariants.{Any, Attr, Empty,
 use Rattle.grid_laws.proofs.ToShape.AtSlots.{AtSlot, Laying, at_slot}
 use Rattle.grid_laws.proofs.ToShape.Conditions.{above_by}
 use Rattle.grid_laws.proofs.ToShape.SolvedShape.{valid_of}
-use Rattle.grid_laws.proofs.ToShape.AtSlots.{shape_of}
-use Rattle.grid_laws.proofs.Walks.Laid.{Laid, laid_at}
 use Rattle.grid_laws.proofs.Walks.Listing.{chained, length_steps, steps_of}
-use Rattle.grid_laws.proofs.Walks.Pending.{pending_none}
 use Rattle.grid_laws.proofs.Walks.Placed.{Chained, place_of}
-use Rattle.grid_laws.proofs.Walks.Strolling.{Strolled, stroll}
+use Rattle.grid_laws.proofs.Walks.Strolling.{Strolled}
 use Rattle.grid_laws.specs.Grid.{Lays, Nodes, goes_up_at, has_left, has_right, left_alone, right_alone, together}
+use Rattle.grid_laws.specs.Slots.{Laid, laid_at, numbered, row_before, shape_of}
 use Rattle.grid_laws.specs.Solved.{Solved, asks_numbers, is_counted, nth_compound, numbers_asked, root_left, root_right}
 use Rattle.slot_plan.specs.Positions.{PositionFits, PositionHolds, is_position}
-use Rattle.slot_plan.specs.ShapeParts.{ShapeParts}
 use Rattle.slot_plan.specs.Steps.{is_parent}
 use Rattle.slot_plan.specs.ValidShape.{ValidShape}
 
@@ -99,15 +96,16 @@ top_number links v ss after slots c up place last = by (length links) refl
     by (suc m) e = ap (λ (k : ℕ). get_or (0 ∷ after) k 0) place
         ∙ last (ap (is_parent (steps_of ss)) (sym place ∙ ap (place_of 0 slots) e) ∙ above_by (steps_of ss) links slots (suc m) c (omega arith) ∙ ap (goes_up_at links) (sym e) ∙ up)
 
--- the shape that true nodes alone give
-pub uncounted_shape : (x y : SelectorParts) (v : Nodes) (bx ax by ay : ℕ → ℕ) (root child : Bool) → numbers_asked x y ≡ false → Solved x y v bx ax by ay root child → (shape : ShapeParts) × ValidShape x y shape
-uncounted_shape x y v bx ax by ay root child none s = (shape_of w.b 0 root child ss, valid_of x y v bx' ax' by' ay' root child ss s' laying w.counts)
+-- where no test looks at numbers, the shape that true nodes alone give is valid
+pub uncounted_shape : (x y : SelectorParts) (v : Nodes) (bx ax by ay : ℕ → ℕ) (root child : Bool) → numbers_asked x y ≡ false → Solved x y v bx ax by ay root child → (raw : List Laid) → Strolled x.links y.links v [] [] 0 (row_before raw) (numbered 0 raw) →
+    ValidShape x y (shape_of (row_before raw) 0 root child (numbered 0 raw))
+uncounted_shape x y v bx ax by ay root child none s raw w = valid_of x y v bx' ax' by' ay' root child ss s' laying w.counts
   where
-    w : Strolled x.links y.links v [] [] 0
-    w = stroll (length x.links + length y.links) x.links y.links v together [] [] 0 (omega arith) s.grid s.start (pending_none x.links) (pending_none y.links)
+    b : ℕ
+    b = row_before raw
 
     ss : List Laid
-    ss = w.slots
+    ss = numbered 0 raw
 
     cl : Chained (steps_of ss) x.links (laid_at has_left 1 ss)
     cl = chained has_left x.links ss w.left
@@ -116,13 +114,13 @@ uncounted_shape x y v bx ax by ay root child none s = (shape_of w.b 0 root child
     cr = chained has_right y.links ss w.right
 
     bx' : ℕ → ℕ
-    bx' = number_in w.b (map (λ s. s.before) ss) (laid_at has_left 1 ss)
+    bx' = number_in b (map (λ s. s.before) ss) (laid_at has_left 1 ss)
 
     ax' : ℕ → ℕ
     ax' = number_in 0 (map (λ s. s.after) ss) (laid_at has_left 1 ss)
 
     by' : ℕ → ℕ
-    by' = number_in w.b (map (λ s. s.before) ss) (laid_at has_right 1 ss)
+    by' = number_in b (map (λ s. s.before) ss) (laid_at has_right 1 ss)
 
     ay' : ℕ → ℕ
     ay' = number_in 0 (map (λ s. s.after) ss) (laid_at has_right 1 ss)
@@ -157,12 +155,12 @@ uncounted_shape x y v bx ax by ay root child none s = (shape_of w.b 0 root child
     zero_left : root_left x y v root ≡ true → (bx' (length x.links) ≡ 0) × (ax' (length x.links) ≡ 0)
     zero_left t =
         let place : place_of 0 (laid_at has_left 1 ss) (length x.links) ≡ length ss = ap (place_of 0 (laid_at has_left 1 ss)) (sym (top.last refl).0) ∙ top.left_place (lays has_left right_alone left_or t) in
-        (ap (λ (k : ℕ). get_or (w.b ∷ map (λ s. s.before) ss) k 0) place ∙ w.last_before, top_number x.links v ss (map (λ s. s.after) ss) (laid_at has_left 1 ss) cl (s.top_left t).0 place w.last_after)
+        (ap (λ (k : ℕ). get_or (b ∷ map (λ s. s.before) ss) k 0) place ∙ w.last_before, top_number x.links v ss (map (λ s. s.after) ss) (laid_at has_left 1 ss) cl (s.top_left t).0 place w.last_after)
 
     zero_right : root_right x y v root ≡ true → (by' (length y.links) ≡ 0) × (ay' (length y.links) ≡ 0)
     zero_right t =
         let place : place_of 0 (laid_at has_right 1 ss) (length y.links) ≡ length ss = ap (place_of 0 (laid_at has_right 1 ss)) (sym (top.last refl).1) ∙ top.right_place (lays has_right left_alone right_or t) in
-        (ap (λ (k : ℕ). get_or (w.b ∷ map (λ s. s.before) ss) k 0) place ∙ w.last_before, top_number y.links v ss (map (λ s. s.after) ss) (laid_at has_right 1 ss) cr (s.top_right t).0 place w.last_after)
+        (ap (λ (k : ℕ). get_or (b ∷ map (λ s. s.before) ss) k 0) place ∙ w.last_before, top_number y.links v ss (map (λ s. s.after) ss) (laid_at has_right 1 ss) cr (s.top_right t).0 place w.last_after)
 
     s' : Solved x y v bx' ax' by' ay' root child
     s' = renumbered x y v bx ax by ay bx' ax' by' ay' root child none zero_left zero_right s

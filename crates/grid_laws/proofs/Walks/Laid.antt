@@ -1,17 +1,11 @@
--- A walk through the grid, and the slots that it lays.
+-- What holds of the slots that a walk through the grid lays.
 use Rattle.std.specs.Bool.{MatchBool}
-use Rattle.std.specs.Prelude.{Bool, List, [], false, if◌then◌else◌, suc, true, ℕ, ◌++◌, ◌∷◌, ◌≡◌}
+use Rattle.std.specs.Prelude.{Bool, List, [], false, suc, true, ℕ, ◌++◌, ◌∷◌, ◌≡◌}
 use Rattle.css_model.specs.declared.selector.Combinator.{Combinator}
 use Rattle.grid_laws.specs.Grid.{Lays, Nodes, left_alone, right_alone, together}
+use Rattle.grid_laws.specs.Slots.{Laid}
 use Rattle.slot_plan.specs.Steps.{LinkFits}
 use Rattle.slot_plan.specs.declared.shape.SlotStep.{SlotStep}
-
--- a slot behind the first one
-pub record Laid : Type 0 where
-  pub step : SlotStep
-  pub lays : Lays
-  pub before : ℕ
-  pub after : ℕ
 
 -- the steps are as one selector's combinators ask, where `mids` are those since its last compound: all its compounds are laid
 abbrev pub WalkFits : (Lays → Bool) → List Combinator → List SlotStep → List Laid → Type 0
@@ -36,8 +30,3 @@ On v (s ∷ ss) = elim s.lays [
   | right_alone ↦ (v right_alone 0 1 ≡ true) × On (λ k i j. v k i (suc j)) ss
   | together ↦ (v together 1 1 ≡ true) × On (λ k i j. v k (suc i) (suc j)) ss
 ]
-
--- the numbers of the slots in which a selector has a compound, where the first slot of the list is number k
-abbrev pub laid_at : (Lays → Bool) → ℕ → List Laid → List ℕ
-laid_at one k [] = []
-laid_at one k (s ∷ ss) = if one s.lays then k ∷ laid_at one (suc k) ss else laid_at one (suc k) ss

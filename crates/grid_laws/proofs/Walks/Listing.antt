@@ -5,9 +5,10 @@ use Rattle.std.specs.Bool.{MatchBool}
 use Rattle.std.specs.List.{slice_range}
 use Rattle.std.specs.Prelude.{if◌then◌else◌}
 use Rattle.css_model.specs.declared.selector.Combinator.{Combinator}
-use Rattle.grid_laws.proofs.Walks.Laid.{Laid, WalkFits, laid_at}
+use Rattle.grid_laws.proofs.Walks.Laid.{WalkFits}
 use Rattle.grid_laws.proofs.Walks.Placed.{Chained, place_of}
 use Rattle.grid_laws.specs.Grid.{Lays}
+use Rattle.grid_laws.specs.Slots.{Laid, laid_at}
 use Rattle.slot_plan.specs.Steps.{LinkFits, LinksFit}
 use Rattle.slot_plan.specs.ValidShape.{Ascend}
 use Rattle.slot_plan.specs.declared.shape.SlotStep.{SlotStep}

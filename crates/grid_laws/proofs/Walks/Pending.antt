@@ -6,6 +6,7 @@ use Rattle.css_model.specs.declared.selector.Combinator.{Combinator}
 use Rattle.css_model.specs.declared.selector.Combinator.TheVariants.{Child, Inside, Later, Next}
 use Rattle.grid_laws.specs.Grid.{goes_up, waits_at}
 use Rattle.grid_laws.specs.Numbers.{LinkNumbers}
+use Rattle.grid_laws.specs.Slots.{step_for}
 use Rattle.slot_plan.specs.Counts.{StepCounts}
 use Rattle.slot_plan.specs.Steps.{AreSides, IsSide, LinkFits}
 use Rattle.slot_plan.specs.declared.shape.SlotStep.{SlotStep}
@@ -18,11 +19,6 @@ Pending (Next ∷ links) mids = mids ≡ []
 Pending (Later ∷ links) mids = AreSides mids
 Pending (Child ∷ links) mids = AreSides mids
 Pending (Inside ∷ links) mids = Unit {0}
-
--- the step into a slot
-abbrev pub step_for : Bool → ℕ → ℕ → SlotStep
-step_for true b b' = UpOne
-step_for false b b' = if b == suc b' then NextTo else Further
 
 -- one more step to a sibling
 sides_push : (mids : List SlotStep) (s : SlotStep) → AreSides mids → IsSide s → AreSides (mids ++ s ∷ [])

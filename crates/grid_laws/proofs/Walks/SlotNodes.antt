@@ -3,9 +3,10 @@ use Rattle.std.proofs.Common.{Bool, List, [], ap, arith, false, get_or, inl, inr
 use Rattle.std.proofs.lemmas.Bool.{eq-eqb, false≢true}
 use Rattle.std.specs.Prelude.{if◌then◌else◌, ◌==◌}
 use Rattle.css_model.specs.declared.selector.Simple.{Simple}
-use Rattle.grid_laws.proofs.Walks.Laid.{Laid, On, laid_at}
+use Rattle.grid_laws.proofs.Walks.Laid.{On}
 use Rattle.grid_laws.proofs.Walks.Placed.{place_of}
 use Rattle.grid_laws.specs.Grid.{Lays, Nodes, has_left, has_right, left_alone, right_alone, together}
+use Rattle.grid_laws.specs.Slots.{Laid, laid_at}
 use Rattle.slot_plan.specs.ValidShape.{simples_at}
 
 -- no compound stands in a slot before the first one of a list
