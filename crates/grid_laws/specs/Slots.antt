@@ -16,13 +16,13 @@ pub record Laid : Type 0 where
   pub before : ℕ
   pub after : ℕ
 
--- Which node follows that of the compounds i and j: the first true one of the next left compound alone and the next
--- right one alone, or else that of both.
-abbrev pub next_lays : List Combinator → List Combinator → Nodes → ℕ → ℕ → Option Lays
-next_lays xl yl v i j =
-    if nat_lt i (length xl) && v left_alone (suc i) j then Some left_alone
-    else (if nat_lt j (length yl) && v right_alone i (suc j) then Some right_alone
-    else (if nat_lt i (length xl) && nat_lt j (length yl) then Some together
+-- Which node follows that of the compounds i and j, where m and n are the last ones: the first true one of the next
+-- left compound alone and the next right one alone, or else that of both.
+abbrev pub next_lays : ℕ → ℕ → Nodes → ℕ → ℕ → Option Lays
+next_lays m n v i j =
+    if nat_lt i m && v left_alone (suc i) j then Some left_alone
+    else (if nat_lt j n && v right_alone i (suc j) then Some right_alone
+    else (if nat_lt i m && nat_lt j n then Some together
     else None))
 
 -- the step into a slot, up or to a sibling, by how many siblings stand before the slot that it leaves and before this one
@@ -49,7 +49,7 @@ laid_next (Some k) make = make k
 -- at most so many slots along the true nodes behind that of the compounds i and j, before whose slot b siblings stand
 abbrev pub slots_from : ℕ → List Combinator → List Combinator → Nodes → (ℕ → ℕ) → (ℕ → ℕ) → (ℕ → ℕ) → (ℕ → ℕ) → ℕ → ℕ → ℕ → List Laid
 slots_from zero xl yl v bx ax by ay i j b = []
-slots_from (suc n) xl yl v bx ax by ay i j b = laid_next (next_lays xl yl v i j) (λ k.
+slots_from (suc n) xl yl v bx ax by ay i j b = laid_next (next_lays (length xl) (length yl) v i j) (λ k.
     let i' = ahead (has_left k) i in
     let j' = ahead (has_right k) j in
     let slot = slot_at xl yl bx ax by ay k i' j' b in

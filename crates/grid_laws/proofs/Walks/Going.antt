@@ -12,9 +12,9 @@ shift f i = f (suc i)
 
 -- the way on from a cell that is not the last one
 pub data Way (xl yl : List Combinator) (v : Nodes) (i j : ℕ) : Type 0 where
-  to_left : next_lays xl yl v i j ≡ Some left_alone → i < length xl → v left_alone (suc i) j ≡ true → Way xl yl v i j
-  to_right : next_lays xl yl v i j ≡ Some right_alone → j < length yl → v right_alone i (suc j) ≡ true → Way xl yl v i j
-  to_both : next_lays xl yl v i j ≡ Some together → i < length xl → j < length yl → v together (suc i) (suc j) ≡ true → Way xl yl v i j
+  to_left : next_lays (length xl) (length yl) v i j ≡ Some left_alone → i < length xl → v left_alone (suc i) j ≡ true → Way xl yl v i j
+  to_right : next_lays (length xl) (length yl) v i j ≡ Some right_alone → j < length yl → v right_alone i (suc j) ≡ true → Way xl yl v i j
+  to_both : next_lays (length xl) (length yl) v i j ≡ Some together → i < length xl → j < length yl → v together (suc i) (suc j) ≡ true → Way xl yl v i j
 
 -- three tests, one after the other
 abbrev chosen : Bool → Bool → Bool → Option Lays
@@ -48,10 +48,10 @@ laid_same (Some k) f g h = h k
 next_suc : (i n : ℕ) → nat_lt (suc i) (suc n) ≡ nat_lt i n
 next_suc i n = grind arith
 
-next_left : (l : Combinator) (xl yl : List Combinator) (v : Nodes) (i j : ℕ) → next_lays (l ∷ xl) yl v (suc i) j ≡ next_lays xl yl (λ k i j. v k (suc i) j) i j
+next_left : (l : Combinator) (xl yl : List Combinator) (v : Nodes) (i j : ℕ) → next_lays (length (l ∷ xl)) (length yl) v (suc i) j ≡ next_lays (length xl) (length yl) (λ k i j. v k (suc i) j) i j
 next_left l xl yl v i j = ap (λ b. chosen (b && v left_alone (suc (suc i)) j) (nat_lt j (length yl) && v right_alone (suc i) (suc j)) (b && nat_lt j (length yl))) (next_suc i (length xl))
 
-next_right : (m : Combinator) (xl yl : List Combinator) (v : Nodes) (i j : ℕ) → next_lays xl (m ∷ yl) v i (suc j) ≡ next_lays xl yl (λ k i j. v k i (suc j)) i j
+next_right : (m : Combinator) (xl yl : List Combinator) (v : Nodes) (i j : ℕ) → next_lays (length xl) (length (m ∷ yl)) v i (suc j) ≡ next_lays (length xl) (length yl) (λ k i j. v k i (suc j)) i j
 next_right m xl yl v i j = ap (λ b. chosen (nat_lt i (length xl) && v left_alone (suc i) (suc j)) (b && v right_alone i (suc (suc j))) (nat_lt i (length xl) && b)) (next_suc j (length yl))
 
 -- slots behind the next left compound
@@ -61,7 +61,7 @@ slots_left zero l xl yl v bx ax by ay i j b = refl
 slots_left (suc n) l xl yl v bx ax by ay i j b =
     ap (λ o. laid_next o (λ k. slot_at (l ∷ xl) yl bx ax by ay k (ahead (has_left k) (suc i)) (ahead (has_right k) j) b
     ∷ slots_from n (l ∷ xl) yl v bx ax by ay (ahead (has_left k) (suc i)) (ahead (has_right k) j) (slot_at (l ∷ xl) yl bx ax by ay k (ahead (has_left k) (suc i)) (ahead (has_right k) j) b).before)) (next_left l xl yl v i j)
-    ∙ laid_same (next_lays xl yl (λ k i j. v k (suc i) j) i j) _ _ (each (λ i j b. slots_left n l xl yl v bx ax by ay i j b))
+    ∙ laid_same (next_lays (length xl) (length yl) (λ k i j. v k (suc i) j) i j) _ _ (each (λ i j b. slots_left n l xl yl v bx ax by ay i j b))
   where
     each : ((i j b : ℕ) → slots_from n (l ∷ xl) yl v bx ax by ay (suc i) j b ≡ slots_from n xl yl (λ k i j. v k (suc i) j) (shift bx) (shift ax) by ay i j b) → (k : Lays) → (slot_at (l ∷ xl) yl bx ax by ay k (ahead (has_left k) (suc i)) (ahead (has_right k) j) b
         ∷ slots_from n (l ∷ xl) yl v bx ax by ay (ahead (has_left k) (suc i)) (ahead (has_right k) j) (slot_at (l ∷ xl) yl bx ax by ay k (ahead (has_left k) (suc i)) (ahead (has_right k) j) b).before)
@@ -78,7 +78,7 @@ slots_right zero m xl yl v bx ax by ay i j b = refl
 slots_right (suc n) m xl yl v bx ax by ay i j b =
     ap (λ o. laid_next o (λ k. slot_at xl (m ∷ yl) bx ax by ay k (ahead (has_left k) i) (ahead (has_right k) (suc j)) b
     ∷ slots_from n xl (m ∷ yl) v bx ax by ay (ahead (has_left k) i) (ahead (has_right k) (suc j)) (slot_at xl (m ∷ yl) bx ax by ay k (ahead (has_left k) i) (ahead (has_right k) (suc j)) b).before)) (next_right m xl yl v i j)
-    ∙ laid_same (next_lays xl yl (λ k i j. v k i (suc j)) i j) _ _ (each (λ i j b. slots_right n m xl yl v bx ax by ay i j b))
+    ∙ laid_same (next_lays (length xl) (length yl) (λ k i j. v k i (suc j)) i j) _ _ (each (λ i j b. slots_right n m xl yl v bx ax by ay i j b))
   where
     each : ((i j b : ℕ) → slots_from n xl (m ∷ yl) v bx ax by ay i (suc j) b ≡ slots_from n xl yl (λ k i j. v k i (suc j)) bx ax (shift by) (shift ay) i j b) → (k : Lays) → (slot_at xl (m ∷ yl) bx ax by ay k (ahead (has_left k) i) (ahead (has_right k) (suc j)) b
         ∷ slots_from n xl (m ∷ yl) v bx ax by ay (ahead (has_left k) i) (ahead (has_right k) (suc j)) (slot_at xl (m ∷ yl) bx ax by ay k (ahead (has_left k) i) (ahead (has_right k) (suc j)) b).before)
