@@ -10,4 +10,4 @@ mod tally;
 mod terms;
 mod walk;
 
-pub use print::{print_decl, print_len, print_selector, print_sheet};
+pub use print::{decl_len, print_decl, print_len, print_selector, print_sheet, selector_len};

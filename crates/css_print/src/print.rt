@@ -159,6 +159,50 @@ pub fn print_len(sheet: &Sheet, source: &[u8]) -> u64
     tally(sheet.items.as_slice(), source).len_behind_mark()
 }
 
+/// The tally of a selector's text.
+fn selector_tally(item: &SelItem, source: &[u8]) -> Tally
+    requires length { length source.now ≤ max_bytes }
+    requires sound { IsSoundSelector source.now item.now }
+    ensures { result ≡ tally_of (printed_selector source.now item.now) }
+{
+    let mut tally = Tally::new();
+    match put_selector(&mut tally, item, source) {
+        Ok(()) => tally,
+        Err(never) => match never {},
+    }
+}
+
+/// The tally of a declaration's text.
+fn declaration_tally(item: &DeclItem, source: &[u8]) -> Tally
+    requires { IsSoundDeclaration source.now item.now }
+    ensures { result ≡ tally_of (printed_declaration source.now item.now) }
+{
+    let mut tally = Tally::new();
+    match put_declaration(&mut tally, item, source) {
+        Ok(()) => tally,
+        Err(never) => match never {},
+    }
+}
+
+/// The length of the printed text of a selector that is sound for `source`, in bytes; of a text that is longer than
+/// `u64::MAX`, that number. Takes no memory.
+pub fn selector_len(item: &SelItem, source: &[u8]) -> u64
+    requires length { length source.now ≤ max_bytes }
+    requires sound { IsSoundSelector source.now item.now }
+    ensures { result ≡ min (length (printed_selector source.now item.now)) (2 ^ 64 - 1) }
+{
+    selector_tally(item, source).len()
+}
+
+/// The length of the printed text of a declaration that is sound for `source`, in bytes; of a text that is longer than
+/// `u64::MAX`, that number. Takes no memory.
+pub fn decl_len(item: &DeclItem, source: &[u8]) -> u64
+    requires { IsSoundDeclaration source.now item.now }
+    ensures { result ≡ min (length (printed_declaration source.now item.now)) (2 ^ 64 - 1) }
+{
+    declaration_tally(item, source).len()
+}
+
 /// The printed text of a selector that is sound for `source`: its tokens there, with white space only where it is a
 /// combinator (Selectors 3, section 8), and each argument of `:nth-child()` and its kin in its shortest notation.
 pub fn print_selector(alloc: Global, item: &SelItem, source: &[u8]) -> Result<Vec<u8>, AllocError>

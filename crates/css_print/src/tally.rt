@@ -92,12 +92,19 @@ impl Tally {
         is_mark(self.front)
     }
 
+    /// The length of the text; of one that is longer than `u64::MAX`, that number.
+    pub(crate) fn len(self) -> u64
+        ensures { (text : List ℕ) → self ≡ spec.tally_of text → result ≡ min (length text) (2 ^ 64 - 1) }
+    {
+        u64::MAX - self.room
+    }
+
     /// The length of the text with a space before its byte order mark, if it begins with one; of one that is
     /// longer than `u64::MAX`, that number.
     pub(crate) fn len_behind_mark(self) -> u64
         ensures { (text : List ℕ) → self ≡ spec.tally_of text → result ≡ min (length (behind_mark text)) (2 ^ 64 - 1) }
     {
-        let len = u64::MAX - self.room;
+        let len = self.len();
         if self.begins_with_mark() {
             len.saturating_add(1)
         } else {

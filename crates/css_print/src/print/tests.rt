@@ -3,7 +3,7 @@
 ghost use Rattle.std.specs.Prelude.{◌≡◌, ◌∷◌, [], None, false, pos, codes, IfOk};
 ghost use Rattle.css_model.specs.Sheets.Sound.{IsSoundSelector, IsSoundDeclaration, IsSoundRule, IsSoundItem, IsSound};
 
-use super::{print_decl, print_len, print_selector, print_sheet};
+use super::{decl_len, print_decl, print_len, print_selector, print_sheet, selector_len};
 use css_model::{
     AnB, AttrTest, Bytes, Combinator, Compound, Decl, DeclItem, Item, Op, Piece, Rule, SelItem,
     Selector, Sheet, Simple, Test, Text,
@@ -203,6 +203,7 @@ fn prints_selectors(rt: HostRuntime) -> Result<(), Fail> {
     let item = inside_item(rt.alloc())?;
     let text = print_selector(rt.alloc(), &item, INSIDE)?;
     assert_eq!(rt; text.as_slice(), b"b a:nth-child(odd)".as_slice());
+    assert_eq!(rt; selector_len(&item, INSIDE), 18);
     Ok(())
 }
 
@@ -214,6 +215,7 @@ fn prints_declarations(rt: HostRuntime) -> Result<(), Fail> {
     let item = left(rt.alloc())?;
     let text = print_decl(rt.alloc(), &item, RULE)?;
     assert_eq!(rt; text.as_slice(), b"left:1px!important".as_slice());
+    assert_eq!(rt; decl_len(&item, RULE), 18);
     Ok(())
 }
 
