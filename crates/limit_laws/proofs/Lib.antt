@@ -1,0 +1,5 @@
+mod Once
+mod PairCounts
+mod PairSteps
+mod Planned
+mod Repeats
