@@ -120,7 +120,8 @@ fn is_without_white(text: &[char]) -> bool
 fn is_white(c: char) -> bool
     ensures { result ≡ is_white c }
 {
-    matches!(c, ' ' | '\t' | '\n' | '\r' | '\u{c}')
+    // Most code points stand behind the space, so that one comparison tells them apart.
+    c <= ' ' && matches!(c, ' ' | '\t' | '\n' | '\r' | '\u{c}')
 }
 
 /// Whether a word stands behind white space.
