@@ -1,14 +1,14 @@
 -- The attributes that are given, from the answers for each name.
-use Rattle.std.proofs.Common.{◌≡◌, ◌≢◌, ◌⊎◌, ℕ, Bool, true, false, ◌||◌, cond, suc, ◌+◌, ◌<◌, length, take, drop, drop-cons, get_or, append_assoc, arith, List, [], ◌∷◌, ◌++◌, map, Option, Some, None, refl, sym, ap, subst, inl, inr, ◌∙◌}
+use Rattle.std.proofs.Common.{◌≡◌, ◌⊎◌, ℕ, Bool, true, false, ◌||◌, cond, suc, ◌+◌, ◌<◌, length, take, drop, drop-cons, get_or, append_assoc, arith, List, [], ◌∷◌, ◌++◌, map, Option, Some, None, refl, sym, ap, subst, inl, inr, ◌∙◌}
 use Rattle.std.proofs.lemmas.Bool.{false≢true, true≢false, or_parts, or_cases}
 use Rattle.std.proofs.lemmas.List.{map-append}
 use Rattle.std.proofs.lemmas.List.Elements.{All-append, All-head, All-tail, All-nil, All-cons}
 use Rattle.std.specs.Prelude.{codes}
 use Rattle.std.specs.Bool.{MatchBool}
 use Rattle.std.specs.Cmp.Lexicographic.{slice_cmp, bytes_decides, texts_ties}
-use Rattle.std.specs.declared.cmp.Ordering.TheVariants.{Less, Equal}
+use Rattle.std.specs.declared.cmp.Ordering.TheVariants.{Less}
 use Rattle.std.specs.Ordering.{is_eq, nat_cmp}
-use Rattle.std.specs.List.{All, AllByRecursion, list_any}
+use Rattle.std.specs.List.{All, AllByRecursion}
 use Rattle.std.specs.List.Sorted.{IsStrictlySortedBy}
 use Rattle.css_model.specs.declared.selector.AttrTest.{AttrTest}
 use Rattle.css_model.specs.Documents.Document.{IsText}
@@ -24,7 +24,7 @@ use Rattle.compound_fit.specs.Attributes.{AttributeFits, given, given_one, has_n
 use Rattle.compound_fit.specs.Fitting.{AreSolved, SolvesName, SpacesAreLeft, as_answer}
 use Rattle.compound_fit.specs.FreeNames.{is_among}
 use Rattle.compound_fit.specs.Ids.{SolvesId}
-use Rattle.compound_fit.proofs.Members.{other_text, same_itself}
+use Rattle.compound_fit.proofs.Members.{same_itself}
 use Rattle.compound_fit.proofs.NameParts.{unnamed}
 
 names : List (List ℕ × Fits) → List (List ℕ)

@@ -6,7 +6,7 @@ use Rattle.std.proofs.lemmas.Bool.{false≢true, true≢false}
 use Rattle.std.specs.Prelude.{◌==◌, decimal, codes, ◌++◌, nat_le}
 use Rattle.std.proofs.lemmas.Bool.Decides.{leb_tells}
 use Rattle.std.proofs.lemmas.Fmt.{decimal_injective, decimal_nonempty}
-use Rattle.std.proofs.lemmas.Bool.{eqb-true, eq-eqb}
+use Rattle.std.proofs.lemmas.Bool.{eqb-true}
 use Rattle.css_model.specs.Lists.{same_text}
 use Rattle.compound_fit.specs.FreeNames.{free_name, is_among}
 use Rattle.compound_fit.specs.Laws.{SomeNameIsFree}

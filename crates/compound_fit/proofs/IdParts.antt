@@ -1,6 +1,6 @@
 -- The id that is tried passes, where some does.
 use Rattle.std.proofs.Common.{◌≡◌, ◌≢◌, ℕ, Bool, true, false, not, ◌&&◌, cond, List, [], ◌∷◌, Option, Some, None, refl, sym, ap, subst, ◌∙◌}
-use Rattle.std.proofs.lemmas.Bool.{false≢true, true≢false}
+use Rattle.std.proofs.lemmas.Bool.{false≢true}
 use Rattle.std.proofs.lemmas.List.Elements.{All-head, All-tail, All-nil, All-cons}
 use Rattle.std.specs.Prelude.{MatchOption}
 use Rattle.std.specs.Bool.{MatchBool}
@@ -9,12 +9,12 @@ use Rattle.css_model.specs.declared.selector.AttrTest.{AttrTest}
 use Rattle.css_model.specs.declared.selector.Op.{Op}
 use Rattle.css_model.specs.declared.selector.Op.TheVariants.{Present, Equal, Word, Dash, Prefix, Suffix, Part}
 use Rattle.css_model.specs.Documents.Attribute.{Passes}
-use Rattle.attr_values.specs.declared.solve.Fits.TheVariants.{Absent, Value, Nothing}
+use Rattle.attr_values.specs.declared.solve.Fits.{Fits}
 use Rattle.attr_values.specs.Asked.{PassesAsAsked, PassesOne, asked, is_asked, is_equal, passes_as_asked, refused}
 use Rattle.attr_values.specs.Value.{head_of}
 use Rattle.attr_values.proofs.ForCallers.{passing-decides}
 use Rattle.compound_fit.specs.FreeNames.{IsFirstFree, is_among}
-use Rattle.compound_fit.specs.Ids.{ArePlain, IsFreeId, IsTriedId, SolvesId, is_plain}
+use Rattle.compound_fit.specs.Ids.{ArePlain, IsFreeId, IsTriedId, SolvesId, if_passes, is_plain}
 use Rattle.compound_fit.proofs.Members.{not_among}
 
 asked_is : (s w : List ℕ) (tests : List (AttrTest × Bool)) → PassesAsAsked tests s → head_of (asked is_equal tests) ≡ Some w → s ≡ w
@@ -66,9 +66,10 @@ tried_passes s v tests plain h is = cases (head_of (asked is_equal tests)) refl 
     cases (Some w) e same = subst (PassesAsAsked tests) (asked_is s w tests h e ∙ sym same) h
     cases None e free = free_passes s v tests plain h e (free_differs v (refused is_equal tests) free)
 
--- at the ends of the function
-pub id_passes : (tests : List (AttrTest × Bool)) (v : List ℕ) → true ≡ is_asked tests → true ≡ passes_as_asked tests v → IsTriedId v tests → SolvesId (Value v) tests
-id_passes tests v some passes is = (sym some, (passing-decides tests v).0 (sym passes), is)
-
-pub id_fails : (tests : List (AttrTest × Bool)) (v : List ℕ) → ArePlain tests → true ≡ is_asked tests → false ≡ passes_as_asked tests v → IsTriedId v tests → SolvesId Nothing tests
-id_fails tests v plain some fails is = (sym some, λ s h. false≢true (fails ∙ (passing-decides tests v).1 (tried_passes s v tests plain h is)))
+-- at the end of the function
+pub id_solved : (tests : List (AttrTest × Bool)) (v : List ℕ) (fits : Fits) → ArePlain tests → true ≡ is_asked tests → IsTriedId v tests → fits ≡ if_passes v (passes_as_asked tests v) → SolvesId fits tests
+id_solved tests v fits plain some is made = subst (λ (f : Fits). SolvesId f tests) (sym made) (cases (passes_as_asked tests v) refl)
+  where
+    cases : (b : Bool) → passes_as_asked tests v ≡ b → SolvesId (if_passes v b) tests
+    cases true passes = (sym some, (passing-decides tests v).0 passes, is)
+    cases false fails = (sym some, λ s h. false≢true (sym fails ∙ (passing-decides tests v).1 (tried_passes s v tests plain h is)))

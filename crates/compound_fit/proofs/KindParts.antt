@@ -1,6 +1,6 @@
 -- The type that is tried passes, where some does.
-use Rattle.std.proofs.Common.{◌≡◌, ◌≢◌, ◌⊎◌, ℕ, Bool, true, false, not, cond, Decides, List, [], ◌∷◌, Option, Some, None, refl, sym, ap, subst, ◌∙◌}
-use Rattle.std.proofs.lemmas.Bool.{false≢true, true≢false}
+use Rattle.std.proofs.Common.{◌≡◌, ◌≢◌, ℕ, Bool, true, false, cond, Decides, List, [], ◌∷◌, Option, Some, None, refl, sym, subst, ◌∙◌}
+use Rattle.std.proofs.lemmas.Bool.{false≢true}
 use Rattle.std.proofs.lemmas.Bool.Decides.{Decides-by_and, Decides-not}
 use Rattle.std.proofs.lemmas.List.Elements.{All-head, All-tail, All-nil, All-cons}
 use Rattle.std.specs.Prelude.{MatchOption}
@@ -11,7 +11,7 @@ use Rattle.css_model.specs.declared.selector.Simple.{Simple}
 use Rattle.css_model.specs.declared.selector.Test.{Test}
 use Rattle.css_model.specs.declared.selector.Test.TheVariants.{Any, Kind, Id, Attr, Nth, NthLast, OnlyChild, Root, Empty, State}
 use Rattle.attr_values.specs.Value.{head_of}
-use Rattle.compound_fit.specs.FreeNames.{IsFirstFree, is_among}
+use Rattle.compound_fit.specs.FreeNames.{IsFirstFree}
 use Rattle.compound_fit.specs.Kinds.{IsTriedKind, SolvesKind, asked_kinds, kind_holds, named_kind, passes_kind, passes_kinds, refused_kinds}
 use Rattle.compound_fit.specs.Parts.{KindHolds, PassesKind, is_of_kind}
 use Rattle.compound_fit.proofs.Members.{not_among}

@@ -9,7 +9,7 @@ use Rattle.std.proofs.lemmas.List.{length-map}
 use Rattle.std.proofs.lemmas.List.Elements.{All-head, All-tail, All-nil, All-cons}
 use Rattle.css_model.specs.declared.selector.AttrTest.{AttrTest}
 use Rattle.css_model.specs.Lists.{same_text}
-use Rattle.attr_values.specs.Separators.{HasUnused, IsUnused}
+use Rattle.attr_values.specs.Separators.{IsUnused}
 use Rattle.compound_fit.specs.Laws.{wide_of, EnoughLeft}
 use Rattle.compound_fit.proofs.FreeNames.{find_free}
 

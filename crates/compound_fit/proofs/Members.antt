@@ -1,10 +1,10 @@
 -- Texts among others.
-use Rattle.std.proofs.Common.{◌≡◌, ◌≢◌, ◌⊎◌, ℕ, Bool, true, false, ◌||◌, List, [], ◌∷◌, Option, Some, None, subst, refl, sym, ap, inl, inr, ◌∙◌}
-use Rattle.std.proofs.lemmas.Bool.{false≢true, true≢false, or_parts, or_from}
-use Rattle.std.proofs.lemmas.List.Elements.{All-head, All-tail, All-nil, All-cons}
+use Rattle.std.proofs.Common.{◌≡◌, ◌≢◌, ◌⊎◌, ℕ, Bool, true, false, List, [], ◌∷◌, Option, Some, None, subst, refl, sym, inl, inr, ◌∙◌}
+use Rattle.std.proofs.lemmas.Bool.{true≢false, or_parts}
+use Rattle.std.proofs.lemmas.List.Elements.{All-nil, All-cons}
 use Rattle.std.specs.Prelude.{MatchOption}
 use Rattle.std.specs.Cmp.Lexicographic.{bytes_decides}
-use Rattle.std.specs.List.{All, Contains, list_any}
+use Rattle.std.specs.List.{All, Contains}
 use Rattle.css_model.specs.Lists.{same_text}
 use Rattle.list_facts.proofs.Members.{Contains-cons_cases, Contains-nil}
 use Rattle.compound_fit.specs.FreeNames.{is_among}

@@ -1,7 +1,7 @@
 -- Fits at the end of others.
-use Rattle.std.proofs.Common.{◌≡◌, ◌⊎◌, inl, inr, ℕ, zero, suc, ◌+◌, ◌<◌, ◌≤◌, List, [], ◌∷◌, ◌++◌, length, take, drop, drop-cons, map, Option, Result, Ok, Err, refl, sym, ap, ap₂, subst, ◌∙◌, arith, append_assoc, get_or}
+use Rattle.std.proofs.Common.{◌≡◌, ◌⊎◌, inl, inr, ℕ, zero, suc, ◌+◌, ◌<◌, List, [], ◌∷◌, ◌++◌, length, take, drop, drop-cons, map, Option, Result, Ok, Err, sym, ap, subst, ◌∙◌, arith, append_assoc, get_or}
 use Rattle.std.specs.Prelude.{IfErr, OnOk}
-use Rattle.std.proofs.lemmas.List.{append-nil, map-append, take_all}
+use Rattle.std.proofs.lemmas.List.{append-nil, map-append}
 use Rattle.std.proofs.lemmas.Grind.{flat_map-append}
 use Rattle.std.proofs.lemmas.List.Elements.{All-cons, All-head, All-nil, All-tail, Contains-append_left, Contains-append_right}
 use Rattle.std.specs.List.{All, Contains, flat_map}
@@ -11,9 +11,7 @@ use Rattle.list_facts.proofs.Members.{Contains-cons_cases, Contains-here, Contai
 use Rattle.list_facts.proofs.SliceRange.{take_parts}
 use Rattle.compound_fit.specs.declared.compound.FitError.{FitError}
 use Rattle.compound_fit.specs.declared.compound.FitError.TheVariants.{SpacesTaken, NoMemory}
-use Rattle.compound_fit.specs.Attributes.{attribute_tests}
-use Rattle.compound_fit.specs.Conditions.{IsFittable}
-use Rattle.compound_fit.specs.Fitting.{IsFit, SpacesAreTaken}
+use Rattle.compound_fit.specs.Fitting.{IsFit}
 use Rattle.compound_fit.specs.Table.{AddsFits, AreFits, NoFits, with_each}
 
 fits_append : (fs hs : List (Option FeatureParts)) (gs ks : List (List Simple)) → AreFits fs gs → AreFits hs ks → AreFits (fs ++ hs) (gs ++ ks)

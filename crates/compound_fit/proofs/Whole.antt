@@ -1,5 +1,5 @@
 -- The features that are given, from their parts.
-use Rattle.std.proofs.Common.{◌≡◌, ◌≢◌, ℕ, ◌<◌, ◌^◌, Bool, true, false, List, [], ◌∷◌, map, Option, Some, None, refl, sym, ap, subst, ◌∙◌, arith}
+use Rattle.std.proofs.Common.{◌≡◌, ◌≢◌, ℕ, ◌<◌, ◌^◌, Bool, true, false, List, [], ◌∷◌, map, Some, None, sym, ap, subst, ◌∙◌, arith}
 use Rattle.std.proofs.lemmas.Bool.{true≢false}
 use Rattle.std.proofs.lemmas.List.Elements.{All-map, All-nil, All-cons}
 use Rattle.std.proofs.lemmas.List.Kept.{AllPairs-cons}
@@ -10,16 +10,16 @@ use Rattle.std.specs.List.{All, AllByRecursion, AllPairs}
 use Rattle.std.specs.List.Sorted.{IsStrictlySortedBy}
 use Rattle.css_model.specs.declared.selector.Flag.{Flag}
 use Rattle.css_model.specs.declared.selector.Simple.{Simple}
-use Rattle.css_model.specs.Documents.Document.{Attribute, IsLegalElement, IsText, attribute_value}
+use Rattle.css_model.specs.Documents.Document.{Attribute, IsText, attribute_value}
 use Rattle.css_model.specs.Documents.FeatureParts.{FeatureParts}
-use Rattle.css_model.specs.Documents.Features.{CanSuit, Suits, element_of, flags_of}
+use Rattle.css_model.specs.Documents.Features.{CanSuit, element_of, flags_of}
 use Rattle.attr_values.specs.declared.solve.Fits.{Fits}
 use Rattle.compound_fit.specs.Answers.{AreAnswers, AreTexts}
-use Rattle.compound_fit.specs.Attributes.{attribute_tests, given, has_nothing, tests_of, value_of}
+use Rattle.compound_fit.specs.Attributes.{attribute_tests, has_nothing, tests_of, value_of}
 use Rattle.compound_fit.specs.Fitting.{AreFeatures, AreSolved}
 use Rattle.compound_fit.specs.Flags.{FlagsDecided, asked_flags, is_flag_asked}
 use Rattle.compound_fit.specs.Kinds.{SolvesKind}
-use Rattle.compound_fit.specs.Parts.{AreLegalFlags, PassesFlag, PassesKind}
+use Rattle.compound_fit.specs.Parts.{AreLegalFlags, PassesFlag}
 use Rattle.compound_fit.proofs.AnswerParts.{answer_fits, none_given}
 use Rattle.compound_fit.proofs.ByParts.{parts_apart}
 use Rattle.compound_fit.proofs.Members.{same_itself}

@@ -1,10 +1,9 @@
 -- How the functions answer for each attribute.
-use Rattle.std.specs.Prelude.{◌≡◌, ℕ, Bool, true, false, List, map, Result, Ok, Err, codes}
+use Rattle.std.specs.Prelude.{◌≡◌, ℕ, Bool, true, false, List, map, Result, Ok, Err}
 use Rattle.std.specs.Bool.{MatchBool}
 use Rattle.std.specs.List.{All}
 use Rattle.css_model.specs.declared.selector.AttrTest.{AttrTest}
 use Rattle.css_model.specs.Documents.Document.{IsText}
-use Rattle.css_model.specs.Lists.{same_text}
 use Rattle.attr_values.specs.declared.solve.Fits.{Fits}
 use Rattle.attr_values.specs.Separators.{spaces_taken}
 use Rattle.attr_values.specs.Solved.{Solves}

@@ -9,10 +9,10 @@ use Rattle.css_model.specs.declared.selector.Op.TheVariants.{Equal}
 use Rattle.css_model.specs.declared.selector.Simple.{Simple}
 use Rattle.css_model.specs.declared.selector.Test.{Test}
 use Rattle.css_model.specs.declared.selector.Test.TheVariants.{Id, Attr}
-use Rattle.css_model.specs.Documents.Document.{Attribute, value_among}
+use Rattle.css_model.specs.Documents.Document.{value_among}
 use Rattle.css_model.specs.Lists.{same_text}
 use Rattle.attr_values.specs.declared.solve.Fits.{Fits}
-use Rattle.attr_values.specs.declared.solve.Fits.TheVariants.{Absent, Value, Nothing}
+use Rattle.attr_values.specs.declared.solve.Fits.TheVariants.{Value, Nothing}
 use Rattle.attr_values.specs.Asked.{PassesAsAsked}
 
 -- `#v` asks that the attribute `id` is v (section 6.5)

@@ -1,9 +1,8 @@
 -- What is answered for compounds that one element is to pass.
-use Rattle.std.specs.Prelude.{◌≡◌, ◌≢◌, ℕ, ◌<◌, ◌^◌, Bool, true, false, List, [], ◌∷◌, ◌++◌, map, Option, Some, None, Result, Ok, Err, codes}
+use Rattle.std.specs.Prelude.{◌≡◌, ℕ, ◌<◌, ◌^◌, Bool, true, false, List, [], map, Option, Some, None, Result, Ok, Err, codes}
 use Rattle.std.specs.Bool.{MatchBool}
 use Rattle.std.specs.Cmp.Lexicographic.{slice_cmp}
 use Rattle.std.specs.Ordering.{nat_cmp}
-use Rattle.std.specs.List.{flat_map}
 use Rattle.std.specs.List.Sorted.{IsStrictlySortedBy}
 use Rattle.css_model.specs.declared.selector.AttrTest.{AttrTest}
 use Rattle.css_model.specs.declared.selector.Flag.{Flag}
@@ -13,7 +12,7 @@ use Rattle.css_model.specs.Documents.FeatureParts.{FeatureParts}
 use Rattle.css_model.specs.Documents.Features.{CanSuit, Suits, element_of, flags_of}
 use Rattle.css_model.specs.Lists.{same_text}
 use Rattle.attr_values.specs.declared.solve.Fits.{Fits}
-use Rattle.attr_values.specs.declared.solve.Fits.TheVariants.{Absent, Value, Nothing}
+use Rattle.attr_values.specs.declared.solve.Fits.TheVariants.{Absent, Value}
 use Rattle.attr_values.specs.Separators.{spaces_taken}
 use Rattle.attr_values.specs.Solved.{Solves}
 use Rattle.compound_fit.specs.declared.compound.FitError.{FitError}

@@ -1,5 +1,5 @@
 -- The flags that compounds ask for (Selectors 3, sections 6.6.1, 6.6.2 and 6.6.4).
-use Rattle.std.specs.Prelude.{◌≡◌, ℕ, Bool, true, false, not, ◌&&◌, ◌||◌, ◌==◌, List}
+use Rattle.std.specs.Prelude.{Bool, true, false, not, ◌&&◌, ◌||◌, ◌==◌, List}
 use Rattle.std.specs.List.{All, list_any}
 use Rattle.css_model.specs.declared.selector.Flag.{Flag}
 use Rattle.css_model.specs.declared.selector.Flag.TheVariants.{Link, Visited, Hover, Active, Focus, Target, Enabled, Disabled, Checked}

@@ -1,5 +1,5 @@
 -- The attribute `id` (Selectors 3, section 6.5), which is tested for presence and for equality alone.
-use Rattle.std.specs.Prelude.{◌≡◌, ℕ, Bool, true, false, List, [], MatchOption, codes}
+use Rattle.std.specs.Prelude.{◌≡◌, ℕ, Bool, true, false, if◌then◌else◌, List, [], MatchOption, codes}
 use Rattle.std.specs.Bool.{MatchBool}
 use Rattle.std.specs.List.{All}
 use Rattle.css_model.specs.declared.selector.AttrTest.{AttrTest}
@@ -33,6 +33,10 @@ IsFreeId v refused = MatchBool (is_among refused []) (IsFirstFree v refused) (v 
 -- the id that is tried: the one that is asked for, or a free one
 abbrev pub IsTriedId : List ℕ → List (AttrTest × Bool) → Type 0
 IsTriedId v tests = MatchOption (head_of (asked is_equal tests)) (IsFreeId v (refused is_equal tests)) (λ w. v ≡ w)
+
+-- an id that passes, and nothing in place of one that does not
+abbrev pub if_passes : List ℕ → Bool → Fits
+if_passes v passes = if passes then Value v else Nothing
 
 -- how the id passes tests
 abbrev pub SolvesId : Fits → List (AttrTest × Bool) → Type 0

@@ -1,5 +1,5 @@
 -- The type of an element that compounds ask for (Selectors 3, sections 6.1 and 6.2).
-use Rattle.std.specs.Prelude.{◌≡◌, ℕ, Bool, true, false, not, if◌then◌else◌, List, [], ◌∷◌, Option, Some, None, MatchOption}
+use Rattle.std.specs.Prelude.{◌≡◌, ℕ, Bool, true, not, if◌then◌else◌, List, [], ◌∷◌, Option, Some, None, MatchOption}
 use Rattle.std.specs.List.{All, list_all}
 use Rattle.css_model.specs.declared.selector.Simple.{Simple}
 use Rattle.css_model.specs.declared.selector.Test.{Test}

@@ -1,5 +1,5 @@
 -- The features of the elements that two selectors may share.
-use Rattle.std.specs.Prelude.{◌≡◌, ℕ, List, [], ◌∷◌, ◌++◌, map, Option, Result, Ok, Err}
+use Rattle.std.specs.Prelude.{◌≡◌, List, [], ◌∷◌, ◌++◌, map, Option, Ok}
 use Rattle.std.specs.List.{Contains, flat_map}
 use Rattle.css_model.specs.declared.selector.Simple.{Simple}
 use Rattle.css_model.specs.Documents.FeatureParts.{FeatureParts}

@@ -1,9 +1,9 @@
 //! The attribute `id` (Selectors 3, section 6.5).
 
 ghost use Rattle.std.specs.Prelude.{◌≡◌, Some, None, IfOk, MatchOption};
-ghost use Rattle.attr_values.specs.Asked.{asked, is_asked, is_equal, refused};
+ghost use Rattle.attr_values.specs.Asked.{asked, is_asked, is_equal, passes_as_asked, refused};
 ghost use Rattle.attr_values.specs.Value.{head_of};
-ghost use Rattle.compound_fit.specs.Ids.{ArePlain, IsFreeId, IsTriedId, SolvesId};
+ghost use Rattle.compound_fit.specs.Ids.{ArePlain, IsFreeId, IsTriedId, SolvesId, if_passes};
 
 use crate::free_name::first_free;
 use attr_values::{Fits, passes_as_asked};
@@ -19,8 +19,15 @@ pub(crate) fn solve_id(alloc: Global, tests: &[(AttrTest, bool)]) -> Result<Fits
         return Ok(Fits::Absent);
     }
     let id = tried_id(alloc, tests)?;
-    let passes = passes_as_asked(alloc, tests, id.codes())?;
-    if passes {
+    let fits = if_passes(alloc, tests, id)?;
+    Ok(fits)
+}
+
+/// This id, if it passes each test as it is asked.
+fn if_passes(alloc: Global, tests: &[(AttrTest, bool)], id: Text) -> Result<Fits, AllocError>
+    ensures { IfOk result (λ fits. fits ≡ if_passes id (passes_as_asked tests.now id)) }
+{
+    if passes_as_asked(alloc, tests, id.codes())? {
         Ok(Fits::Value(id))
     } else {
         Ok(Fits::Nothing)

@@ -1,4 +1,4 @@
-use Rattle.std.proofs.Common.{◌≡◌, ◌∙◌, List, Bool, subst, sym, arith}
+use Rattle.std.proofs.Common.{◌∙◌, subst, sym, arith}
 use Rattle.attr_values.specs.Separators.{HasUnused}
 use Rattle.compound_fit.specs.Attributes.{tests_of}
 use Rattle.compound_fit.proofs.AnswerParts.{names_more, solved_here, solved_more}

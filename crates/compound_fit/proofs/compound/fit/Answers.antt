@@ -1,4 +1,4 @@
-use Rattle.std.proofs.Common.{◌≡◌, ◌++◌, ℕ, List, [], ap₂, subst, sym, rules}
+use Rattle.std.proofs.Common.{◌≡◌, ◌++◌, List, [], ap₂, subst, sym, rules}
 use Rattle.std.specs.Prelude.{option_copied}
 use Rattle.css_model.specs.declared.selector.Simple.{Simple}
 use Rattle.attr_values.specs.Separators.{HasUnused}

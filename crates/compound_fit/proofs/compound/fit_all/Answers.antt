@@ -1,12 +1,10 @@
-use Rattle.std.proofs.Common.{◌≡◌, ◌∙◌, ℕ, Bool, true, false, List, Option, Some, None, ap, subst, sym}
+use Rattle.std.proofs.Common.{◌≡◌, ◌∙◌, ℕ, Bool, true, false, List, Option, Some, ap, subst, sym}
 use Rattle.css_model.specs.declared.selector.AttrTest.{AttrTest}
 use Rattle.css_model.specs.Documents.Document.{IsText}
-use Rattle.attr_values.specs.declared.solve.Fits.{Fits}
 use Rattle.attr_values.specs.Separators.{HasUnused}
 use Rattle.compound_fit.specs.Answers.{AreAnswers, AreTexts}
 use Rattle.compound_fit.specs.Attributes.{attribute_tests, given, has_nothing, tests_of}
-use Rattle.compound_fit.specs.Fitting.{AreSolved, SpacesAreLeft}
-use Rattle.compound_fit.specs.Flags.{FlagsDecided}
+use Rattle.compound_fit.specs.Fitting.{AreSolved}
 use Rattle.compound_fit.specs.Kinds.{SolvesKind}
 use Rattle.compound_fit.proofs.AnswerParts.{given_solves, spaces_left}
 use Rattle.compound_fit.proofs.Members.{match_none, match_some}

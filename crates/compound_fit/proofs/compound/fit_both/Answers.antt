@@ -1,4 +1,4 @@
-use Rattle.std.proofs.Common.{◌∙◌, ℕ, List, subst, sym}
+use Rattle.std.proofs.Common.{◌∙◌, List, subst, sym}
 use Rattle.css_model.specs.declared.selector.Simple.{Simple}
 use Rattle.attr_values.specs.Separators.{HasUnused}
 use Rattle.compound_fit.specs.Attributes.{attribute_tests, tests_of}

@@ -1,4 +1,4 @@
-use Rattle.std.proofs.Common.{Bool, List, [], ◌∷◌, refl}
+use Rattle.std.proofs.Common.{Bool, [], ◌∷◌, refl}
 use Rattle.css_model.specs.declared.selector.Flag.{Flag}
 use Rattle.css_model.specs.declared.selector.Flag.TheVariants.{Link, Visited, Hover, Active, Focus, Target, Enabled, Disabled, Checked}
 use Rattle.compound_fit.specs.Flags.{is_flag_asked}

@@ -1,5 +1,5 @@
-use Rattle.std.proofs.Common.{◌≡◌, ◌∙◌, ℕ, true, sym, ap, arith}
-use Rattle.compound_fit.specs.FreeNames.{free_name, is_among}
+use Rattle.std.proofs.Common.{◌∙◌, sym, ap, arith}
+use Rattle.compound_fit.specs.FreeNames.{is_among}
 use Rattle.compound_fit.proofs.FreeNames.{is_taken, none_free}
 use Rattle.compound_fit.proofs.free_name.first_free.Goals.{else-loop-number-test, then-loop-number-test+in_ok-name+else-is_free+else-number-number-end}
 use Rattle.compound_fit.proofs.free_name.first_free.Goals as goal

@@ -1,6 +1,5 @@
-use Rattle.std.proofs.Common.{◌≡◌, List, ap₂, rules, subst, sym}
+use Rattle.std.proofs.Common.{◌≡◌, ap₂, rules, subst, sym}
 use Rattle.std.specs.List.{All}
-use Rattle.css_model.specs.declared.selector.Simple.{Simple}
 use Rattle.compound_fit.specs.Conditions.{IsFittable}
 use Rattle.compound_fit.specs.Table.{groups}
 use Rattle.compound_fit.proofs.table.FitTable.new.Goals as goal
