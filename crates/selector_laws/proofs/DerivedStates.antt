@@ -35,10 +35,10 @@ use Rattle.selector_laws.specs.Grammar.IsTest.{id, class, of_attribute, pseudo_c
 use Rattle.selector_laws.proofs.Answered.{Holds, either}
 use Rattle.selector_laws.proofs.DerivedTests.{TakesElement, TakesSimple, element_is, simple_is, type_is}
 
-cons_head : (x y : Term) (xs ys : List Term) → x ∷ xs ≡ y ∷ ys → x ≡ y
+pub cons_head : (x y : Term) (xs ys : List Term) → x ∷ xs ≡ y ∷ ys → x ≡ y
 cons_head x y xs ys e = cc
 
-cons_tail : (x y : Term) (xs ys : List Term) → x ∷ xs ≡ y ∷ ys → xs ≡ ys
+pub cons_tail : (x y : Term) (xs ys : List Term) → x ∷ xs ≡ y ∷ ys → xs ≡ ys
 cons_tail x y xs ys e = cc
 
 -- each derivation takes a term
@@ -82,20 +82,20 @@ or_universal_some [] some = absurd (omega arith)
 or_universal_some (c ∷ cs) some = refl
 
 -- the terms behind the last combinator: none yet, a compound with this gap behind it, or the end
-data Current (rest : List Term) (g : Gap) (s : SoFar) : Type 0 where
+pub data Current (rest : List Term) (g : Gap) (s : SoFar) : Type 0 where
   begins : rest ≡ [] → s.compound ≡ [] → s.pseudo ≡ None → Current rest g s
   goes_on : IsCompound rest s.compound → g ≡ last_gap rest → s.pseudo ≡ None → Current rest g s
   ends : (element : Pseudo) → IsLast rest s.compound (Some element) → s.pseudo ≡ Some element → Current rest g s
 
-record Stands (done : List Term) (g : Gap) (s : SoFar) : Type 0 where
-  front : List Term
-  rest : List Term
-  parts : done ≡ front ++ rest
-  before : IsFront front s.chain s.links
-  current : Current rest g s
+pub record Stands (done : List Term) (g : Gap) (s : SoFar) : Type 0 where
+  pub front : List Term
+  pub rest : List Term
+  pub parts : done ≡ front ++ rest
+  pub before : IsFront front s.chain s.links
+  pub current : Current rest g s
 
 -- a step takes so many of these terms, behind those that are done
-abbrev Goes : List Term → List Term → SoFar × ℕ → Type 0
+abbrev pub Goes : List Term → List Term → SoFar × ℕ → Type 0
 Goes done xs read = (used : List Term) × (rest : List Term) × (xs ≡ used ++ rest) × (length used ≡ read.1) × (1 ≤ length used) × Stands (done ++ used) (last_gap used) read.0
 
 -- how a compound goes on, whether it has begun or not
@@ -233,7 +233,7 @@ by_compound_is s (c ∷ cs) g x xs done front rest is pseudo parts before (goes_
     in_compound_is s (combinator_of x.kind) g x xs done front rest parts before compound gaps pseudo refl
 by_compound_is s (c ∷ cs) g x xs done front rest is pseudo parts before (ends element is_last p) = absurd (let none : ⊥ = cc in none)
 
-step_is : (s : SoFar) (pseudo : Option Pseudo) (g : Gap) (x : Term) (xs done : List Term) → s.pseudo ≡ pseudo → Stands done g s → Holds (Goes done (x ∷ xs)) (step s pseudo g x xs)
+pub step_is : (s : SoFar) (pseudo : Option Pseudo) (g : Gap) (x : Term) (xs done : List Term) → s.pseudo ≡ pseudo → Stands done g s → Holds (Goes done (x ∷ xs)) (step s pseudo g x xs)
 step_is s (Some p) g x xs done is stands = tt
 step_is s None g x xs done is stands = by_compound_is s s.compound g x xs done stands.front stands.rest refl is stands.parts stands.before stands.current
 
@@ -259,12 +259,11 @@ finish_is s (c ∷ cs) g done is stands = record {
 }
 
 -- the gap behind terms that are passed by, with this one before them
-gap_behind : Gap → List Term → Gap
+abbrev pub gap_behind : Gap → List Term → Gap
 gap_behind g [] = g
 gap_behind g (x ∷ xs) = last_gap (x ∷ xs)
 
 passed_by : (x : Term) (xs : List Term) → gap_behind x.gap xs ≡ last_gap (x ∷ xs)
-unfolding gap_behind
 passed_by x [] = refl
 passed_by x (y ∷ ys) = refl
 
@@ -272,7 +271,7 @@ stands_along : {s : SoFar} (done other : List Term) (g h : Gap) → done ≡ oth
 stands_along {s = s} done other g h same gaps stands = subst (λ x. Stands other x s) gaps (subst (λ d. Stands d g s) same stands)
 
 -- one of the terms that are passed by is done
-one_more : {s : SoFar} (before : List Term) (g : Gap) (x y : Term) (ys : List Term) → x ≡ y → Stands (before ++ y ∷ ys) (last_gap (y ∷ ys)) s
+pub one_more : {s : SoFar} (before : List Term) (g : Gap) (x y : Term) (ys : List Term) → x ≡ y → Stands (before ++ y ∷ ys) (last_gap (y ∷ ys)) s
     → Stands ((before ++ x ∷ []) ++ ys) (gap_behind x.gap ys) s
 one_more before g x y ys same stands =
     stands_along (before ++ y ∷ ys) ((before ++ x ∷ []) ++ ys) (last_gap (y ∷ ys)) (gap_behind x.gap ys)
@@ -284,7 +283,6 @@ no_terms x xs e = absurd (let none : ⊥ = cc in none)
 
 reading_is : (s : SoFar) (g : Gap) (left : ℕ) (xs before middle rest : List Term) → xs ≡ middle ++ rest → length middle ≡ left
     → Stands (before ++ middle) (gap_behind g middle) s → Holds (IsSelector (before ++ xs)) (read_from s g left xs)
-unfolding gap_behind
 reading_is s g left [] before [] rest parts size stands = finish_is s s.compound g (before ++ []) refl stands
 reading_is s g left [] before (m ∷ ms) rest parts size stands = no_terms m (ms ++ rest) parts
 reading_is s g (suc left) (x ∷ xs) before [] rest parts size stands = absurd (omega arith)
@@ -314,7 +312,6 @@ reading_is s g zero (x ∷ xs) before [] rest parts size stands =
             (one_more before g x u us head (subst (λ d. Stands (d ++ u ∷ us) (last_gap (u ∷ us)) read.0) (append-nil before) st)))
 
 pub derived : (terms : List Term) (selector : SelectorParts) → selector_of_terms terms ≡ Ok selector → IsSelector terms selector
-unfolding gap_behind
 derived terms selector read =
     subst (Holds (IsSelector terms)) read
     (reading_is nothing_yet gap.Nothing 0 terms [] [] terms refl refl

@@ -71,7 +71,7 @@ value_is name op n (x ∷ xs) =
     (λ r c. (x, c.0, c.1, ap (λ ys. x ∷ ys) c.2, h, c.3, c.4, c.5)))
     (λ h. tt)
 
-abbrev TakesTest : List Term → Test × ℕ → Type 0
+abbrev pub TakesTest : List Term → Test × ℕ → Type 0
 TakesTest xs read = Takes IsTest xs read
 
 operator_is : (bracket name sign : Term) (op : Op) (xs : List Term) → is_sign_of open_square bracket.kind ≡ true → is_name name ≡ true → op_of sign.kind ≡ Some op

@@ -39,7 +39,7 @@ pub record Keeps (s : SoFar) : Type 0 where
   pub counted : stepped_in_chain s.chain + stepped_in s.compound ≡ s.stepped
   pub stepped : s.stepped ≤ max_stepped
 
-abbrev KeepsRead : SoFar × ℕ → Type 0
+abbrev pub KeepsRead : SoFar × ℕ → Type 0
 KeepsRead read = Keeps read.0
 
 pub keeps_nothing : Keeps nothing_yet
@@ -67,7 +67,7 @@ keeps_simple s simple keeps room space fits =
       stepped = one_stepped s.stepped simple.test fits keeps.stepped;
     }
 
-keeps_link : (s : SoFar) (link : Combinator) → Keeps s → 1 ≤ length s.compound → Keeps (with_link s link)
+pub keeps_link : (s : SoFar) (link : Combinator) → Keeps s → 1 ≤ length s.compound → Keeps (with_link s link)
 keeps_link s link keeps some =
     let room = keeps.one_more some in
     let longer = length-append s.chain (s.compound ∷ []) in
@@ -160,7 +160,7 @@ by_compound_keeps s (c ∷ cs) g x xs is keeps ranged =
     let len : length s.compound ≡ suc (length cs) = ap (λ xs. length xs) is in
     in_compound_keeps s (combinator_of x.kind) g x xs keeps (omega (arith, len)) ranged
 
-step_keeps : (s : SoFar) (pseudo : Option Pseudo) (g : Gap) (x : Term) (xs : List Term) → Keeps s → AllByRecursion HasRange xs → Holds KeepsRead (step s pseudo g x xs)
+pub step_keeps : (s : SoFar) (pseudo : Option Pseudo) (g : Gap) (x : Term) (xs : List Term) → Keeps s → AllByRecursion HasRange xs → Holds KeepsRead (step s pseudo g x xs)
 step_keeps s (Some p) g x xs keeps ranged = tt
 step_keeps s None g x xs keeps ranged = by_compound_keeps s s.compound g x xs refl keeps ranged
 

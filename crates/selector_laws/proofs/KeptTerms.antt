@@ -35,11 +35,11 @@ argument_holds g xs =
 term_holds : (x : SelectorToken) (xs : List SelectorToken) → Holds IsInRange (argument_of_term x xs)
 term_holds x xs = either IsInRange (is_position_function x) _ _ (λ h. argument_holds x.gap xs) (λ h. tt)
 
-terms_hold : (depth left : ℕ) (xs : List SelectorToken) → AllByRecursion HasRange (terms_from depth left xs)
-terms_hold depth left [] = tt
-terms_hold depth (suc left) (x ∷ xs) = terms_hold depth left xs
-terms_hold depth zero (x ∷ xs) = (term_holds x xs, terms_hold (depth_behind_term depth x) (more_of_term x xs) xs)
+pub terms_in_range : (depth left : ℕ) (xs : List SelectorToken) → AllByRecursion HasRange (terms_from depth left xs)
+terms_in_range depth left [] = tt
+terms_in_range depth (suc left) (x ∷ xs) = terms_in_range depth left xs
+terms_in_range depth zero (x ∷ xs) = (term_holds x xs, terms_in_range (depth_behind_term depth x) (more_of_term x xs) xs)
 
 pub read_keeps : (source : List ℕ) (part : List Lexeme) (selector : SelectorParts) → selector_of_lexemes source part ≡ Ok selector → KeepsLimits selector
 read_keeps source part selector read =
-    subst (Holds KeepsLimits) read (reading_keeps nothing_yet gap.Nothing 0 (terms (map (solid source) part)) keeps_nothing (terms_hold 0 0 (map selector_token (map (solid source) part))))
+    subst (Holds KeepsLimits) read (reading_keeps nothing_yet gap.Nothing 0 (terms (map (solid source) part)) keeps_nothing (terms_in_range 0 0 (map selector_token (map (solid source) part))))
