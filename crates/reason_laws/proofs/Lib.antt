@@ -1,3 +1,4 @@
+mod Calm
 mod Places
 mod Told
 mod ToldStates

@@ -5,11 +5,9 @@ use Rattle.css_model.specs.declared.position.AnB.{AnB}
 use Rattle.css_model.specs.declared.reason.Reason.{Reason}
 use Rattle.css_model.specs.declared.reason.Reason.TheVariants as reason
 use Rattle.css_model.specs.declared.token.Gap.{Gap}
-use Rattle.css_model.specs.declared.token.Gap.TheVariants as gap
 use Rattle.css_model.specs.declared.token.Lexeme.{Lexeme}
 use Rattle.css_model.specs.Positions.Range.{is_in_range}
 use Rattle.css_model.specs.Selectors.Arguments.{against_argument, argument_of, argument_text, closes_round, in_range_or, is_position_function, notation_of}
-use Rattle.css_model.specs.Selectors.Compounds.{nothing_yet}
 use Rattle.css_model.specs.Selectors.Reading.{selector_of_lexemes}
 use Rattle.css_model.specs.Selectors.Terms.{Term, argument_of_term, depth_behind_term, more_of_term, terms, terms_from}
 use Rattle.css_model.specs.Selectors.Tokens.{SelectorToken, selector_token}
@@ -18,7 +16,8 @@ use Rattle.reason_laws.specs.Refusals.{IsArgumentRefused, Stands, StandsAt}
 use Rattle.reason_laws.specs.Refusals.IsArgumentRefused.{argument}
 use Rattle.reason_laws.proofs.Places.{Finds}
 use Rattle.reason_laws.proofs.Told.{Tells, either}
-use Rattle.reason_laws.proofs.ToldStates.{reading_tells}
+use Rattle.selector_laws.proofs.ForCallers.{terms_in_range}
+use Rattle.reason_laws.proofs.ToldStates.{terms_tell}
 use Rattle.reason_laws.proofs.ToldTests.{In}
 
 -- a reason against an argument
@@ -59,35 +58,36 @@ from : (before after : List Term) → AllByRecursion HasReason (before ++ after)
 from [] after all = all
 from (x ∷ xs) after all = from xs after all.1
 
-stands_there : (r : Reason) (after : List Term) → OfArgument r → IsArgumentRefused r after → StandsAt r after
-stands_there reason.PseudoClass after holds refused = absurd holds
-stands_there reason.PseudoElement after holds refused = absurd holds
-stands_there reason.Namespace after holds refused = inr refused
-stands_there reason.CaseFlag after holds refused = absurd holds
-stands_there reason.IdTest after holds refused = absurd holds
-stands_there reason.TooManyCompounds after holds refused = absurd holds
-stands_there reason.TooManySimples after holds refused = absurd holds
-stands_there reason.PositionOutOfRange after holds refused = refused
-stands_there reason.TooManyStepped after holds refused = absurd holds
-stands_there reason.NotAllowed after holds refused = tt
+stands_there : (r : Reason) (before after : List Term) → OfArgument r → IsArgumentRefused r after → StandsAt r before after
+stands_there reason.PseudoClass before after holds refused = absurd holds
+stands_there reason.PseudoElement before after holds refused = absurd holds
+stands_there reason.Namespace before after holds refused = inr refused
+stands_there reason.CaseFlag before after holds refused = absurd holds
+stands_there reason.IdTest before after holds refused = absurd holds
+stands_there reason.TooManyCompounds before after holds refused = absurd holds
+stands_there reason.TooManySimples before after holds refused = absurd holds
+stands_there reason.PositionOutOfRange before after holds refused = refused
+stands_there reason.TooManyStepped before after holds refused = absurd holds
+stands_there reason.NotAllowed before after holds refused = tt
 
 of_argument : (r : Reason) (after : List Term) → AllByRecursion HasReason after → IsArgumentRefused r after → OfArgument r
 of_argument r after all (argument sign name rest make colons near named row is) = subst (Tells OfArgument) is all.1.0
 
-told_apart : (r : Reason) (after : List Term) → AllByRecursion HasReason after → StandsAt r after ⊎ IsArgumentRefused r after → StandsAt r after
-told_apart r after all (inl stands) = stands
-told_apart r after all (inr refused) = stands_there r after (of_argument r after all refused) refused
+told_apart : (r : Reason) (before after : List Term) → AllByRecursion HasReason after → StandsAt r before after ⊎ IsArgumentRefused r after → StandsAt r before after
+told_apart r before after all (inl stands) = stands
+told_apart r before after all (inr refused) = stands_there r before after (of_argument r after all refused) refused
 
-found : (r : Reason) (xs : List Term) → AllByRecursion HasReason xs → Finds r xs → Stands r xs
+found : (r : Reason) (xs : List Term) → AllByRecursion HasReason xs → Finds [] r xs → Stands r xs
 found r xs all f =
     record {
       before = f.before;
       after = f.after;
       parts = f.parts;
-      at = told_apart r f.after (from f.before f.after (subst (AllByRecursion HasReason) f.parts all)) f.at;
+      at = told_apart r f.before f.after (from f.before f.after (subst (AllByRecursion HasReason) f.parts all)) f.at;
     }
 
 pub refusals_stand : (source : List ℕ) (part : List Lexeme) (r : Reason) → selector_of_lexemes source part ≡ Err r → Stands r (terms (map (solid source) part))
 refusals_stand source part r refused =
+    let tokens = map selector_token (map (solid source) part) in
     let xs = terms (map (solid source) part) in
-    found r xs (terms_hold 0 0 (map selector_token (map (solid source) part))) (subst (Tells (In xs)) refused (reading_tells nothing_yet gap.Nothing 0 xs))
+    found r xs (terms_hold 0 0 tokens) (subst (Tells (In [] xs)) refused (terms_tell xs (terms_in_range 0 0 tokens)))

@@ -1,9 +1,11 @@
 -- What stands in a selector text where a reason against it comes (own).
-use Rattle.std.specs.Prelude.{ℕ, ◌≡◌, ◌⊎◌, ◌||◌, true, false, List, ◌∷◌, ◌++◌, map, Some, None, Ok, Err, codes}
+use Rattle.std.specs.Prelude.{ℕ, ◌≡◌, ◌⊎◌, ◌+◌, ◌&&◌, ◌||◌, Bool, true, false, List, [], ◌∷◌, ◌++◌, length, map, Some, None, Ok, Err, codes}
 use Rattle.css_model.specs.declared.position.AnB.{AnB}
 use Rattle.css_model.specs.declared.reason.Reason.{Reason}
 use Rattle.css_model.specs.declared.reason.Reason.TheVariants as reason
+use Rattle.css_model.specs.declared.selector.Combinator.{Combinator}
 use Rattle.css_model.specs.declared.selector.Op.{Op}
+use Rattle.css_model.specs.declared.selector.Simple.{Simple}
 use Rattle.css_model.specs.declared.selector.Test.{Test}
 use Rattle.css_model.specs.declared.token.Lexeme.{Lexeme}
 use Rattle.css_model.specs.Lists.{same_text}
@@ -20,6 +22,9 @@ use Rattle.css_model.specs.Text.Characters.{colon, open_square}
 use Rattle.css_model.specs.Text.Kept.{is_white_gap, solid}
 use Rattle.css_model.specs.Text.Lexemes.{is_delim_of, is_ident, is_sign_of}
 use Rattle.css_model.specs.Text.Names.{code_points, lower}
+use Rattle.css_model.specs.Sheets.Limits.{max_compounds, max_simples, max_stepped}
+use Rattle.selector_laws.specs.Grammar.{IsCompound, IsFront, last_gap}
+use Rattle.selector_laws.specs.Limits.{stepped_in, stepped_in_chain}
 
 -- a colon with a name right behind it that no pseudo-class of its kind has: neither `not` nor one in the tables
 pub data IsUnknownClass : List Term → Type 0 where
@@ -43,9 +48,22 @@ pub data IsArgumentRefused (reason : Reason) : List Term → Type 0 where
       → is_function name.kind ≡ true → row_of name.name position_functions ≡ Some make → name.argument ≡ Err reason
       → IsArgumentRefused reason (sign ∷ name ∷ rest)
 
--- a bar
-pub data IsBar : List Term → Type 0 where
-  sign : (x : Term) (rest : List Term) → is_delim_of bar x.kind ≡ true → IsBar (x ∷ rest)
+-- whether terms end with `[` and the name of an attribute
+abbrev pub opens_match : List Term → Bool
+opens_match [] = false
+opens_match (b ∷ []) = false
+opens_match (b ∷ n ∷ []) = is_sign_of open_square b.kind && is_name n
+opens_match (x ∷ b ∷ n ∷ xs) = opens_match (b ∷ n ∷ xs)
+
+-- whether `=` stands right behind a sign
+abbrev pub equals_follows : Term → List Term → Bool
+equals_follows sign [] = false
+equals_follows sign (x ∷ xs) = is_delim_of equals_sign x.kind && is_gapless sign.gap
+
+-- a bar behind these terms that is not the first sign of `|=` behind the name of an attribute
+pub data IsBar (before : List Term) : List Term → Type 0 where
+  elsewhere : (x : Term) (rest : List Term) → is_delim_of bar x.kind ≡ true → opens_match before ≡ false → IsBar before (x ∷ rest)
+  alone : (x : Term) (rest : List Term) → is_delim_of bar x.kind ≡ true → equals_follows x rest ≡ false → IsBar before (x ∷ rest)
 
 -- an ident behind the value of an attribute test, which stands behind `=`
 pub data IsFlag : List Term → Type 0 where
@@ -72,26 +90,70 @@ pub data IsSteppedPosition : List Term → Type 0 where
       → is_white_gap sign.gap ≡ false → is_function name.kind ≡ true → row_of name.name position_functions ≡ Some make
       → name.argument ≡ Ok argument → is_stepped argument ≡ true → IsSteppedPosition (sign ∷ name ∷ rest)
 
--- What the terms begin with where the reason comes. Of a limit it is what is one too many, and is not counted; of
--- terms that are not allowed nothing is said.
-abbrev pub StandsAt : Reason → List Term → Type 0
-StandsAt reason.PseudoClass after = IsUnknownClass after
-StandsAt reason.PseudoElement after = IsUnknownElement after
-StandsAt reason.Namespace after = IsBar after ⊎ IsArgumentRefused reason.Namespace after
-StandsAt reason.CaseFlag after = IsFlag after
-StandsAt reason.IdTest after = IsTestOfId after
-StandsAt reason.TooManyCompounds after = IsCompoundStart after
-StandsAt reason.TooManySimples after = IsSimpleStart after
-StandsAt reason.PositionOutOfRange after = IsArgumentRefused reason.PositionOutOfRange after
-StandsAt reason.TooManyStepped after = IsSteppedPosition after
-StandsAt reason.NotAllowed after = Unit {0}
+-- what is read of a compound: nothing yet, or simple selectors that may go on
+pub data IsBegun (terms : List Term) (simples : List Simple) : Type 0 where
+  nothing : terms ≡ [] → simples ≡ [] → IsBegun terms simples
+  some : IsCompound terms simples → is_white_gap (last_gap terms) ≡ false → IsBegun terms simples
+
+-- terms that the grammar derives as whole compounds with their combinators, and what is read of the next one
+pub record HaveRead (terms : List Term) (chain : List (List Simple)) (simples : List Simple) : Type 0 where
+  pub front : List Term
+  pub rest : List Term
+  pub links : List Combinator
+  pub parts : terms ≡ front ++ rest
+  pub before : IsFront front chain links
+  pub begun : IsBegun rest simples
+
+-- as many whole compounds as a selector may have
+pub record AreAllCompounds (terms : List Term) : Type 0 where
+  pub chain : List (List Simple)
+  pub read : HaveRead terms chain []
+  pub number : length chain ≡ max_compounds
+
+-- as many simple selectors of the last compound as one may have
+pub record AreAllSimples (terms : List Term) : Type 0 where
+  pub chain : List (List Simple)
+  pub simples : List Simple
+  pub read : HaveRead terms chain simples
+  pub number : length simples ≡ max_simples
+
+-- `:not(` or nothing
+pub data IsOpening : List Term → Type 0 where
+  nothing : IsOpening []
+  negation : (sign name : Term) → is_sign_of colon sign.kind ≡ true → is_function name.kind ≡ true → is_word (codes "not") name.name ≡ true
+      → IsOpening (sign ∷ name ∷ [])
+
+-- as many positions whose step has a size of 2 or more as a selector may have
+pub record AreAllStepped (terms : List Term) : Type 0 where
+  pub whole : List Term
+  pub opening : List Term
+  pub parts : terms ≡ whole ++ opening
+  pub opens : IsOpening opening
+  pub chain : List (List Simple)
+  pub simples : List Simple
+  pub read : HaveRead whole chain simples
+  pub number : stepped_in_chain chain + stepped_in simples ≡ max_stepped
+
+-- What stands before and behind the place where the reason comes. Of a limit it is all that may be there, and behind it
+-- what is one too many. Of terms that are not allowed nothing is said.
+abbrev pub StandsAt : Reason → List Term → List Term → Type 0
+StandsAt reason.PseudoClass before after = IsUnknownClass after
+StandsAt reason.PseudoElement before after = IsUnknownElement after
+StandsAt reason.Namespace before after = IsBar before after ⊎ IsArgumentRefused reason.Namespace after
+StandsAt reason.CaseFlag before after = IsFlag after
+StandsAt reason.IdTest before after = IsTestOfId after
+StandsAt reason.TooManyCompounds before after = AreAllCompounds before × IsCompoundStart after
+StandsAt reason.TooManySimples before after = AreAllSimples before × IsSimpleStart after
+StandsAt reason.PositionOutOfRange before after = IsArgumentRefused reason.PositionOutOfRange after
+StandsAt reason.TooManyStepped before after = AreAllStepped before × IsSteppedPosition after
+StandsAt reason.NotAllowed before after = Unit {0}
 
 -- what the reason names stands behind some of these terms
 pub record Stands (reason : Reason) (terms : List Term) : Type 0 where
   pub before : List Term
   pub after : List Term
   pub parts : terms ≡ before ++ after
-  pub at : StandsAt reason after
+  pub at : StandsAt reason before after
 
 -- in each part of a prelude that is refused as a selector stands what the reason names
 abbrev pub RefusalsStandAtTheirTokens : Type 0
