@@ -1,6 +1,9 @@
+mod Behind
 mod Between
 mod Floors
 mod Hindering
+mod Hindrances
 mod KeptWalls
 mod Keys
 mod Others
+mod Renumbers

@@ -1,2 +1,4 @@
 pub mod Keyed
+pub mod Renumbering
+pub mod Staying
 pub mod Walls

@@ -83,9 +83,3 @@ FloorsHinder = (above below : List Item) (x : ℕ) (upper : RuleParts) (p q : Pa
     (y : ℕ) (lower made : RuleParts) → slice_get below y ≡ Some (Rule lower) → Contains (selectors_of made) p.selector → Contains (decls_of made) p.decl →
     (Contains (selectors_of made) q.selector → Contains (decls_of made) q.decl → ⊥) →
     let e = moving_down above x y upper made in ReversesPair (above ++ below) (edited e (above ++ below)) e.moved p q
-
--- ---- What the order of two pairs hangs on: the items that have one of them
-
-abbrev pub OthersDoNotCount : Type 0
-OthersDoNotCount = (keep : Item → Bool) (p q : Pair) → ((x : Item) → keep x ≡ false → (HasPair (x ∷ []) p → ⊥) × (HasPair (x ∷ []) q → ⊥)) →
-    (items items' : List Item) → filter keep items ≡ filter keep items' → IsBefore items p q → IsBefore items' p q

@@ -4,7 +4,15 @@
 #![tactic(auto)]
 
 mod keyed;
+mod renumbering;
+mod staying;
 mod walls;
 
 pub use keyed::{keys_are_order, turns_where_between};
-pub use walls::{floors_hinder, kept_walls_hinder, others_do_not_count, walls_hinder, walls_stay};
+pub use renumbering::{
+    edits_commute, hindrances_go_on, items_stay, joins_stay, kept_hindrances_go_on, numbers_ascend,
+};
+pub use staying::{
+    hindrances_stay, kept_hindrances_stay, other_rules_do_not_count, others_do_not_count,
+};
+pub use walls::{floors_hinder, kept_walls_hinder, walls_hinder, walls_stay};

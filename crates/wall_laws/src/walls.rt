@@ -3,7 +3,6 @@
 ghost use Rattle.wall_laws.specs.Walls.{
   FloorsHinder,
   KeptWallsHinder,
-  OthersDoNotCount,
   WallsHinder,
   WallsStay,
 };
@@ -30,9 +29,4 @@ pub fn walls_stay()
 /// below that place.
 pub fn floors_hinder()
     ensures { FloorsHinder }
-{}
-
-/// Whether a pair comes last before another one hangs on the items alone that have one of them.
-pub fn others_do_not_count()
-    ensures { OthersDoNotCount }
 {}
