@@ -1,0 +1,4 @@
+mod Limits
+mod Meanings
+mod Planning
+mod Writing
