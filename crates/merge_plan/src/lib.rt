@@ -1,0 +1,10 @@
+//! The plan of merging: steps taken one after the other, each the one that saves most of those that are free,
+//! until none is left that saves.
+#![tactic(auto)]
+
+mod best;
+mod judge;
+mod merging;
+
+pub use judge::Judge;
+pub use merging::{Merged, merge};
