@@ -1,11 +1,11 @@
 -- Steps of other rules, behind a step.
-use Rattle.std.proofs.Common.{◌≡◌, ◌↔◌, ◌⊎◌, ℕ, ◌+◌, ◌<◌, ◌≤◌, false, List, length, Some, refl, sym, ap, ◌∙◌, subst, inl, inr, arith}
+use Rattle.std.proofs.Common.{◌≡◌, ◌↔◌, ◌⊎◌, ℕ, ◌<◌, ◌≤◌, false, List, length, Some, refl, sym, ap, ◌∙◌, subst, inl, inr, arith}
 use Rattle.std.specs.Prelude.{slice_get}
 use Rattle.css_model.specs.declared.sheet.Item.{Item}
 use Rattle.css_model.specs.declared.sheet.Item.TheVariants.{Rule}
 use Rattle.css_model.specs.Cascade.Order.{Pair, HasPair, IsLast, IsBefore, IsBeforeKept}
 use Rattle.css_model.specs.Cascade.Winner.{Place}
-use Rattle.css_model.specs.Sheets.KeptItems.{kept_before, kept_items}
+use Rattle.css_model.specs.Sheets.KeptItems.{kept_before}
 use Rattle.css_model.specs.Sheets.Limits.{max_items}
 use Rattle.css_model.specs.Sheets.RuleParts.{RuleParts}
 use Rattle.css_model.specs.Sheets.StyleRule.{HaveSameSelectors}

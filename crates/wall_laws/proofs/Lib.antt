@@ -1,9 +1,11 @@
 mod Behind
 mod Between
+mod Coming
 mod Floors
 mod Hindering
 mod Hindrances
 mod KeptWalls
 mod Keys
+mod Neighbours
 mod Others
 mod Renumbers

@@ -1,4 +1,5 @@
 pub mod Keyed
 pub mod Renumbering
+pub mod SideBySide
 pub mod Staying
 pub mod Walls
