@@ -1,4 +1,5 @@
 mod Calm
+mod Examples
 mod Places
 mod Told
 mod ToldStates

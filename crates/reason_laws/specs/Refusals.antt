@@ -8,6 +8,7 @@ use Rattle.css_model.specs.declared.selector.Op.{Op}
 use Rattle.css_model.specs.declared.selector.Simple.{Simple}
 use Rattle.css_model.specs.declared.selector.Test.{Test}
 use Rattle.css_model.specs.declared.token.Lexeme.{Lexeme}
+use Rattle.css_model.specs.Documents.SelectorParts.{SelectorParts}
 use Rattle.css_model.specs.Lists.{same_text}
 use Rattle.css_model.specs.Positions.Range.{is_stepped}
 use Rattle.css_model.specs.Selectors.Classes.{is_name}
@@ -23,8 +24,8 @@ use Rattle.css_model.specs.Text.Kept.{is_white_gap, solid}
 use Rattle.css_model.specs.Text.Lexemes.{is_delim_of, is_ident, is_sign_of}
 use Rattle.css_model.specs.Text.Names.{code_points, lower}
 use Rattle.css_model.specs.Sheets.Limits.{max_compounds, max_simples, max_stepped}
-use Rattle.selector_laws.specs.Grammar.{IsCompound, IsFront, last_gap}
-use Rattle.selector_laws.specs.Limits.{stepped_in, stepped_in_chain}
+use Rattle.selector_laws.specs.Grammar.{IsCompound, IsFront, IsSelector, last_gap}
+use Rattle.selector_laws.specs.Limits.{KeepsLimits, stepped_in, stepped_in_chain}
 
 -- a colon with a name right behind it that no pseudo-class of its kind has: neither `not` nor one in the tables
 pub data IsUnknownClass : List Term → Type 0 where
@@ -159,3 +160,9 @@ pub record Stands (reason : Reason) (terms : List Term) : Type 0 where
 abbrev pub RefusalsStandAtTheirTokens : Type 0
 RefusalsStandAtTheirTokens =
     (source : List ℕ) (part : List Lexeme) (reason : Reason) → selector_of_lexemes source part ≡ Err reason → Stands reason (terms (map (solid source) part))
+
+-- and whatever the reason, the grammar derives no selector within the limits from its terms
+abbrev pub RefusedAreNoSelectors : Type 0
+RefusedAreNoSelectors =
+    (source : List ℕ) (part : List Lexeme) (reason : Reason) (selector : SelectorParts) → selector_of_lexemes source part ≡ Err reason
+    → IsSelector (terms (map (solid source) part)) selector → KeepsLimits selector → ⊥

@@ -1,10 +1,17 @@
 //! The law. It does nothing when it runs.
 
-ghost use Rattle.reason_laws.specs.Refusals.{RefusalsStandAtTheirTokens};
+ghost use Rattle.reason_laws.specs.Refusals.{RefusalsStandAtTheirTokens, RefusedAreNoSelectors};
+
+use selector_laws::selectors_are_read_exactly;
 
 /// Where a part of a prelude is refused as a selector, the tokens that the reason names stand in it. Behind as many
 /// compounds, simple selectors or stepped positions as may be there stands that of a limit; a bar is not the first sign
-/// of `|=` behind the name of an attribute. Nothing is said of a token that is not allowed.
+/// of `|=` behind the name of an attribute. Of a token that is not allowed no place is said; but whatever the reason, no
+/// selector within the limits has these tokens.
 pub fn refusals_stand_at_their_tokens()
-    ensures { RefusalsStandAtTheirTokens }
-{}
+    ensures stand { RefusalsStandAtTheirTokens }
+    ensures none { RefusedAreNoSelectors }
+{
+    // A law that does nothing: what is read is what the grammar derives within the limits.
+    selectors_are_read_exactly();
+}
