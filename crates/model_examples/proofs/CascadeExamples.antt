@@ -7,6 +7,7 @@ use Rattle.std.specs.Cmp.Lexicographic.{bytes_decides}
 use Rattle.std.specs.List.{Contains}
 use Rattle.std.specs.Prelude.{codes}
 use Rattle.model_examples.proofs.MatchingExamples.{element, attribute, document, at, plain, but, simple, class}
+use Rattle.css_model.specs.declared.selector.Combinator.TheVariants.{Inside}
 use Rattle.css_model.specs.declared.selector.Pseudo.TheVariants.{Before}
 use Rattle.css_model.specs.declared.selector.Specificity.{Specificity}
 use Rattle.css_model.specs.declared.selector.Test.TheVariants.{Any, Kind, Id, Root}
@@ -168,6 +169,17 @@ universal = refl
 
 root_before : specificity_of (record { chain = (plain Root ∷ []) ∷ []; links = []; pseudo = Some Before }) ≡ count 0 1 1
 root_before = refl
+
+-- `#a .b c::before`, `:not(#a)` and `*`
+of_three : specificity_of (record {
+  chain = (plain (Kind (codes "c")) ∷ []) ∷ (plain (class (codes "b")) ∷ []) ∷ (plain (Id (codes "a")) ∷ []) ∷ [];
+  links = Inside ∷ Inside ∷ [];
+  pseudo = Some Before;
+}) ≡ count 1 1 2
+of_three = refl
+
+not_id : specificity_of (simple (but (Id (codes "a")) ∷ [])) ≡ count 1 0 0
+not_id = refl
 
 -- ---- What kept items may mean
 

@@ -6,3 +6,4 @@ pub mod MatchingExamples
 pub mod OrderExamples
 pub mod SheetExamples
 pub mod TokenExamples
+pub mod ValueExamples
