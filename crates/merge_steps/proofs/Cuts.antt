@@ -1,5 +1,5 @@
 -- When the pairs of a part of a rule all stand beside it too.
-use Rattle.std.proofs.Common.{◌≡◌, ◌↔◌, ◌⊎◌, ℕ, zero, suc, ◌+◌, ◌<◌, Bool, true, false, ◌||◌, List, [], ◌∷◌, ◌++◌, map, length, take, drop, Some, None, refl, sym, ap, ap₂, subst, inl, inr, ◌∙◌, arith, IsTrue}
+use Rattle.std.proofs.Common.{◌≡◌, ◌↔◌, ◌⊎◌, ℕ, zero, suc, ◌+◌, ◌<◌, Bool, true, false, ◌||◌, List, [], ◌∷◌, ◌++◌, map, length, take, drop, Some, None, refl, sym, ap, ap₂, subst, inl, inr, ◌∙◌, arith}
 use Rattle.std.specs.Prelude.{get_or, slice_get}
 use Rattle.std.specs.List.{Contains, list_all, list_any, remove}
 use Rattle.std.proofs.lemmas.Bool.{false≢true, or_cases, or_left, or_right}
@@ -10,10 +10,9 @@ use Rattle.css_model.specs.declared.sheet.DeclItem.{DeclItem}
 use Rattle.css_model.specs.declared.sheet.Item.{Item}
 use Rattle.css_model.specs.declared.sheet.Item.TheVariants.{Rule, KeptRule, KeptBlock}
 use Rattle.css_model.specs.declared.sheet.SelItem.{SelItem}
-use Rattle.css_model.specs.Cascade.Order.{Pair, IsPairAt, HasPair}
+use Rattle.css_model.specs.Cascade.Order.{Pair, HasPair}
 use Rattle.css_model.specs.Documents.SelectorParts.{SelectorParts}
 use Rattle.css_model.specs.Sheets.RuleParts.{RuleParts}
-use Rattle.css_model.specs.Sheets.StyleRule.{selectors_of}
 use Rattle.merge_steps.proofs.Among.{first_true, second_true, together, all_from_map, all_of_map}
 use Rattle.merge_steps.specs.Standing.{is_in_item, stands, stands_beside, is_decl_again, is_selector_again, is_decl_elsewhere, is_selector_elsewhere}
 use Rattle.order_laws.proofs.ForCallers.{has_append, has_rule, InRule, decls, sels, has_decl_is, has_selector_is, instead_here, instead_there, unchanged}

@@ -1,9 +1,4 @@
 mod Among
 mod Cuts
 mod Joins
-mod LastCommon
-mod PartWeights
 mod Rows
-mod Saved
-mod ShareWeights
-mod StepRules

@@ -1,4 +1,3 @@
 pub mod Listing
 pub mod Standing
 pub mod StepParts
-pub mod Weighing

@@ -8,12 +8,6 @@ use Rattle.step_laws.specs.declared.step.Step.{Step}
 use Rattle.step_laws.specs.declared.step.Step.TheVariants.{CutDecl, CutSel, JoinSelUp, JoinSelDown, JoinDeclUp, JoinDeclDown, Share}
 use Rattle.step_laws.specs.Steps.{AreDeclsAmong, HaveSameDecls, MayShare}
 
--- a rule has the part that a cut takes away
-abbrev pub HasPart : Step → RuleParts → Type 0
-HasPart (CutDecl n i) r = i < length r.decls
-HasPart (CutSel n i) r = i < length r.selectors
-HasPart _ r = Unit {0}
-
 -- a cut, of one rule
 abbrev pub IsCutKind : Step → Type 0
 IsCutKind (CutDecl n i) = Unit {0}

@@ -1,7 +1,7 @@
 //! What becomes of the items that a step takes, by its kind.
 
 ghost use Rattle.std.specs.Prelude.{◌≡◌, ◌++◌, ◌<◌, ◌^◌, ◌∷◌, [], IfOk, OnOk, length};
-ghost use Rattle.merge_steps.specs.StepParts.{HasPart};
+ghost use Rattle.step_savings.specs.CutParts.{HasPart};
 ghost use Rattle.order_laws.specs.Edits as edits;
 ghost use Rattle.order_laws.specs.Slots.{new_items};
 ghost use Rattle.step_laws.specs.StepEdits as kinds;

@@ -7,15 +7,12 @@ mod listing;
 mod members;
 mod parts;
 mod possible;
-mod savings;
-mod weights;
 
 pub use applying::apply;
 pub use listing::steps;
 pub use possible::is_step;
-pub use savings::saving;
 pub use step_laws::Step;
-pub use weights::Lengths;
+pub use step_savings::saving;
 
 #[cfg(test)]
 mod tests;

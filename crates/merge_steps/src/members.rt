@@ -6,21 +6,8 @@ ghost use Rattle.css_model.specs.Sheets.StyleRule.{HaveSameSelectors};
 ghost use Rattle.order_laws.specs.Members as members;
 ghost use Rattle.step_laws.specs.Steps.{HaveSameDecls};
 
-use css_model::{Decl, DeclItem, Rule, SelItem, Selector};
-
-/// Whether a selector is among these.
-pub(crate) fn has_selector(items: &[SelItem], selector: &Selector) -> bool
-    ensures { result ≡ members.has_selector items.now selector.now }
-{
-    items.iter().any(|item| item.selector == *selector)
-}
-
-/// Whether a declaration is among these.
-pub(crate) fn has_decl(items: &[DeclItem], decl: &Decl) -> bool
-    ensures { result ≡ members.has_decl items.now decl.now }
-{
-    items.iter().any(|item| item.decl == *decl)
-}
+use css_model::{DeclItem, Rule, SelItem};
+use step_savings::{has_decl, has_selector};
 
 /// Whether each of the selectors is among the others.
 fn are_selectors_among(items: &[SelItem], others: &[SelItem]) -> bool

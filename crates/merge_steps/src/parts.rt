@@ -7,9 +7,9 @@ ghost use Rattle.order_laws.specs.Members as members;
 ghost use Rattle.step_laws.specs.RuleParting as parting;
 ghost use Rattle.step_laws.specs.StepEdits as edits;
 
-use crate::members::{has_decl, has_selector};
 use css_model::{DeclItem, Item, Rule, SelItem};
 use std::alloc::{AllocError, Global};
+use step_savings::{has_decl, has_selector};
 
 /// Puts copies of the selectors behind the others.
 fn push_selectors(into: &mut Vec<SelItem>, items: &[SelItem]) -> Result<(), AllocError>

@@ -10,11 +10,10 @@ ghost use Rattle.merge_steps.specs.StepParts.{HasRoom, IsCutKind, IsJoinKind, Ma
 ghost use Rattle.step_laws.specs.declared.step.Step.TheVariants as kinds;
 ghost use Rattle.step_laws.specs.Steps.{AreDeclsAmong, HasStep, MayShare, decls_of, first_item, last_item};
 
-use crate::members::{
-    are_decls_among, has_decl, has_selector, have_same_decls, have_same_selectors, is_a_decl_among,
-};
+use crate::members::{are_decls_among, have_same_decls, have_same_selectors, is_a_decl_among};
 use css_model::{Decl, DeclItem, Item, MAX_ITEMS, Rule, SelItem, Selector, Sheet};
 use step_laws::Step;
+use step_savings::{has_decl, has_selector};
 
 /// Whether an item is a rule with this pair.
 fn is_in_item(item: &Item, selector: &Selector, decl: &Decl) -> bool

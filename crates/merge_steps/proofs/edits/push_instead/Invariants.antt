@@ -1,6 +1,5 @@
-use Rattle.std.proofs.Common.{◌≡◌, ◌++◌, ◌+◌, length}
+use Rattle.std.proofs.Common.{◌≡◌, length}
 use Rattle.order_laws.specs.Edits as edits
-use Rattle.order_laws.specs.Slots.{new_items}
 use Rattle.merge_steps.proofs.edits.push_instead.Given as goal
 
 -- none of the first changes is of this item

@@ -1,6 +1,4 @@
-use Rattle.std.proofs.Common.{◌≡◌, ◌++◌, ◌+◌, not, length, map, take, ◌↔◌}
-use Rattle.std.specs.List.{filter, list_all, list_any}
-use Rattle.order_laws.specs.Members as members
+use Rattle.std.proofs.Common.{◌≡◌, length, map, ◌↔◌}
 use Rattle.merge_steps.proofs.members.are_same_decls.Given as goal
 
 -- the first ones are the same

@@ -1,5 +1,5 @@
-use Rattle.std.proofs.Common.{◌≡◌, ◌++◌, ◌+◌, not, length, map, take, ◌↔◌}
-use Rattle.std.specs.List.{filter, list_all, list_any}
+use Rattle.std.proofs.Common.{◌≡◌, length}
+use Rattle.std.specs.List.{list_any}
 use Rattle.order_laws.specs.Members as members
 use Rattle.merge_steps.proofs.members.is_a_decl_among.Given as goal
 

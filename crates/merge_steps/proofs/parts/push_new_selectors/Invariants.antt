@@ -1,5 +1,5 @@
-use Rattle.std.proofs.Common.{◌≡◌, ◌++◌, ◌+◌, not, length, map, take, ◌↔◌}
-use Rattle.std.specs.List.{filter, list_all, list_any}
+use Rattle.std.proofs.Common.{◌≡◌, ◌++◌, not, length}
+use Rattle.std.specs.List.{filter}
 use Rattle.order_laws.specs.Members as members
 use Rattle.merge_steps.proofs.parts.push_new_selectors.Given as goal
 

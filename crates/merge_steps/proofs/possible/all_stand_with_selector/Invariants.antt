@@ -1,5 +1,5 @@
 use Rattle.std.proofs.Common.{◌≡◌, length}
-use Rattle.std.specs.List.{list_all, list_any}
+use Rattle.std.specs.List.{list_all}
 use Rattle.merge_steps.specs.Standing as standing
 use Rattle.merge_steps.proofs.possible.all_stand_with_selector.Given as goal
 

@@ -1,5 +1,4 @@
 use Rattle.std.proofs.Common.{◌≡◌, length}
-use Rattle.std.specs.List.{list_all, list_any}
 use Rattle.merge_steps.specs.Standing as standing
 use Rattle.merge_steps.proofs.possible.stands.Given as goal
 

@@ -1,0 +1,2 @@
+-- What the proofs of other crates may cite: the rules of a step of a sheet, and its edit.
+pub use Rattle.step_savings.proofs.StepRules.{first_rule, last_rule, has_part, edit_is, edited_is}

@@ -1,0 +1,6 @@
+mod LastCommon
+mod PartWeights
+mod Saved
+mod ShareWeights
+mod StepRules
+pub mod ForCallers

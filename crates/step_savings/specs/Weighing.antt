@@ -1,0 +1,27 @@
+-- Rules whose parts can be weighed.
+use Rattle.std.specs.Prelude.{ℕ, ◌≤◌, ◌&&◌, not, if◌then◌else◌, List, [], ◌∷◌}
+use Rattle.std.specs.List.{AllByRecursion}
+use Rattle.css_model.specs.declared.sheet.DeclItem.{DeclItem}
+use Rattle.css_model.specs.Sheets.Limits.{max_bytes}
+use Rattle.css_model.specs.Sheets.Printed.{printed_selector, printed_declaration}
+use Rattle.css_model.specs.Sheets.RuleParts.{RuleParts}
+use Rattle.css_model.specs.Sheets.Sound.{IsSoundSelector, IsSoundDeclaration}
+use Rattle.step_savings.specs.declared.savings.Parts.{Parts}
+use Rattle.order_laws.specs.Members.{has_decl}
+use Rattle.step_laws.specs.Sizes.{weight}
+
+-- the rule of these parts
+abbrev pub rule_of : Parts → RuleParts
+rule_of parts = record { selectors = parts.selectors.now; decls = parts.decls.now }
+
+-- its parts are sound for a source, and no heavier than a sheet may be
+pub record IsWeighable (source : List ℕ) (r : RuleParts) : Type 0 where
+  pub selectors : AllByRecursion (IsSoundSelector source) r.selectors
+  pub decls : AllByRecursion (IsSoundDeclaration source) r.decls
+  pub small_selectors : weight (printed_selector source) r.selectors ≤ max_bytes
+  pub small_decls : weight (printed_declaration source) r.decls ≤ max_bytes
+
+-- the declarations of a list that are among others, each once, where it stands last
+abbrev pub last_common : List DeclItem → List DeclItem → List DeclItem
+last_common others [] = []
+last_common others (d ∷ ds) = if has_decl others d.decl && not (has_decl ds d.decl) then d ∷ last_common others ds else last_common others ds
