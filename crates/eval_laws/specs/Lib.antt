@@ -1,0 +1,4 @@
+pub mod Climbing
+pub mod Reaching
+pub mod Repeating
+pub mod Surrounded
