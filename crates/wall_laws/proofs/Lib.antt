@@ -2,6 +2,7 @@ mod Behind
 mod Between
 mod Coming
 mod Floors
+mod Held
 mod Hindering
 mod Hindrances
 mod KeptWalls

@@ -1,3 +1,4 @@
+pub mod Holding
 pub mod Keyed
 pub mod Renumbering
 pub mod SideBySide

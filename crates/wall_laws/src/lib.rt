@@ -4,12 +4,14 @@
 #![tactic(auto)]
 
 mod beside;
+mod holding;
 mod keyed;
 mod renumbering;
 mod staying;
 mod walls;
 
 pub use beside::{savings_go_on, steps_are_side_by_side, steps_come_back};
+pub use holding::{held_is_covered, hindered_is_blocked, holding_goes_on};
 pub use keyed::{keys_are_order, turns_where_between};
 pub use renumbering::{
     edits_commute, hindrances_go_on, items_stay, joins_stay, kept_hindrances_go_on, numbers_ascend,
