@@ -12,9 +12,8 @@ use Rattle.css_model.specs.Sheets.Limits.{max_stepped}
 use Rattle.overlap.specs.Answers.{IsAlikeAnswer, IsFewAnswer, IsTrueAnswer, pair_stepped, too_many_stepped}
 use Rattle.overlap.specs.declared.answer.Answer.{Answer}
 use Rattle.overlap.specs.declared.answer.Answer.TheVariants.{Apart, Meet, Outside, Spent}
-use Rattle.overlap.specs.declared.pairs.Answered.{Answered}
 use Rattle.overlap.specs.Laws.{ApartSelectorsDoNotMeet}
-use Rattle.overlap.specs.PairsParts.{PairsParts}
+use Rattle.overlap.specs.PairsParts.{Answered, PairsParts}
 use Rattle.overlap.specs.Remembered.{IsAnswered, IsTrueList}
 use Rattle.overlap.proofs.Deciding.{same_self}
 

@@ -1,4 +1,5 @@
 mod Apartness
 mod Deciding
+mod Keeping
 mod Limits
 mod TrueLists

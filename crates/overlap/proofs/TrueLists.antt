@@ -7,8 +7,7 @@ use Rattle.std.proofs.lemmas.List.Elements.{All-append, All-cons, All-head, All-
 use Rattle.css_model.specs.Documents.SelectorParts.{SelectorParts}
 use Rattle.overlap.specs.Answers.{IsTrueAnswer}
 use Rattle.overlap.specs.declared.answer.Answer.{Answer}
-use Rattle.overlap.specs.declared.pairs.Answered.{Answered}
-use Rattle.overlap.specs.PairsParts.{PairsParts}
+use Rattle.overlap.specs.PairsParts.{Answered, PairsParts}
 use Rattle.overlap.specs.Remembered.{IsOfOther, IsTrueList, IsUnknown}
 
 abbrev entry : SelectorParts → SelectorParts → Answer → Answered
@@ -32,12 +31,9 @@ more_true budget answers x y answer unknown is h = ∥∥₁_map h (λ t. record
 })
 
 -- as it stands after an attempt to add it
-pub kept_or_more : {A E : Type 0} (r : Result A E) (budget : ℕ) (old new : List Answered) (x y left right : SelectorParts) (answer : Answer) → left ≡ x → right ≡ y →
-    OnOk r (new ≡ old ++ entry left right answer ∷ []) → OnErr r (new ≡ old) → IsUnknown old x y → IsTrueAnswer x y budget answer →
-    ∥ IsTrueList (record { budget = budget; answers = old }) ∥₁ → ∥ IsTrueList (record { budget = budget; answers = new }) ∥₁
-kept_or_more (Ok a) budget old new x y left right answer e f ok err unknown is h =
-    subst (λ (answers : List Answered). ∥ IsTrueList (record { budget = budget; answers = answers }) ∥₁)
-    (sym (ok ∙ ap (λ (l : SelectorParts). old ++ entry l right answer ∷ []) e ∙ ap (λ (q : SelectorParts). old ++ entry x q answer ∷ []) f))
-    (more_true budget old x y answer unknown is h)
-kept_or_more (Err a) budget old new x y left right answer e f ok err unknown is h =
+pub kept_or_more : {A E : Type 0} (r : Result A E) (budget : ℕ) (old new : List Answered) (x y : SelectorParts) (answer : Answer) → OnOk r (new ≡ old ++ entry x y answer ∷ []) → OnErr r (new ≡ old) →
+    IsUnknown old x y → IsTrueAnswer x y budget answer → ∥ IsTrueList (record { budget = budget; answers = old }) ∥₁ → ∥ IsTrueList (record { budget = budget; answers = new }) ∥₁
+kept_or_more (Ok a) budget old new x y answer ok err unknown is h =
+    subst (λ (answers : List Answered). ∥ IsTrueList (record { budget = budget; answers = answers }) ∥₁) (sym ok) (more_true budget old x y answer unknown is h)
+kept_or_more (Err a) budget old new x y answer ok err unknown is h =
     subst (λ (answers : List Answered). ∥ IsTrueList (record { budget = budget; answers = answers }) ∥₁) (sym err) h

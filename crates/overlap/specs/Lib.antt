@@ -4,3 +4,4 @@ pub mod Lending
 pub mod PairsParts
 pub mod Remembered
 pub mod Singles
+pub mod Stored

@@ -5,8 +5,7 @@ use Rattle.std.specs.List.{All, AllPairs, Contains}
 use Rattle.css_model.specs.Documents.SelectorParts.{SelectorParts}
 use Rattle.overlap.specs.Answers.{IsTrueAnswer}
 use Rattle.overlap.specs.declared.answer.Answer.{Answer}
-use Rattle.overlap.specs.declared.pairs.Answered.{Answered}
-use Rattle.overlap.specs.PairsParts.{PairsParts}
+use Rattle.overlap.specs.PairsParts.{Answered, PairsParts}
 
 -- an answer for another ordered pair
 abbrev pub IsOfOther : SelectorParts → SelectorParts → Answered → Type 0

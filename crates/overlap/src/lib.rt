@@ -7,10 +7,11 @@ mod decision;
 mod laws;
 mod pairs;
 mod single;
+mod store;
 
 pub use answer::{Answer, HAS_COMBINATOR, NO_SPACE_LEFT, TOO_MANY_STEPPED};
 pub use laws::{apart_selectors_do_not_meet, reasons_are_defined};
-pub use pairs::{Answered, Pairs};
+pub use pairs::Pairs;
 
 #[cfg(test)]
 mod tests;

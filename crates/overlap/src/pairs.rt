@@ -1,26 +1,18 @@
 //! Answers for pairs of selectors, remembered.
 
-ghost use Rattle.std.specs.Prelude.{◌≡◌, ◌++◌, ◌∷◌, [], Some, IfOk, OnErr, OnOk};
+ghost use Rattle.std.specs.Prelude.{◌≡◌, ◌++◌, ◌∷◌, [], Some, IfOk, OnErr, OnOk, length};
 ghost use Rattle.css_model.specs.Selectors.Profile.{IsInProfile};
 ghost use Rattle.overlap.specs.Answers.{IsTrueAnswer};
 ghost use Rattle.overlap.specs.Remembered as spec;
+ghost use Rattle.overlap.specs.Stored.{IsStore, answers_of};
 
 use crate::answer::Answer;
 use crate::decision::decide;
+use crate::store::{Places, find_places, store};
 use css_model::Selector;
+use indexmap::{IndexMap, IndexSet};
 use std::alloc::{AllocError, Global};
 use std::marker::Model;
-
-/// An answer with the two selectors that it was asked for.
-#[derive(Debug, Drop)]
-pub struct Answered {
-    /// The selector that was asked first.
-    pub left: Selector,
-    /// The other one.
-    pub right: Selector,
-    /// The answer.
-    pub answer: Answer,
-}
 
 /// Answers for ordered pairs of selectors, in the order in which they were given, and the budget of learned
 /// clauses for each pair.
@@ -28,16 +20,21 @@ pub struct Answered {
 pub struct Pairs {
     alloc: Global,
     budget: u32,
-    answers: Vec<Answered>,
-    ghost list: { ∥ spec.IsTrueList (record { budget = budget; answers = answers.items }) ∥₁ },
+    /// The selectors that were asked, each once. One without an answer may stand here after a want of memory.
+    selectors: IndexSet<Selector>,
+    /// The answers, by the places of both selectors.
+    answers: IndexMap<Places, Answer>,
+    ghost kept: { ∥ IsStore selectors.keys answers.entries ∥₁ },
+    ghost list: { ∥ spec.IsTrueList (record { budget = budget; answers = answers_of selectors.keys answers.entries }) ∥₁ },
 }
 
 impl Model for Pairs {
     ghost use Rattle.overlap.specs.PairsParts.{PairsParts};
+    ghost use Rattle.overlap.specs.Stored.{answers_of};
 
     ghost Value = { PairsParts };
 
-    ghost view = { λ p. record { budget = p.budget; answers = p.answers.items } };
+    ghost view = { λ p. record { budget = p.budget; answers = answers_of p.selectors.keys p.answers.entries } };
 }
 
 impl Pairs {
@@ -52,7 +49,8 @@ impl Pairs {
         Pairs {
             alloc,
             budget,
-            answers: Vec::new(alloc),
+            selectors: IndexSet::new(alloc),
+            answers: IndexMap::new(alloc),
         }
     }
 
@@ -61,38 +59,29 @@ impl Pairs {
         ensures known { spec.Known self.now.answers x.now y.now result }
         ensures list { ∥ spec.IsTrueList self.now ∥₁ }
     {
-        for e in &self.answers {
-            if e.left == *x && e.right == *y {
-                return Some(&e.answer);
-            }
-        }
-        None
+        let places = find_places(&self.selectors, x, y)?;
+        self.answers.get(&places)
     }
 
     /// Where the answer for the ordered pair stands, if there is one.
     fn place(&self, x: &Selector, y: &Selector) -> Option<usize>
         ensures { spec.StandsAt self.now.answers x.now y.now result }
     {
-        for i in 0..self.answers.len() {
-            if self.answers[i].left == *x && self.answers[i].right == *y {
-                return Some(i);
-            }
-        }
-        None
+        let places = find_places(&self.selectors, x, y)?;
+        self.answers.get_index_of(&places)
     }
 
     /// Stores an answer for an ordered pair that has none.
-    fn remember(&mut self, x: &Selector, y: &Selector, answer: Answer) -> Result<(), AllocError>
+    fn remember(&mut self, x: &Selector, y: &Selector, answer: Answer) -> Result<usize, AllocError>
         requires unknown { spec.IsUnknown self.old.answers x.now y.now }
         requires true_answer { IsTrueAnswer x.now y.now self.old.budget answer }
+        ensures at { IfOk result (λ at. at ≡ length self.old.answers) }
         ensures ok { OnOk result (self.new
             ≡ record { budget = self.old.budget; answers = self.old.answers ++ record { left = x.now; right = y.now; answer = answer } ∷ [] }) }
         ensures err { OnErr result (self.new ≡ self.old) }
         ensures list { OnOk result (∥ spec.IsTrueList self.new ∥₁) }
     {
-        let left = x.copy()?;
-        let right = y.copy()?;
-        push_answer(&mut self.answers, left, right, answer)
+        store(&mut self.selectors, &mut self.answers, x, y, answer)
     }
 
     /// Where the answer for the ordered pair stands, which is given now where there is none.
@@ -108,9 +97,7 @@ impl Pairs {
             return Ok(at);
         }
         let answer = decide(self.alloc, x, y)?;
-        let at = self.answers.len();
-        self.remember(x, y, answer)?;
-        Ok(at)
+        self.remember(x, y, answer)
     }
 
     /// Answers for the ordered pair of two selectors of the profile, unless an answer is held for it; `known`
@@ -135,25 +122,6 @@ impl Pairs {
         ensures* ends { sem 𝓛 (lending.EndsAsked self.entry x.now y.now result) }
     {
         let at = self.answered(x, y)?;
-        Ok(&self.answers[at].answer)
+        Ok(&self.answers[at])
     }
-}
-
-/// Appends an answer for two selectors.
-fn push_answer(
-    answers: &mut Vec<Answered>,
-    left: Selector,
-    right: Selector,
-    answer: Answer,
-) -> Result<(), AllocError>
-    ensures ok { OnOk result
-        (answers.new.items ≡ answers.old.items ++ record { left = left; right = right; answer = answer } ∷ []) }
-    ensures err { OnErr result (answers.new.items ≡ answers.old.items) }
-{
-    answers.push(Answered {
-        left,
-        right,
-        answer,
-    })?;
-    Ok(())
 }

@@ -2,10 +2,11 @@ ghost use Rattle.std.specs.Prelude.{◌≤◌, IfOk, length};
 ghost use Rattle.css_model.specs.Selectors.Profile.{IsInProfile};
 ghost use Rattle.css_model.specs.Sheets.Limits.{max_bytes};
 
-use crate::{Answer, Pairs};
+use crate::{Answer, HAS_COMBINATOR, NO_SPACE_LEFT, Pairs, TOO_MANY_STEPPED};
 use css_model::Selector;
+use doc_text::print_doc;
 use sel_parse::{SelError, parse_selector};
-use std::alloc::Global;
+use std::alloc::{AllocError, Global};
 use std::process::Abort;
 use std::test::Fail;
 
@@ -17,31 +18,129 @@ fn selector(alloc: Global, text: &[u8]) -> Result<Selector, SelError>
     parse_selector(alloc, text)
 }
 
-/// How many siblings of the marked element stand in the lines of an answer, and whether the root is a child;
-/// nothing for any other answer.
-fn shown(answer: &Answer) -> Option<(usize, u32, bool)> {
+/// An answer as a text: the document of an example, and otherwise what it is.
+fn shown(alloc: Global, answer: &Answer) -> Result<Vec<u8>, AllocError> {
     match answer {
-        Answer::Meet(example) => Some((
-            example.doc.lines.len(),
-            example.marked,
-            example.doc.root_is_child,
-        )),
-        _ => None,
+        Answer::Apart => Vec::from_slice(alloc, b"apart"),
+        Answer::Meet(example) => print_doc(alloc, example),
+        Answer::Outside(reason, number) if *reason == TOO_MANY_STEPPED && *number == 5 => {
+            Vec::from_slice(alloc, b"five stepped")
+        }
+        Answer::Outside(reason, 0) if *reason == NO_SPACE_LEFT => {
+            Vec::from_slice(alloc, b"no space")
+        }
+        Answer::Outside(reason, 0) if *reason == HAS_COMBINATOR => {
+            Vec::from_slice(alloc, b"combinator")
+        }
+        _ => Vec::from_slice(alloc, b"other"),
     }
+}
+
+/// Two selectors get this answer, which is held from then on.
+fn gives(
+    rt: &impl Abort,
+    alloc: Global,
+    pairs: &mut Pairs,
+    row: (&str, &str, &str),
+) -> Result<(), Fail> {
+    let (first, second, wanted) = row;
+    assert!(rt; first.len() <= 1_000 && second.len() <= 1_000, "a long row");
+    let x = selector(alloc, first.as_bytes()).expect(rt, "a selector");
+    let y = selector(alloc, second.as_bytes()).expect(rt, "a selector");
+    let answer = shown(alloc, pairs.ask(&x, &y)?)?;
+    assert_eq!(rt;
+        answer.as_slice(),
+        wanted.as_bytes(),
+        "for {first} and {second}"
+    );
+    let held = pairs.known(&x, &y).expect(rt, "a held answer");
+    let held = shown(alloc, held)?;
+    assert_eq!(rt;
+        held.as_slice(),
+        wanted.as_bytes(),
+        "held for {first} and {second}"
+    );
+    Ok(())
 }
 
 #[test]
 fn which_selectors_meet(rt: HostRuntime) -> Result<(), Fail> {
     let alloc = rt.alloc();
     let mut pairs = Pairs::new(alloc, 0);
+    for row in [
+        ("a:link", "a:visited", "apart"),
+        (
+            "a:link",
+            "a:link",
+            "child 0 pseudo none\n0 1 - x\n1 1 * a :link\n",
+        ),
+        (
+            ":nth-child(32n+1)",
+            ":nth-last-child(31n+5)",
+            "child 0 pseudo none\n0 1 - x\n1 1 * x\n1 4 - x\n",
+        ),
+        (
+            "[class^=\"icon-\"]",
+            ".b",
+            "child 0 pseudo none\n0 1 - x\n1 1 * x class=icon-a%20b%20a\n",
+        ),
+        ("[lang|=en]:not([lang^=\"en-\"])", "[lang=en-GB]", "apart"),
+        (
+            "a:hover:link:not(:empty)",
+            "[id]",
+            "child 0 pseudo none\n0 1 - x\n1 1 * a +text :link :hover id=\n",
+        ),
+        (
+            ":root:first-child",
+            "html",
+            "child 1 pseudo none\n0 1 * html\n",
+        ),
+        (":root", "html", "child 0 pseudo none\n0 1 * html\n"),
+        (
+            "p:not(:only-child)",
+            "p",
+            "child 0 pseudo none\n0 1 - x\n1 1 * p\n1 1 - x\n",
+        ),
+        (
+            "p:nth-child(2n):nth-child(3n)",
+            "p:nth-child(5n):nth-child(7n)",
+            "child 0 pseudo none\n0 1 - x\n1 209 - x\n1 1 * p\n",
+        ),
+        (
+            "p:nth-child(2n):nth-child(3n)",
+            "p:nth-child(5n):nth-child(7n):nth-last-child(9n)",
+            "five stepped",
+        ),
+        (
+            "[class~=a]:not([class*=\" \"]):not([class*=\"\\9 \"]):not([class*=\"\\a \"]):not([class*=\"\\c \"]):not([class*=\"\\d \"])",
+            "p",
+            "no space",
+        ),
+        (
+            "a::before",
+            "a::before",
+            "child 0 pseudo before\n0 1 - x\n1 1 * a\n",
+        ),
+        ("a::before", "a", "apart"),
+        ("p:empty", "p:not(:empty)", "apart"),
+        ("#a", "#b", "apart"),
+        ("a>b", "b", "combinator"),
+    ] {
+        gives(&rt, alloc, &mut pairs, row)?;
+    }
+    Ok(())
+}
+
+#[test]
+fn answers_are_of_ordered_pairs(rt: HostRuntime) -> Result<(), Fail> {
+    let alloc = rt.alloc();
+    let mut pairs = Pairs::new(alloc, 0);
     let link = selector(alloc, b"a:link").expect(&rt, "a selector");
     let visited = selector(alloc, b"a:visited").expect(&rt, "a selector");
-    let apart = pairs.ask(&link, &visited)?;
+    pairs.settle(&link, &visited)?;
+    pairs.settle(&link, &link)?;
+    let apart = pairs.known(&link, &visited).expect(&rt, "a held answer");
     assert_eq!(rt; *apart, Answer::Apart);
-    let meet = pairs.ask(&link, &link)?;
-    assert_eq!(rt; shown(meet), Some((2, 1, false)));
-    let known = pairs.known(&link, &visited);
-    assert!(rt; known.is_some());
     let unknown = pairs.known(&visited, &link);
     assert!(rt; unknown.is_none());
     Ok(())
