@@ -8,4 +8,4 @@ mod pair;
 mod path;
 
 pub use laws::{limits_allow_plans, tables_are_ready};
-pub use pair::encode;
+pub use pair::{encode, numbering};

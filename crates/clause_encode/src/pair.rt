@@ -43,8 +43,8 @@ pub fn encode(alloc: Global, plan: &PairPlan<'_>, fits: &FitTable) -> Result<For
     Ok(f)
 }
 
-/// How the variables of a pair are numbered.
-fn numbering(plan: &PairPlan<'_>) -> Numbering
+/// How the variables of the formula of a pair are numbered. Takes no memory.
+pub fn numbering(plan: &PairPlan<'_>) -> Numbering
     requires left { KeepsLimits plan.now.left }
     requires right { KeepsLimits plan.now.right }
     ensures value { result ≡ numbering_of plan.now.left plan.now.right }

@@ -1,0 +1,113 @@
+//! The shape of values of the variables.
+
+ghost use Rattle.std.specs.Prelude.{◌≡◌, ◌+◌, ◌<◌, ◌^◌, length, IfOk};
+ghost use Rattle.clause_encode.specs.Fits.{IsModel};
+ghost use Rattle.formula_laws.specs.Deciding.{shape_from};
+ghost use Rattle.nth_positions.specs.Gaps.{bounds_of};
+ghost use Rattle.selector_laws.specs.Limits.{KeepsLimits};
+ghost use Rattle.shape_decode.specs.Read.{shape_read, slots_read};
+ghost use Rattle.sibling_clauses.specs.Bounds.{IsSmall};
+ghost use Rattle.slot_plan.specs.Parts.{pair_parts};
+ghost use Rattle.slot_plan.specs.ValidShape.{ValidShape};
+
+use crate::lists::shape_of;
+use crate::rows::{numbered, row_before};
+use crate::slot::Slot;
+use crate::slots::push_slots;
+use crate::values::{is_true, number};
+use clause_encode::{numbering, tables_are_ready};
+use css_model::Combinator;
+use formula_laws::satisfying_shapes_fit;
+use sibling_clauses::{Numbering, links_of, numbers_asked};
+use slot_plan::{PairPlan, Shape};
+use std::alloc::{AllocError, Global};
+
+/// The shape of values that satisfy the formula of a pair: it fits both selectors of the plan. `values` has the value
+/// of each variable, by its number.
+///
+/// The slots are read along the true nodes: a left compound alone before a right one alone, and this before one of
+/// each. How many siblings stand before and behind each is read from the values where some test looks at these
+/// numbers; elsewhere all siblings are direct neighbours.
+///
+/// Only want of memory may come in its place.
+pub fn decode_shape(
+    alloc: Global,
+    plan: &PairPlan,
+    values: &[bool],
+) -> Result<Shape, AllocError>
+    requires left { KeepsLimits plan.now.left }
+    requires right { KeepsLimits plan.now.right }
+    requires model { IsModel plan.now.left plan.now.right values.now }
+    ensures valid { IfOk result (λ shape. ValidShape plan.now.left plan.now.right shape) }
+    ensures value { IfOk result (λ shape. shape
+        ≡ shape_from (bounds_of (pair_parts plan.now.left plan.now.right)).width plan.now.left plan.now.right values.now) }
+{
+    tables_are_ready();
+    satisfying_shapes_fit();
+    let shape = shape_from(alloc, plan, values)?;
+    Ok(shape)
+}
+
+/// The shape that values give.
+fn shape_from(alloc: Global, plan: &PairPlan, values: &[bool]) -> Result<Shape, AllocError>
+    requires left { KeepsLimits plan.now.left }
+    requires right { KeepsLimits plan.now.right }
+    ensures { IfOk result (λ shape. shape
+        ≡ shape_from (bounds_of (pair_parts plan.now.left plan.now.right)).width plan.now.left plan.now.right values.now) }
+{
+    let asked = numbers_asked(plan.left(), plan.right());
+    let left = links_of(plan.left());
+    let right = links_of(plan.right());
+    let shape = shape_read(alloc, values, numbering(plan), left, right, asked)?;
+    Ok(shape)
+}
+
+/// The same, by the combinators of both selectors, and by whether some test looks at a number of siblings.
+pub(crate) fn shape_read(
+    alloc: Global,
+    values: &[bool],
+    g: Numbering,
+    left: &[Combinator],
+    right: &[Combinator],
+    asked: bool,
+) -> Result<Shape, AllocError>
+    requires small { IsSmall g }
+    requires left { length left.now ≡ g.left }
+    requires right { length right.now ≡ g.right }
+    ensures { IfOk result (λ shape. shape ≡ shape_read g values.now left.now right.now asked) }
+{
+    let before = number(values, &g.before_left(alloc, 0)?.bits);
+    let slots = slots(alloc, values, g, left, right, before)?;
+    let root = is_true(values, g.root());
+    let child = is_true(values, g.child());
+    if asked {
+        let after = number(values, &g.after_left(alloc, 0)?.bits);
+        shape_of(alloc, before, after, root, child, &slots)
+    } else {
+        let before = row_before(&slots);
+        let slots = numbered(alloc, &slots)?;
+        shape_of(alloc, before, 0, root, child, &slots)
+    }
+}
+
+/// The slots behind slot 0, before which so many siblings stand.
+fn slots(
+    alloc: Global,
+    values: &[bool],
+    g: Numbering,
+    left: &[Combinator],
+    right: &[Combinator],
+    before: u32,
+) -> Result<Vec<Slot>, AllocError>
+    requires small { IsSmall g }
+    requires left { length left.now ≡ g.left }
+    requires right { length right.now ≡ g.right }
+    ensures value { IfOk result (λ v. v.items
+        ≡ slots_read g values.now left.now right.now (g.left + g.right) 0 0 before) }
+    ensures few { IfOk result (λ v. length v.items < 2 ^ 15) }
+{
+    let mut slots = Vec::new(alloc);
+    let most = g.left + g.right;
+    push_slots(&mut slots, alloc, values, g, left, right, most, 0, 0, before)?;
+    Ok(slots)
+}

@@ -1,0 +1,15 @@
+//! The shape that values of the variables give which satisfy the formula of a pair.
+#![tactic(auto)]
+
+mod decode;
+mod lists;
+mod nodes;
+mod rows;
+mod slot;
+mod slots;
+mod values;
+
+pub use decode::decode_shape;
+
+#[cfg(test)]
+mod tests;

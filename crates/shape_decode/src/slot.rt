@@ -1,0 +1,142 @@
+//! A slot behind the first one.
+
+ghost use Rattle.std.specs.Prelude.{◌≡◌, ◌≤◌, ◌+◌, ◌<◌, ◌^◌, suc, length, IfOk};
+ghost use Rattle.grid_laws.specs.Grid.{goes_up_at, right_alone};
+ghost use Rattle.grid_laws.specs.Slots.{slot_at, step_for};
+ghost use Rattle.shape_decode.specs.Laid.{lays_of};
+ghost use Rattle.shape_decode.specs.Read.{after_left, after_right, before_left, before_right};
+ghost use Rattle.sibling_clauses.specs.Bounds.{IsSmall};
+
+use crate::nodes::Lays;
+use crate::values::number;
+use css_model::Combinator;
+use sibling_clauses::{Numbering, goes_up_at};
+use slot_plan::SlotStep;
+use std::alloc::{AllocError, Global};
+use std::marker::Model;
+
+/// A slot behind the first one.
+#[derive(Drop)]
+pub(crate) struct Slot {
+    /// The step into it.
+    pub(crate) step: SlotStep,
+    /// What it holds.
+    pub(crate) lays: Lays,
+    /// How many siblings stand before it.
+    pub(crate) before: u32,
+    /// And how many behind it.
+    pub(crate) after: u32,
+}
+
+impl Model for Slot {
+    ghost use Rattle.grid_laws.specs.Slots.{Laid};
+    ghost use Rattle.shape_decode.specs.Laid.{lays_of};
+
+    ghost Value = { Laid };
+
+    ghost view = { λ s. record {
+      step = s.step;
+      lays = lays_of s.lays;
+      before = s.before;
+      after = s.after;
+    } };
+}
+
+/// The step into a slot, up or to a sibling, by how many siblings stand before the slot that it leaves, and before
+/// this one.
+pub(crate) fn step_for(up: bool, from: u32, to: u32) -> SlotStep
+    requires { to < 2 ^ 25 }
+    ensures { result ≡ step_for up from to }
+{
+    if up {
+        SlotStep::UpOne
+    } else if from == to + 1 {
+        SlotStep::NextTo
+    } else {
+        SlotStep::Further
+    }
+}
+
+/// The slot of the compounds i and j, or of one of them, where so many siblings stand before the slot that the step
+/// leaves.
+pub(crate) fn slot_at(
+    alloc: Global,
+    values: &[bool],
+    g: Numbering,
+    left: &[Combinator],
+    right: &[Combinator],
+    lays: Lays,
+    i: u32,
+    j: u32,
+    from: u32,
+) -> Result<Slot, AllocError>
+    requires small { IsSmall g }
+    requires row { i ≤ g.left }
+    requires column { j ≤ g.right }
+    ensures { IfOk result (λ s. s ≡ slot_at left.now right.now (before_left g values.now) (after_left g values.now)
+        (before_right g values.now) (after_right g values.now) (lays_of lays) i j from) }
+{
+    match lays {
+        Lays::LeftAlone | Lays::Together => left_slot(alloc, values, g, left, lays, i, from),
+        Lays::RightAlone => right_slot(alloc, values, g, right, j, from),
+    }
+}
+
+/// The slot of a left compound, alone or with a right one.
+fn left_slot(
+    alloc: Global,
+    values: &[bool],
+    g: Numbering,
+    left: &[Combinator],
+    lays: Lays,
+    i: u32,
+    from: u32,
+) -> Result<Slot, AllocError>
+    requires small { IsSmall g }
+    requires row { i ≤ g.left }
+    ensures { IfOk result (λ s. s ≡ record {
+      step = step_for (goes_up_at left.now i) from (before_left g values.now i);
+      lays = lays_of lays;
+      before = before_left g values.now i;
+      after = after_left g values.now i;
+    }) }
+{
+    let before = number(values, &g.before_left(alloc, i)?.bits);
+    let after = number(values, &g.after_left(alloc, i)?.bits);
+    let step = step_for(goes_up_at(left, i as usize), from, before);
+    Ok(Slot {
+        step,
+        lays,
+        before,
+        after,
+    })
+}
+
+/// The slot of a right compound alone.
+fn right_slot(
+    alloc: Global,
+    values: &[bool],
+    g: Numbering,
+    right: &[Combinator],
+    j: u32,
+    from: u32,
+) -> Result<Slot, AllocError>
+    requires small { IsSmall g }
+    requires column { j ≤ g.right }
+    ensures { IfOk result (λ s. s ≡ record {
+      step = step_for (goes_up_at right.now j) from (before_right g values.now j);
+      lays = right_alone;
+      before = before_right g values.now j;
+      after = after_right g values.now j;
+    }) }
+{
+    let before = number(values, &g.before_right(alloc, j)?.bits);
+    let after = number(values, &g.after_right(alloc, j)?.bits);
+    let step = step_for(goes_up_at(right, j as usize), from, before);
+    Ok(Slot {
+        step,
+        lays: Lays::RightAlone,
+        before,
+        after,
+    })
+}
