@@ -1,0 +1,9 @@
+mod Common
+mod KeptNumbers
+mod LastItems
+mod Limited
+mod Limits
+mod Lists
+mod NarrowEntries
+mod PuttingIn
+mod RuleSelectors

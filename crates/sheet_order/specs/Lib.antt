@@ -1,0 +1,5 @@
+pub mod Counting
+pub mod Narrow
+pub mod Others
+pub mod Places
+pub mod Taking
