@@ -30,11 +30,7 @@ use std::alloc::{AllocError, Global};
 /// numbers; elsewhere all siblings are direct neighbours.
 ///
 /// Only want of memory may come in its place.
-pub fn decode_shape(
-    alloc: Global,
-    plan: &PairPlan,
-    values: &[bool],
-) -> Result<Shape, AllocError>
+pub fn decode_shape(alloc: Global, plan: &PairPlan, values: &[bool]) -> Result<Shape, AllocError>
     requires left { KeepsLimits plan.now.left }
     requires right { KeepsLimits plan.now.right }
     requires model { IsModel plan.now.left plan.now.right values.now }
@@ -108,6 +104,8 @@ fn slots(
 {
     let mut slots = Vec::new(alloc);
     let most = g.left + g.right;
-    push_slots(&mut slots, alloc, values, g, left, right, most, 0, 0, before)?;
+    push_slots(
+        &mut slots, alloc, values, g, left, right, most, 0, 0, before,
+    )?;
     Ok(slots)
 }
