@@ -166,7 +166,7 @@ fn tokens_of_part<'a>(
     requires short { length source.now ≤ max_bytes }
     ensures { IfOk result (λ v. v.items ≡ map selector_token (map (solid source.now) part.now)) }
 {
-    let mut tokens = Vec::new(alloc);
+    let mut tokens = Vec::with_capacity(alloc, part.len())?;
     let mut rest = part;
     'tokens: while let [x, behind @ ..] = rest {
         tokens.push(token_of(source, x))?;
