@@ -5,5 +5,6 @@
 mod laws;
 
 pub use laws::{
-    printed_is_no_longer, printed_reads_back, printed_reads_back_as_twin, selectors_are_in_the_profile,
+    printed_is_no_longer, printed_reads_back, printed_reads_back_as_twin,
+    selectors_are_in_the_profile,
 };
