@@ -4,7 +4,7 @@ ghost use Rattle.std.specs.Prelude.{◌≡◌, ℕ, List, true, false, IfOk};
 ghost use Rattle.merge_plan.specs.Planning.{IsSaving};
 ghost use Rattle.plan_laws.specs.Plannable.{IsPlannable};
 ghost use Rattle.order_laws.specs.Edits.{Edit};
-ghost use Rattle.step_laws.specs.Free.{Answered, AreAmong, IsBlocked, IsFree};
+ghost use Rattle.step_laws.specs.Free.{Answered, AreAmong, AreTrue, IsBlocked, IsFree};
 ghost use Rattle.step_laws.specs.Steps.{HasStep, IsStep};
 
 use css_model::Sheet;
@@ -16,6 +16,10 @@ use step_laws::Step;
 pub trait Judge {
     /// The answers so far.
     ghost answers: { Self → List Answered };
+
+    /// The answers are true: selectors that are answered to be apart do not meet. It does nothing.
+    fn answers_are_true(&self)
+        ensures { AreTrue (answers self.now) };
 
     /// How many bytes a step of a sheet saves, or 0 where it saves none. Takes no memory.
     fn saved(&self, source: &[u8], sheet: &Sheet, step: &Step) -> u32
