@@ -21,7 +21,7 @@ use Rattle.order_laws.specs.Members.{has_number}
 use Rattle.order_laws.specs.Places.{PlacedPair, StandsLast, last_pairs_from, ListedStandsLast}
 use Rattle.order_laws.specs.Reversed.{moved_pairs}
 use Rattle.selector_laws.specs.Limits.{KeepsLimits, ReadSelectorsKeepTheLimits}
-use Rattle.sheet_order.specs.Narrow.{HasLimits, IsSoundSheet}
+use Rattle.sheet_order.specs.Narrow.{CanBePlanned, HasLimits}
 
 -- what holds of each member
 pub all_members : {X : Type 0} (P : X → Type 0) (xs : List X) → ((x : X) → Contains xs x → P x) → AllByRecursion P xs
@@ -55,8 +55,8 @@ items_limited law source (Rule r ∷ items) sound = (selectors_limited law sourc
 items_limited law source (KeptRule kept ∷ items) sound = (tt, items_limited law source items sound.1)
 items_limited law source (KeptBlock piece ∷ items) sound = (tt, items_limited law source items sound.1)
 
-pub sound_limited : ReadSelectorsKeepTheLimits → (items : List Item) → IsSoundSheet items → AllByRecursion HasLimits items
-sound_limited law items h = items_limited law h.source items h.sound
+pub planned_limited : ReadSelectorsKeepTheLimits → (items : List Item) → CanBePlanned items → AllByRecursion HasLimits items
+planned_limited law items h = items_limited law h.0 items h.1.sound
 
 -- ---- Of its pairs
 

@@ -13,7 +13,7 @@ use Rattle.order_laws.specs.Places.{PlacedPair, StandsLast}
 use Rattle.order_laws.specs.Reversed.{Other, AnotherPair, KeptAt, Reversal, reversed, IsReversedWith, ListedIsReversed}
 use Rattle.step_laws.specs.Left.{PartsAreFew}
 use Rattle.step_laws.specs.Sizes.{part_count, size}
-use Rattle.sheet_order.specs.Narrow.{IsNarrow, IsNarrowOther, IsNarrowPlace, IsSoundSheet}
+use Rattle.sheet_order.specs.Narrow.{CanBePlanned, IsNarrow, IsNarrowOther, IsNarrowPlace}
 use Rattle.sheet_order.proofs.Limited.{all_members}
 
 below : {X : Type 0} (xs : List X) (i : ℕ) (x : X) → slice_get xs i ≡ Some x → i < length xs
@@ -36,27 +36,27 @@ parts_below (Rule q ∷ items) (suc n) r at = let h = parts_below items n r at i
 parts_below (KeptRule kept ∷ items) (suc n) r at = parts_below items n r at
 parts_below (KeptBlock piece ∷ items) (suc n) r at = parts_below items n r at
 
-narrow_place : PartsAreFew → (counts : ℕ → Bool) (items : List Item) (x : PlacedPair) → IsSoundSheet items → StandsLast counts items x → IsNarrowPlace x.place
+narrow_place : PartsAreFew → (counts : ℕ → Bool) (items : List Item) (x : PlacedPair) → CanBePlanned items → StandsLast counts items x → IsNarrowPlace x.place
 narrow_place few counts items x sheet stands =
     let a : x.place.item < length items = below items x.place.item (Rule stands.rule) stands.rule_at in
     let b : length stands.rule.selectors + length stands.rule.decls ≤ part_count items = parts_below items x.place.item stands.rule stands.rule_at in
-    let c : part_count items ≤ size sheet.source items = few sheet.source items sheet.sound in
+    let c : part_count items ≤ size sheet.0 items = few sheet.0 items sheet.1.sound in
     let d : x.place.selector < length stands.rule.selectors = mapped_below (λ s. s.selector) stands.rule.selectors x.place.selector x.pair.selector stands.selector_at in
     let e : x.place.decl < length stands.rule.decls = below stands.rule.decls x.place.decl stands.item stands.decl_at in
-    let f = sheet.few_items in
-    let g = sheet.short in
+    let f = sheet.1.few_items in
+    let g = sheet.1.short in
     record { item = omega (arith, a, f); selector = omega (arith, b, c, d, g); decl = omega (arith, b, c, e, g) }
 
-narrow_other : PartsAreFew → (items items' : List Item) (m : Moved) (p : Pair) (o : Other) → IsSoundSheet items → IsReversedWith items items' m p o → IsNarrowOther o
+narrow_other : PartsAreFew → (items items' : List Item) (m : Moved) (p : Pair) (o : Other) → CanBePlanned items → IsReversedWith items items' m p o → IsNarrowOther o
 narrow_other few items items' m p (AnotherPair q) sheet is = narrow_place few (λ n. true) items q sheet is.0
-narrow_other few items items' m p (KeptAt n) sheet is = let a : n < length items = below items n is.0 is.1 in let f = sheet.few_items in omega (arith, a, f)
+narrow_other few items items' m p (KeptAt n) sheet is = let a : n < length items = below items n is.0 is.1 in let f = sheet.1.few_items in omega (arith, a, f)
 
-pub narrow_entry : PartsAreFew → (items items' : List Item) (m : Moved) → IsSoundSheet items → (r : Reversal) →
+pub narrow_entry : PartsAreFew → (items items' : List Item) (m : Moved) → CanBePlanned items → (r : Reversal) →
     StandsLast (has_number m.out_of) items r.moved × IsReversedWith items items' m r.moved.pair r.other → IsNarrow r
 narrow_entry few items items' m sheet r is = record {
   moved = narrow_place few (has_number m.out_of) items r.moved sheet is.0;
   other = narrow_other few items items' m r.moved.pair r.other sheet is.1;
 }
 
-pub all_narrow : PartsAreFew → ListedIsReversed → (items items' : List Item) (m : Moved) → IsSoundSheet items → AllByRecursion IsNarrow (reversed items items' m)
+pub all_narrow : PartsAreFew → ListedIsReversed → (items items' : List Item) (m : Moved) → CanBePlanned items → AllByRecursion IsNarrow (reversed items items' m)
 all_narrow few listed items items' m sheet = all_members IsNarrow (reversed items items' m) (λ r h. narrow_entry few items items' m sheet r ((listed items items' m r).0 h))

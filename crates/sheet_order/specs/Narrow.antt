@@ -1,22 +1,16 @@
 -- Sheets whose parts can be numbered, and entries whose numbers are small.
-use Rattle.std.specs.Prelude.{ℕ, ◌≤◌, ◌<◌, ◌^◌, List, length}
+use Rattle.std.specs.Prelude.{ℕ, ◌<◌, ◌^◌, List}
 use Rattle.std.specs.List.{AllByRecursion}
 use Rattle.css_model.specs.declared.sheet.Item.{Item}
 use Rattle.css_model.specs.declared.sheet.Item.TheVariants.{Rule, KeptRule, KeptBlock}
-use Rattle.css_model.specs.Sheets.Limits.{max_bytes, max_items}
-use Rattle.css_model.specs.Sheets.Sound.{IsSound}
 use Rattle.order_laws.specs.Places.{PairPlace}
 use Rattle.order_laws.specs.Reversed.{Other, AnotherPair, KeptAt, Reversal}
+use Rattle.plan_laws.specs.Plannable.{IsPlannable}
 use Rattle.selector_laws.specs.Limits.{KeepsLimits}
-use Rattle.step_laws.specs.Sizes.{size}
 
--- A sheet is made of the parts of a source (own), has no more items than a sheet may have, and its texts
--- together have no more bytes.
-pub record IsSoundSheet (items : List Item) : Type 0 where
-  pub source : List ℕ
-  pub sound : IsSound source items
-  pub few_items : length items ≤ max_items
-  pub short : size source items ≤ max_bytes
+-- a sheet can be planned, with some source (own)
+abbrev pub CanBePlanned : List Item → Type 0
+CanBePlanned items = (source : List ℕ) × IsPlannable source items
 
 -- the selectors of a rule keep the limits of the profile (own)
 abbrev pub HasLimits : Item → Type 0

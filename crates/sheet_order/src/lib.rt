@@ -3,14 +3,19 @@
 
 mod comparing;
 mod entries;
+mod laws;
 mod members;
 mod moving;
 mod pairs;
+mod permitting;
 mod places;
 mod reversing;
 mod sorting;
 mod taking;
 
+pub use laws::{allowed_steps_are_free, other_steps_are_blocked};
 pub use moving::move_rule;
+pub use permitting::{Allowed, permitted};
 pub use places::{Moved, Other, PairPlace, Reversed};
 pub use reversing::reversed;
+pub use step_laws::BlockCause;

@@ -3,7 +3,7 @@
 ghost use Rattle.std.specs.Prelude.{◌≡◌, IfOk, map};
 ghost use Rattle.std.specs.List.{AllByRecursion};
 ghost use Rattle.order_laws.specs.Reversed as order;
-ghost use Rattle.sheet_order.specs.Narrow.{HasLimits, IsNarrow, IsNarrowOther, IsNarrowPlace, IsSoundSheet};
+ghost use Rattle.sheet_order.specs.Narrow.{CanBePlanned, HasLimits, IsNarrow, IsNarrowOther, IsNarrowPlace};
 ghost use Rattle.sheet_order.specs.Others.{other_seen};
 ghost use Rattle.sheet_order.specs.Places.{entry_of, other_of, place_of};
 ghost use Rattle.sheet_order.specs.Taking.{moved_in};
@@ -98,14 +98,14 @@ fn narrow_all(alloc: Global, found: &[Reversal<'_>]) -> Result<Vec<Reversed>, Al
 /// the moved pair's. A place is that of a pair's last occurrence, of a moved one's in what is moved; of equal
 /// selectors of a rule it is the first, of equal declarations the last. Whether selectors meet does not
 /// count. Each two pairs of the first sheet are looked at.
-#[tactic(auto, using(crate::proofs::Limited::sound_limited, crate::proofs::NarrowEntries::all_narrow))]
+#[tactic(auto, using(crate::proofs::Limited::planned_limited, crate::proofs::NarrowEntries::all_narrow))]
 pub fn reversed(
     alloc: Global,
     old: &Sheet,
     new: &Sheet,
     moved: &Moved,
 ) -> Result<Vec<Reversed>, AllocError>
-    requires { IsSoundSheet old.now.items }
+    requires { CanBePlanned old.now.items }
     ensures { IfOk result (λ list. list.items ≡ map entry_of (order.reversed old.now.items new.now.items (moved_in old.now.items moved.now))) }
 {
     read_selectors_keep_the_limits();
