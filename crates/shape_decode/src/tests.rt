@@ -5,61 +5,38 @@ use slot_plan::{Shape, SlotStep};
 use std::alloc::{AllocError, Global};
 use std::test::Fail;
 
-/// The combinators that a text spells.
-fn links(alloc: Global, text: &str) -> Result<Vec<Combinator>, AllocError> {
-    let mut links = Vec::new(alloc);
-    for c in text.chars() {
-        links.push(match c {
-            '>' => Combinator::Child,
-            '+' => Combinator::Next,
-            '~' => Combinator::Later,
-            _ => Combinator::Inside,
-        })?;
+/// The combinator that a sign spells.
+fn link(sign: char) -> Combinator {
+    match sign {
+        '>' => Combinator::Child,
+        '+' => Combinator::Next,
+        '~' => Combinator::Later,
+        _ => Combinator::Inside,
     }
-    Ok(links)
 }
 
-/// The steps that a text spells.
-fn steps(alloc: Global, text: &str) -> Result<Vec<SlotStep>, AllocError> {
-    let mut steps = Vec::new(alloc);
-    for c in text.chars() {
-        steps.push(match c {
-            '+' => SlotStep::NextTo,
-            '~' => SlotStep::Further,
-            _ => SlotStep::UpOne,
-        })?;
+/// The sign of a step.
+fn sign(step: SlotStep) -> char {
+    match step {
+        SlotStep::NextTo => '+',
+        SlotStep::Further => '~',
+        SlotStep::UpOne => '^',
+        SlotStep::UpMore => '*',
     }
-    Ok(steps)
 }
 
-/// The numbers that a text spells, a digit for each.
-fn numbers(alloc: Global, text: &str) -> Result<Vec<u32>, AllocError> {
-    let mut numbers = Vec::new(alloc);
-    for c in text.chars() {
-        if let Some(number) = c.to_digit(10) {
-            numbers.push(number)?;
-        }
-    }
-    Ok(numbers)
-}
-
-/// Values of so many variables, true at these.
-fn values(alloc: Global, count: u32, trues: &[u32]) -> Result<Vec<bool>, AllocError> {
-    let mut values = Vec::new(alloc);
-    for variable in 0..count {
-        values.push(trues.iter().any(|t| *t == variable))?;
-    }
-    Ok(values)
-}
-
-/// The shape of selectors with these combinators, each with at most twelve compounds.
+/// The shape of selectors with these combinators, each with at most twelve compounds, where a sign `1` spells a
+/// true variable.
 fn shape(
     alloc: Global,
-    values: &[bool],
-    left: &[Combinator],
-    right: &[Combinator],
+    values: &str,
+    left: &str,
+    right: &str,
     digits: u32,
 ) -> Result<Option<Shape>, AllocError> {
+    let values: Vec<bool> = values.chars().map(|sign| sign == '1').collect(alloc)?;
+    let left: Vec<Combinator> = left.chars().map(link).collect(alloc)?;
+    let right: Vec<Combinator> = right.chars().map(link).collect(alloc)?;
     if left.len() >= 12 || right.len() >= 12 || digits > 25 {
         return Ok(None);
     }
@@ -68,37 +45,90 @@ fn shape(
         right: right.len() as u32,
         digits,
     };
-    let shape = shape_read(alloc, values, g, left, right, digits != 0)?;
+    let shape = shape_read(alloc, &values, g, &left, &right, digits != 0)?;
     Ok(Some(shape))
+}
+
+/// Whether numbers are those that a text spells, a digit for each.
+fn are(numbers: &[u32], text: &str) -> bool {
+    let mut digits = text.chars();
+    for number in numbers {
+        match digits.next() {
+            Some(digit) if digit.to_digit(10) == Some(*number) => {}
+            _ => return false,
+        }
+    }
+    digits.next().is_none()
+}
+
+/// Whether steps are those that a text spells, a sign for each.
+fn are_steps(steps: &[SlotStep], text: &str) -> bool {
+    let mut signs = text.chars();
+    for step in steps {
+        if signs.next() != Some(sign(*step)) {
+            return false;
+        }
+    }
+    signs.next().is_none()
+}
+
+/// Whether a shape has these steps, slots and numbers.
+fn is_shape(shape: &Shape, steps: &str, slots: (&str, &str), numbers: (&str, &str)) -> bool {
+    are_steps(&shape.steps, steps)
+        && are(&shape.left, slots.0)
+        && are(&shape.right, slots.1)
+        && are(&shape.before, numbers.0)
+        && are(&shape.after, numbers.1)
 }
 
 #[test]
 fn what_values_give(rt: HostRuntime) -> Result<(), Fail> {
     let alloc = rt.alloc();
-    let above = values(alloc, 11, &[2, 3])?;
-    let beside = values(alloc, 17, &[2, 6, 10])?;
-    let shared = values(alloc, 17, &[2, 11, 12])?;
-    let either = values(alloc, 17, &[2, 4, 6, 10, 13])?;
-    let apart = values(alloc, 23, &[2, 3, 7, 11, 12, 13, 15, 17, 18])?;
-    let close = values(alloc, 23, &[2, 3, 6, 12, 13, 15, 18])?;
-    for (values, left, right, digits, found, left_slots, right_slots, before, after) in [
-        (&above, ">", "", 0, "^", "01", "0", "00", "00"),
-        (&beside, "+", ">", 0, "+^", "01", "02", "100", "010"),
-        (&shared, ">", ">", 0, "^", "01", "01", "00", "00"),
-        (&either, " ", " ", 0, "^^", "01", "02", "000", "000"),
-        (&apart, "~", "", 2, "~", "01", "0", "31", "13"),
-        (&close, "~", "", 2, "+", "01", "0", "21", "12"),
+    for (values, links, digits, steps, slots, numbers) in [
+        ("0011", (">", ""), 0, "^", ("01", "0"), ("00", "00")),
+        (
+            "00100010001",
+            ("+", ">"),
+            0,
+            "+^",
+            ("01", "02"),
+            ("100", "010"),
+        ),
+        (
+            "001000000001",
+            (">", ">"),
+            0,
+            "^",
+            ("01", "01"),
+            ("00", "00"),
+        ),
+        (
+            "00101010001",
+            (" ", " "),
+            0,
+            "^^",
+            ("01", "02"),
+            ("000", "000"),
+        ),
+        (
+            "0011000100011101011",
+            ("~", ""),
+            2,
+            "~",
+            ("01", "0"),
+            ("31", "13"),
+        ),
+        (
+            "0011001000001101001",
+            ("~", ""),
+            2,
+            "+",
+            ("01", "0"),
+            ("21", "12"),
+        ),
     ] {
-        let left = links(alloc, left)?;
-        let right = links(alloc, right)?;
-        match shape(alloc, values, &left, &right, digits)? {
-            Some(shape) => {
-                assert_eq!(rt; shape.steps, steps(alloc, found)?);
-                assert_eq!(rt; shape.left, numbers(alloc, left_slots)?);
-                assert_eq!(rt; shape.right, numbers(alloc, right_slots)?);
-                assert_eq!(rt; shape.before, numbers(alloc, before)?);
-                assert_eq!(rt; shape.after, numbers(alloc, after)?);
-            }
+        match shape(alloc, values, links.0, links.1, digits)? {
+            Some(shape) => assert!(rt; is_shape(&shape, steps, slots, numbers)),
             None => assert!(rt; false),
         }
     }
