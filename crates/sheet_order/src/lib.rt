@@ -19,3 +19,6 @@ pub use permitting::{Allowed, permitted};
 pub use places::{Moved, Other, PairPlace, Reversed};
 pub use reversing::reversed;
 pub use step_laws::BlockCause;
+
+#[cfg(test)]
+mod tests;
