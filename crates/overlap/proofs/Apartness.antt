@@ -20,22 +20,22 @@ use Rattle.overlap.proofs.Deciding.{same_self}
 not_outside : (r n : ℕ) → Apart ≡ Outside r n → ⊥
 not_outside r n e = cc
 
-few_apart : (x y : SelectorParts) → IsFewAnswer x y Apart → TheyMeet x y → ⊥
-few_apart x y (inl (lack, e)) meet = not_outside 12 0 e
-few_apart x y (inr (have, apart)) meet = apart meet
+few_apart : (x y : SelectorParts) (budget : ℕ) → IsFewAnswer x y budget Apart → TheyMeet x y → ⊥
+few_apart x y budget (inl (lack, e)) meet = not_outside 12 0 e
+few_apart x y budget (inr (have, apart)) meet = apart meet
 
 pub true_apart : (x y : SelectorParts) (budget : ℕ) → IsTrueAnswer x y budget Apart → TheyMeet x y → ⊥
-true_apart x y budget h meet = alike (subst (λ (b : Bool). MatchBool b (IsAlikeAnswer x y Apart) (Apart ≡ Apart)) same h)
+true_apart x y budget h meet = alike (subst (λ (b : Bool). MatchBool b (IsAlikeAnswer x y budget Apart) (Apart ≡ Apart)) same h)
   where
     same : same_pseudo x.pseudo y.pseudo ≡ true
     same = subst (λ (p : Option Pseudo). same_pseudo x.pseudo p ≡ true) (sym meet.first.pseudo ∙ meet.second.pseudo) (same_self x.pseudo)
 
-    alike : IsAlikeAnswer x y Apart → ⊥
+    alike : IsAlikeAnswer x y budget Apart → ⊥
     alike k = by (nat_lt max_stepped (pair_stepped x y)) k
       where
-        by : (b : Bool) → MatchBool b (Apart ≡ Outside too_many_stepped (pair_stepped x y)) (IsFewAnswer x y Apart) → ⊥
+        by : (b : Bool) → MatchBool b (Apart ≡ Outside too_many_stepped (pair_stepped x y)) (IsFewAnswer x y budget Apart) → ⊥
         by true e = not_outside too_many_stepped (pair_stepped x y) e
-        by false few = few_apart x y few meet
+        by false few = few_apart x y budget few meet
 
 pub apart_selectors_do_not_meet : ApartSelectorsDoNotMeet
 apart_selectors_do_not_meet pairs x y h (k, l, e) meet = ∥∥₁_elim h (λ a b. absurd a) (λ t. by t)

@@ -29,7 +29,8 @@ use Rattle.single_examples.specs.Laws.{ExamplesShowMeeting, MeetingPasses, Passe
 use Rattle.single_examples.specs.Trying.{IsTried, NoneTried}
 use Rattle.overlap.specs.declared.answer.Answer.{Answer}
 use Rattle.overlap.specs.declared.answer.Answer.TheVariants.{Apart, Meet, Outside, Spent}
-use Rattle.overlap.specs.Answers.{HaveSpaces, IsAlikeAnswer, IsDecided, IsEvidence, IsFewAnswer, IsTrueAnswer, are_single, pair_stepped, too_many_stepped}
+use Rattle.overlap.specs.Combined.{IsCombinedAnswer}
+use Rattle.overlap.specs.Answers.{HaveSpaces, IsAlikeAnswer, IsDecided, IsFewAnswer, IsTrueAnswer, are_single, pair_stepped, too_many_stepped}
 use Rattle.overlap.specs.Singles.{IsSingleAnswer}
 
 -- ---- Pseudo-elements
@@ -70,22 +71,22 @@ same_is (Some After) (Some Before) h = absurd (true≢false (sym h))
 pub other_pseudo : (x y : SelectorParts) → (x.pseudo ≡ y.pseudo → ⊥) → (budget : ℕ) → IsTrueAnswer x y budget Apart
 other_pseudo x y other budget = by (same_pseudo x.pseudo y.pseudo) refl
   where
-    by : (b : Bool) → same_pseudo x.pseudo y.pseudo ≡ b → MatchBool b (IsAlikeAnswer x y Apart) (Apart ≡ Apart)
+    by : (b : Bool) → same_pseudo x.pseudo y.pseudo ≡ b → MatchBool b (IsAlikeAnswer x y budget Apart) (Apart ≡ Apart)
     by true e = absurd (other (same_is x.pseudo y.pseudo e))
     by false e = refl
 
-pub alike_pseudo : (x y : SelectorParts) (answer : Answer) → x.pseudo ≡ y.pseudo → IsAlikeAnswer x y answer → (budget : ℕ) → IsTrueAnswer x y budget answer
-alike_pseudo x y answer e h budget =
-    subst (λ (b : Bool). MatchBool b (IsAlikeAnswer x y answer) (answer ≡ Apart)) (sym (subst (λ (p : Option Pseudo). same_pseudo x.pseudo p ≡ true) e (same_self x.pseudo))) h
+pub alike_pseudo : (x y : SelectorParts) (budget : ℕ) (answer : Answer) → x.pseudo ≡ y.pseudo → IsAlikeAnswer x y budget answer → IsTrueAnswer x y budget answer
+alike_pseudo x y budget answer e h =
+    subst (λ (b : Bool). MatchBool b (IsAlikeAnswer x y budget answer) (answer ≡ Apart)) (sym (subst (λ (p : Option Pseudo). same_pseudo x.pseudo p ≡ true) e (same_self x.pseudo))) h
 
-pub many_stepped : (x y : SelectorParts) (n : ℕ) → n ≡ pair_stepped x y → max_stepped < n → IsAlikeAnswer x y (Outside too_many_stepped n)
-many_stepped x y n e l =
-    subst (λ (b : Bool). MatchBool b (Outside too_many_stepped n ≡ Outside too_many_stepped (pair_stepped x y)) (IsFewAnswer x y (Outside too_many_stepped n)))
+pub many_stepped : (x y : SelectorParts) (budget n : ℕ) → n ≡ pair_stepped x y → max_stepped < n → IsAlikeAnswer x y budget (Outside too_many_stepped n)
+many_stepped x y budget n e l =
+    subst (λ (b : Bool). MatchBool b (Outside too_many_stepped n ≡ Outside too_many_stepped (pair_stepped x y)) (IsFewAnswer x y budget (Outside too_many_stepped n)))
     (sym (lt-ltb max_stepped (pair_stepped x y) (let k : max_stepped < pair_stepped x y = subst (λ m. max_stepped < m) e l in k))) (ap (λ m. Outside too_many_stepped m) e)
 
-pub few_stepped : (x y : SelectorParts) (answer : Answer) → pair_stepped x y ≤ max_stepped → IsFewAnswer x y answer → IsAlikeAnswer x y answer
-few_stepped x y answer l h =
-    subst (λ (b : Bool). MatchBool b (answer ≡ Outside too_many_stepped (pair_stepped x y)) (IsFewAnswer x y answer)) (sym (le-ltb max_stepped (pair_stepped x y) l)) h
+pub few_stepped : (x y : SelectorParts) (budget : ℕ) (answer : Answer) → pair_stepped x y ≤ max_stepped → IsFewAnswer x y budget answer → IsAlikeAnswer x y budget answer
+few_stepped x y budget answer l h =
+    subst (λ (b : Bool). MatchBool b (answer ≡ Outside too_many_stepped (pair_stepped x y)) (IsFewAnswer x y budget answer)) (sym (le-ltb max_stepped (pair_stepped x y) l)) h
 
 fits_leave : (fits : List (Option FeatureParts)) (gs : List (List Simple)) → AreFits fits gs → All (λ g. SpacesAreLeft (attribute_tests g)) gs
 fits_leave [] [] h = All-nil (λ (g : List Simple). SpacesAreLeft (attribute_tests g))
@@ -93,8 +94,8 @@ fits_leave [] (g ∷ gs) h = absurd h
 fits_leave (f ∷ fits) [] h = absurd h
 fits_leave (f ∷ fits) (g ∷ gs) h = All-cons (λ (g : List Simple). SpacesAreLeft (attribute_tests g)) g gs h.0.0 (fits_leave fits gs h.1)
 
-pub fitted : (x y : SelectorParts) (fits : List (Option FeatureParts)) (answer : Answer) → AreFits fits (groups x.chain y.chain) → IsDecided x y answer → IsFewAnswer x y answer
-fitted x y fits answer h d = inr (fits_leave fits (groups x.chain y.chain) h, d)
+pub fitted : (x y : SelectorParts) (budget : ℕ) (fits : List (Option FeatureParts)) (answer : Answer) → AreFits fits (groups x.chain y.chain) → IsDecided x y budget answer → IsFewAnswer x y budget answer
+fitted x y budget fits answer h d = inr (fits_leave fits (groups x.chain y.chain) h, d)
 
 -- ---- Selectors of one compound
 
@@ -150,16 +151,16 @@ matches_from doc t x c p e f g h = record {
 are_one : (x y : SelectorParts) (c d : List Simple) → x.chain ≡ c ∷ [] → y.chain ≡ d ∷ [] → are_single x y ≡ true
 are_one x y c d e f = ap (λ (m : List (List Simple)). (length m == 1) && (length y.chain == 1)) e ∙ ap (λ (n : List (List Simple)). (length (c ∷ []) == 1) && (length n == 1)) f
 
-pub single_decided : (x y : SelectorParts) (c d : List Simple) (answer : Answer) → x.chain ≡ c ∷ [] → y.chain ≡ d ∷ [] → x.links ≡ [] → y.links ≡ [] → x.pseudo ≡ y.pseudo →
-    IsSingleAnswer c d x.pseudo answer → IsDecided x y answer
-single_decided x y c d Apart e f g h p is = λ meet. is (record {
+pub single_decided : (x y : SelectorParts) (budget : ℕ) (c d : List Simple) (answer : Answer) → x.chain ≡ c ∷ [] → y.chain ≡ d ∷ [] → x.links ≡ [] → y.links ≡ [] → x.pseudo ≡ y.pseudo →
+    IsSingleAnswer c d x.pseudo answer → IsDecided x y budget answer
+single_decided x y budget c d Apart e f g h p is = λ meet. is (record {
   doc = meet.doc;
   target = meet.target;
   legal = meet.legal;
   first = matches_to meet.doc meet.target x c x.pseudo e g refl meet.first;
   second = matches_to meet.doc meet.target y d x.pseudo f h (sym p) meet.second;
 })
-single_decided x y c d (Meet ex) e f g h p is = (
+single_decided x y budget c d (Meet ex) e f g h p is = (
   (
     record {
       rules = is.0.0.rules;
@@ -171,17 +172,17 @@ single_decided x y c d (Meet ex) e f g h p is = (
   ),
   λ one. subst (λ (n : List (List Simple)). IsSingleExample ex (target x.chain ++ target n) x.pseudo) (sym f) (subst (λ (m : List (List Simple)). IsSingleExample ex (target m ++ d) x.pseudo) (sym e) is.1),
 )
-single_decided x y c d (Outside r n) e f g h p is = absurd is
-single_decided x y c d (Spent l) e f g h p is = absurd is
+single_decided x y budget c d (Outside r n) e f g h p is = absurd is
+single_decided x y budget c d (Spent l) e f g h p is = absurd is
 
-pub few_result : {E : Type 0} (x y : SelectorParts) (fits : List (Option FeatureParts)) (r : Result Answer E) → AreFits fits (groups x.chain y.chain) → IfOk r (λ a. IsDecided x y a) → IfOk r (λ a. IsFewAnswer x y a)
-few_result x y fits (Ok a) h d = fitted x y fits a h d
-few_result x y fits (Err e) h d = d
+pub few_result : {E : Type 0} (x y : SelectorParts) (budget : ℕ) (fits : List (Option FeatureParts)) (r : Result Answer E) → AreFits fits (groups x.chain y.chain) → IfOk r (λ a. IsDecided x y budget a) → IfOk r (λ a. IsFewAnswer x y budget a)
+few_result x y budget fits (Ok a) h d = fitted x y budget fits a h d
+few_result x y budget fits (Err e) h d = d
 
-pub single_result : {E : Type 0} (x y : SelectorParts) (c d : List Simple) (r : Result Answer E) → x.chain ≡ c ∷ [] → y.chain ≡ d ∷ [] → x.links ≡ [] → y.links ≡ [] → x.pseudo ≡ y.pseudo →
-    IfOk r (λ a. IsSingleAnswer c d x.pseudo a) → IfOk r (λ a. IsDecided x y a)
-single_result x y c d (Ok a) e f g h p is = single_decided x y c d a e f g h p is
-single_result x y c d (Err n) e f g h p is = is
+pub single_result : {E : Type 0} (x y : SelectorParts) (budget : ℕ) (c d : List Simple) (r : Result Answer E) → x.chain ≡ c ∷ [] → y.chain ≡ d ∷ [] → x.links ≡ [] → y.links ≡ [] → x.pseudo ≡ y.pseudo →
+    IfOk r (λ a. IsSingleAnswer c d x.pseudo a) → IfOk r (λ a. IsDecided x y budget a)
+single_result x y budget c d (Ok a) e f g h p is = single_decided x y budget c d a e f g h p is
+single_result x y budget c d (Err n) e f g h p is = is
 
 -- a chain that is not of one compound
 pub not_single : (x y : SelectorParts) → (length x.chain ≡ 1 → length y.chain ≡ 1 → ⊥) → are_single x y ≡ false
@@ -191,3 +192,15 @@ not_single x y apart = by (length x.chain == 1) (length y.chain == 1) refl refl
     by true true e f = absurd (apart ((unsigned_Decides (length x.chain) 1).0 e) ((unsigned_Decides (length y.chain) 1).0 f))
     by true false e f = refl
     by false b e f = refl
+
+-- ---- Selectors with a combinator
+
+combined_decided : (x y : SelectorParts) (budget : ℕ) (answer : Answer) → are_single x y ≡ false → IsCombinedAnswer x y budget answer → IsDecided x y budget answer
+combined_decided x y budget Apart e h = h
+combined_decided x y budget (Meet ex) e h = (h, λ one. absurd (true≢false (sym one ∙ e)))
+combined_decided x y budget (Outside r n) e h = h
+combined_decided x y budget (Spent l) e h = (e, h)
+
+pub combined_result : {E : Type 0} (x y : SelectorParts) (budget : ℕ) (r : Result Answer E) → are_single x y ≡ false → IfOk r (λ a. IsCombinedAnswer x y budget a) → IfOk r (λ a. IsDecided x y budget a)
+combined_result x y budget (Ok a) e h = combined_decided x y budget a e h
+combined_result x y budget (Err n) e h = h

@@ -1,5 +1,5 @@
 -- A true list with one answer more, and what such a list says.
-use Rattle.std.proofs.Common.{◌≡◌, ℕ, zero, suc, ◌+◌, ◌<◌, ◌++◌, List, [], ◌∷◌, Result, Ok, Err, OnOk, OnErr, length, get_or, refl, sym, ap, subst, ◌∙◌, arith, inl, inr, ◌⊎◌}
+use Rattle.std.proofs.Common.{◌≡◌, ℕ, zero, suc, ◌+◌, ◌<◌, ◌++◌, List, [], ◌∷◌, Result, Ok, Err, OnOk, OnErr, IfOk, Option, Some, slice_get, length, get_or, refl, sym, ap, subst, ◌∙◌, arith, inl, inr, ◌⊎◌}
 use Rattle.std.proofs.Math.Logic.{∥∥₁_map}
 use Rattle.std.specs.List.{All, AllPairs}
 use Rattle.std.proofs.lemmas.Bool.{cases_lt}
@@ -8,7 +8,7 @@ use Rattle.css_model.specs.Documents.SelectorParts.{SelectorParts}
 use Rattle.overlap.specs.Answers.{IsTrueAnswer}
 use Rattle.overlap.specs.declared.answer.Answer.{Answer}
 use Rattle.overlap.specs.PairsParts.{Answered, PairsParts}
-use Rattle.overlap.specs.Remembered.{IsOfOther, IsTrueList, IsUnknown}
+use Rattle.overlap.specs.Remembered.{IsOfOther, IsTrueList, IsUnknown, StandsAt}
 
 abbrev entry : SelectorParts → SelectorParts → Answer → Answered
 entry x y answer = record { left = x; right = y; answer = answer }
@@ -37,3 +37,18 @@ kept_or_more (Ok a) budget old new x y answer ok err unknown is h =
     subst (λ (answers : List Answered). ∥ IsTrueList (record { budget = budget; answers = answers }) ∥₁) (sym ok) (more_true budget old x y answer unknown is h)
 kept_or_more (Err a) budget old new x y answer ok err unknown is h =
     subst (λ (answers : List Answered). ∥ IsTrueList (record { budget = budget; answers = answers }) ∥₁) (sym err) h
+
+-- the answer that is added stands last
+last_at : (answers : List Answered) (e : Answered) → slice_get (answers ++ e ∷ []) (length answers) ≡ Some e
+last_at [] e = refl
+last_at (a ∷ answers) e = last_at answers e
+
+pub stands_last : {E : Type 0} (r : Result ℕ E) (old new : PairsParts) (x y : SelectorParts) (answer : Answer) → IfOk r (λ at. at ≡ length old.answers) →
+    OnOk r (new ≡ record { budget = old.budget; answers = old.answers ++ entry x y answer ∷ [] }) → IfOk r (λ at. StandsAt new.answers x y (Some at))
+stands_last (Ok at) old new x y answer place is = (
+  entry x y answer,
+  ap (λ (p : PairsParts). slice_get p.answers at) is ∙ ap (λ (n : ℕ). slice_get (old.answers ++ entry x y answer ∷ []) n) place ∙ last_at old.answers (entry x y answer),
+  refl,
+  refl,
+)
+stands_last (Err e) old new x y answer place is = is

@@ -3,7 +3,6 @@ use Rattle.std.specs.Prelude.{◌≡◌, ◌⊎◌, ℕ, ◌+◌, ◌≤◌, ◌
 use Rattle.std.specs.Bool.{MatchBool}
 use Rattle.std.specs.List.{All, Contains}
 use Rattle.css_model.specs.Cascade.Order.{Meet as TheyMeet}
-use Rattle.css_model.specs.declared.example.Example.{Example}
 use Rattle.css_model.specs.declared.selector.Simple.{Simple}
 use Rattle.css_model.specs.Documents.Matching.{same_pseudo}
 use Rattle.css_model.specs.Documents.SelectorParts.{SelectorParts}
@@ -12,8 +11,8 @@ use Rattle.compound_fit.specs.Attributes.{attribute_tests}
 use Rattle.compound_fit.specs.Fitting.{SpacesAreTaken, SpacesAreLeft}
 use Rattle.compound_fit.specs.Table.{groups, target}
 use Rattle.slot_plan.specs.Parts.{stepped_count}
-use Rattle.document_laws.specs.Laws.{ShowsMeeting}
 use Rattle.single_examples.specs.Examples.{IsSingleExample}
+use Rattle.overlap.specs.Combined.{IsEvidence, IsSpentOn}
 use Rattle.overlap.specs.declared.answer.Answer.{Answer}
 use Rattle.overlap.specs.declared.answer.Answer.TheVariants.{Apart, Meet, Outside, Spent}
 
@@ -27,19 +26,7 @@ too_many_stepped = 11
 abbrev pub no_space_left : ℕ
 no_space_left = 12
 
--- a combinator
-abbrev pub has_combinator : ℕ
-has_combinator = 13
-
 -- ---- Answers
-
--- how many lines an example has at most
-abbrev pub most_lines : ℕ
-most_lines = 4095
-
--- an example is evidence that two selectors meet: it shows that they do, and is short
-abbrev pub IsEvidence : Example → SelectorParts → SelectorParts → Type 0
-IsEvidence e x y = ShowsMeeting x y e × (length e.doc.lines ≤ most_lines)
 
 -- how many positions with a step of 2 or more in size both have together
 abbrev pub pair_stepped : SelectorParts → SelectorParts → ℕ
@@ -56,23 +43,23 @@ HaveSpaces x y = All (λ g. SpacesAreLeft (attribute_tests g)) (groups x.chain y
 abbrev pub are_single : SelectorParts → SelectorParts → Bool
 are_single x y = (length x.chain == 1) && (length y.chain == 1)
 
--- Where nothing stands against it, a pair is decided. Two selectors of one compound each do not meet, or an
--- example shows that they do, the first one of those that are tried. A pair with a combinator may also be
--- left open, which is the reason `has_combinator`.
-abbrev pub IsDecided : SelectorParts → SelectorParts → Answer → Type 0
-IsDecided x y Apart = TheyMeet x y → ⊥
-IsDecided x y (Meet e) = IsEvidence e x y × (are_single x y ≡ true → IsSingleExample e (target x.chain ++ target y.chain) x.pseudo)
-IsDecided x y (Outside reason number) = (are_single x y ≡ false) × (reason ≡ has_combinator) × (number ≡ 0)
-IsDecided x y (Spent ledger) = ⊥
+-- Where nothing stands against it, a pair is decided. They do not meet, or an example shows that they do; for two
+-- selectors of one compound each it is the first one of those that are tried. Only where one has a combinator, the
+-- budget may be spent instead.
+abbrev pub IsDecided : SelectorParts → SelectorParts → (budget : ℕ) → Answer → Type 0
+IsDecided x y budget Apart = TheyMeet x y → ⊥
+IsDecided x y budget (Meet e) = IsEvidence e x y × (are_single x y ≡ true → IsSingleExample e (target x.chain ++ target y.chain) x.pseudo)
+IsDecided x y budget (Outside reason number) = ⊥
+IsDecided x y budget (Spent ledger) = (are_single x y ≡ false) × IsSpentOn x y budget ledger
 
 -- the answer where few positions with a large step are asked for: the white spaces come first
-abbrev pub IsFewAnswer : SelectorParts → SelectorParts → Answer → Type 0
-IsFewAnswer x y answer = (LackSpaces x y × (answer ≡ Outside no_space_left 0)) ⊎ (HaveSpaces x y × IsDecided x y answer)
+abbrev pub IsFewAnswer : SelectorParts → SelectorParts → (budget : ℕ) → Answer → Type 0
+IsFewAnswer x y budget answer = (LackSpaces x y × (answer ≡ Outside no_space_left 0)) ⊎ (HaveSpaces x y × IsDecided x y budget answer)
 
 -- the answer for one pseudo-element: too many positions with a large step come before that
-abbrev pub IsAlikeAnswer : SelectorParts → SelectorParts → Answer → Type 0
-IsAlikeAnswer x y answer =
-    MatchBool (nat_lt max_stepped (pair_stepped x y)) (answer ≡ Outside too_many_stepped (pair_stepped x y)) (IsFewAnswer x y answer)
+abbrev pub IsAlikeAnswer : SelectorParts → SelectorParts → (budget : ℕ) → Answer → Type 0
+IsAlikeAnswer x y budget answer =
+    MatchBool (nat_lt max_stepped (pair_stepped x y)) (answer ≡ Outside too_many_stepped (pair_stepped x y)) (IsFewAnswer x y budget answer)
 
 -- What may be answered for two selectors, with a budget of learned clauses. The first that holds:
 --     different pseudo-elements              they do not meet
@@ -80,4 +67,4 @@ IsAlikeAnswer x y answer =
 --     no white space is left                 `Outside` with the reason `no_space_left`
 --     otherwise                              the pair is decided
 abbrev pub IsTrueAnswer : SelectorParts → SelectorParts → (budget : ℕ) → Answer → Type 0
-IsTrueAnswer x y budget answer = MatchBool (same_pseudo x.pseudo y.pseudo) (IsAlikeAnswer x y answer) (answer ≡ Apart)
+IsTrueAnswer x y budget answer = MatchBool (same_pseudo x.pseudo y.pseudo) (IsAlikeAnswer x y budget answer) (answer ≡ Apart)

@@ -2,9 +2,9 @@
 use Rattle.std.specs.Prelude.{◌≡◌, ℕ}
 use Rattle.css_model.specs.Cascade.Order.{Meet as TheyMeet}
 use Rattle.css_model.specs.Documents.SelectorParts.{SelectorParts}
-use Rattle.overlap.specs.Answers.{has_combinator, no_space_left, too_many_stepped}
+use Rattle.overlap.specs.Answers.{no_space_left, too_many_stepped}
 use Rattle.overlap.specs.declared.answer.Answer.TheVariants.{Apart}
-use Rattle.overlap.specs.declared.answer.TheConstants.{HAS_COMBINATOR, NO_SPACE_LEFT, TOO_MANY_STEPPED}
+use Rattle.overlap.specs.declared.answer.TheConstants.{NO_SPACE_LEFT, TOO_MANY_STEPPED}
 use Rattle.overlap.specs.PairsParts.{PairsParts}
 use Rattle.overlap.specs.Remembered.{IsAnswered, IsTrueList}
 
@@ -14,4 +14,4 @@ ApartSelectorsDoNotMeet = (pairs : PairsParts) (x y : SelectorParts) → ∥ IsT
 
 -- the numbers of the reasons
 abbrev pub ReasonsAreDefined : Type 0
-ReasonsAreDefined = (TOO_MANY_STEPPED ≡ too_many_stepped) × (NO_SPACE_LEFT ≡ no_space_left) × (HAS_COMBINATOR ≡ has_combinator)
+ReasonsAreDefined = (TOO_MANY_STEPPED ≡ too_many_stepped) × (NO_SPACE_LEFT ≡ no_space_left)

@@ -1,4 +1,5 @@
 pub mod Answers
+pub mod Combined
 pub mod Laws
 pub mod Lending
 pub mod PairsParts

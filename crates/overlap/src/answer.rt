@@ -11,9 +11,6 @@ pub const TOO_MANY_STEPPED: u32 = 11;
 /// stand beside it is refused (Selectors 3, sections 6.3.1 and 6.3.2).
 pub const NO_SPACE_LEFT: u32 = 12;
 
-/// As the reason of `Answer::Outside`: a selector with a combinator, which is not decided yet.
-pub const HAS_COMBINATOR: u32 = 13;
-
 /// Whether two selectors meet.
 #[derive(Debug, PartialEq, Eq, Drop)]
 pub enum Answer {
@@ -21,9 +18,10 @@ pub enum Answer {
     Apart,
     /// They do: both match the marked element of this example.
     Meet(Example),
-    /// They were not compared, for the reason of the first number, one of the three above. The second one
-    /// counts positions, and is 0 for the other reasons.
+    /// They were not compared, for the reason of the first number, one of the two above. The second one counts
+    /// positions, and is 0 for the other reason.
     Outside(u32, u64),
-    /// The budget of learned clauses was spent on this ledger.
+    /// The budget of learned clauses was spent on this ledger of the formula of the pair. Only where a selector
+    /// has a combinator.
     Spent(Ledger),
 }

@@ -4,12 +4,13 @@
 
 mod answer;
 mod decision;
+mod formula;
 mod laws;
 mod pairs;
 mod single;
 mod store;
 
-pub use answer::{Answer, HAS_COMBINATOR, NO_SPACE_LEFT, TOO_MANY_STEPPED};
+pub use answer::{Answer, NO_SPACE_LEFT, TOO_MANY_STEPPED};
 pub use laws::{apart_selectors_do_not_meet, reasons_are_defined};
 pub use pairs::Pairs;
 

@@ -96,7 +96,7 @@ impl Pairs {
         if let Some(at) = self.place(x, y) {
             return Ok(at);
         }
-        let answer = decide(self.alloc, x, y)?;
+        let answer = decide(self.alloc, x, y, self.budget)?;
         self.remember(x, y, answer)
     }
 

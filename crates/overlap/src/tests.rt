@@ -2,7 +2,8 @@ ghost use Rattle.std.specs.Prelude.{◌≤◌, IfOk, length};
 ghost use Rattle.css_model.specs.Selectors.Profile.{IsInProfile};
 ghost use Rattle.css_model.specs.Sheets.Limits.{max_bytes};
 
-use crate::{Answer, HAS_COMBINATOR, NO_SPACE_LEFT, Pairs, TOO_MANY_STEPPED};
+use crate::{Answer, NO_SPACE_LEFT, Pairs, TOO_MANY_STEPPED};
+use cnf::NO_LIMIT;
 use css_model::Selector;
 use doc_text::print_doc;
 use sel_parse::{SelError, parse_selector};
@@ -28,9 +29,6 @@ fn shown(alloc: Global, answer: &Answer) -> Result<Vec<u8>, AllocError> {
         }
         Answer::Outside(reason, 0) if *reason == NO_SPACE_LEFT => {
             Vec::from_slice(alloc, b"no space")
-        }
-        Answer::Outside(reason, 0) if *reason == HAS_COMBINATOR => {
-            Vec::from_slice(alloc, b"combinator")
         }
         _ => Vec::from_slice(alloc, b"other"),
     }
@@ -124,9 +122,43 @@ fn which_selectors_meet(rt: HostRuntime) -> Result<(), Fail> {
         ("a::before", "a", "apart"),
         ("p:empty", "p:not(:empty)", "apart"),
         ("#a", "#b", "apart"),
-        ("a>b", "b", "combinator"),
     ] {
         gives(&rt, alloc, &mut pairs, row)?;
+    }
+    Ok(())
+}
+
+/// Two selectors, one of them with a combinator, meet or do not.
+fn meets(
+    rt: &impl Abort,
+    alloc: Global,
+    pairs: &mut Pairs,
+    row: (&str, &str, bool),
+) -> Result<(), Fail> {
+    let (first, second, wanted) = row;
+    assert!(rt; first.len() <= 1_000 && second.len() <= 1_000, "a long row");
+    let x = selector(alloc, first.as_bytes()).expect(rt, "a selector");
+    let y = selector(alloc, second.as_bytes()).expect(rt, "a selector");
+    let found = matches!(pairs.ask(&x, &y)?, Answer::Meet(_));
+    assert_eq!(rt; found, wanted, "for {first} and {second}");
+    let apart = matches!(pairs.known(&x, &y), Some(Answer::Apart));
+    assert_eq!(rt; apart, !wanted, "held for {first} and {second}");
+    Ok(())
+}
+
+#[test]
+fn which_selectors_with_combinators_meet(rt: HostRuntime) -> Result<(), Fail> {
+    let alloc = rt.alloc();
+    let mut pairs = Pairs::new(alloc, NO_LIMIT);
+    for row in [
+        ("#a #a", "b", false),
+        (":nth-child(2n)+p", ":nth-child(2n)", false),
+        ("a:empty>b", "b", false),
+        ("a>b", ":root", false),
+        ("ul>li+li", "li:last-child", true),
+        ("a>b", "b", true),
+    ] {
+        meets(&rt, alloc, &mut pairs, row)?;
     }
     Ok(())
 }

@@ -19,4 +19,4 @@ pub returns-in-Err-NthParts : goal.returns-in-Err-NthParts
 returns-in-Err-NthParts c =
     let is : (c.in-Err-NthParts.count ≡ pair_stepped c.args.x.now c.args.y.now) × (max_stepped < c.in-Err-NthParts.count) = (c.in-Err-NthParts.ensures.parts c.in-Err-NthParts.count).0 (ap Err c.in-Err-NthParts.field-0-is) in
     let same : c.from.result ≡ c.in-Err-NthParts.count = c.from.ensures ∙ c.in-Err-NthParts.count-is in
-    many_stepped c.args.x.now c.args.y.now c.from.result (same ∙ is.0) (subst (λ n. max_stepped < n) (sym same) is.1)
+    many_stepped c.args.x.now c.args.y.now c.args.budget c.from.result (same ∙ is.0) (subst (λ n. max_stepped < n) (sym same) is.1)

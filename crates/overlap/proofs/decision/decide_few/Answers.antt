@@ -8,4 +8,4 @@ pub new-requires : goal.new-requires
 new-requires c = c.profile_is_fittable.ensures.table c.args.x.now c.args.y.now c.requires.first c.requires.second
 
 pub returns-in-Ok : goal.returns-in-Ok
-returns-in-Ok c = few_result c.args.x.now c.args.y.now c.in-Ok.table.fits c.decide_fitted.result c.in-Ok.ensures.ok.fits c.decide_fitted.ensures
+returns-in-Ok c = few_result c.args.x.now c.args.y.now c.args.budget c.in-Ok.table.fits c.decide_fitted.result c.in-Ok.ensures.ok.fits c.decide_fitted.ensures

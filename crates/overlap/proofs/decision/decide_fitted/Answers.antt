@@ -1,6 +1,8 @@
 use Rattle.std.proofs.Common.{rules, ◌≡◌, ◌<◌, ◌++◌, ◌∷◌, [], List, Option, None, length, get_or, IfOk, arith, sym, subst, ◌∙◌}
 use Rattle.std.proofs.Common.{slice_index_or}
+use Rattle.std.specs.Prelude.{slice_index_or}
 use Rattle.css_model.specs.declared.selector.Pseudo.{Pseudo}
+use Rattle.css_model.specs.Documents.FeatureParts.{FeatureParts}
 use Rattle.overlap.specs.Singles.{IsSingleAnswer}
 use Rattle.overlap.proofs.Deciding.{first_fits, single_result, some_fits}
 use Rattle.overlap.proofs.Limits.{no_links, singles_are_few}
@@ -17,14 +19,15 @@ pub decide_single-requires-clause-found : goal.decide_single-requires-clause-fou
 decide_single-requires-clause-found c =
     let e : c.args.x.now.chain ≡ c.in-Some-Some.c.now ∷ [] = search rules in
     let f : c.args.y.now.chain ≡ c.in-Some-Some.d.now ∷ [] = search rules in
-    first_fits c.args.x.now c.args.y.now c.in-Some-Some.c.now c.in-Some-Some.d.now c.args.fits.now c.index-fits-0.result e f c.requires.fits c.index-fits-0.is
+    first_fits c.args.x.now c.args.y.now c.in-Some-Some.c.now c.in-Some-Some.d.now c.args.table.now.fits c.index-fits-0.result e f c.requires.table.fits
+    (subst (λ (fits : List (Option FeatureParts)). c.index-fits-0.result ≡ slice_index_or fits 0 c.index-fits-0.result) c.fits.ensures c.index-fits-0.is)
 
 pub returns-in-Some-Some : goal.returns-in-Some-Some
 returns-in-Some-Some c =
     let e : c.args.x.now.chain ≡ c.in-Some-Some.c.now ∷ [] = search rules in
     let f : c.args.y.now.chain ≡ c.in-Some-Some.d.now ∷ [] = search rules in
     let p : c.x.inside.pseudo ≡ c.args.x.now.pseudo = search rules in
-    single_result c.args.x.now c.args.y.now c.in-Some-Some.c.now c.in-Some-Some.d.now c.decide_single.result e f
+    single_result c.args.x.now c.args.y.now c.args.budget c.in-Some-Some.c.now c.in-Some-Some.d.now c.decide_single.result e f
     (no_links c.args.x.now c.in-Some-Some.c.now e (c.profile_keeps_the_limits.ensures c.args.x.now c.requires.first))
     (no_links c.args.y.now c.in-Some-Some.d.now f (c.profile_keeps_the_limits.ensures c.args.y.now c.requires.second)) c.requires.pseudo
     (subst (λ (p : Option Pseudo). IfOk c.decide_single.result (λ a. IsSingleAnswer c.in-Some-Some.c.now c.in-Some-Some.d.now p a)) p c.decide_single.ensures)

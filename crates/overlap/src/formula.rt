@@ -1,0 +1,87 @@
+//! An answer for two selectors of which one has a combinator, by the formula of the pair.
+
+ghost use Rattle.std.specs.Prelude.{◌≡◌, ◌↔◌, IfOk, IsTrue, None};
+ghost use Rattle.css_model.specs.Cascade.Order.{Meet as TheyMeet};
+ghost use Rattle.css_model.specs.Selectors.Profile.{IsInProfile};
+ghost use Rattle.clause_encode.specs.Fits.{IsModel};
+ghost use Rattle.compound_fit.specs.Table.{AreFits, IsTable, groups};
+ghost use Rattle.overlap.specs.Combined.{IsCombinedAnswer, IsEvidence};
+
+use crate::answer::Answer;
+use clause_encode::encode;
+use compound_fit::FitTable;
+use css_model::{Example, Features};
+use example_doc::build;
+use pair_laws::meeting_satisfies_the_formula;
+use profile_laws::{profile_has_names, profile_is_fittable, profile_keeps_the_limits};
+use sat_core::{Verdict, solve};
+use shape_decode::decode_shape;
+use shape_laws::selectors_that_meet_have_a_shape;
+use slot_plan::PairPlan;
+use std::alloc::{AllocError, Global};
+
+/// The answer for the two selectors of a plan: that they do not meet, where no values satisfy the formula of the
+/// pair; the example of a shape that satisfying values give; or the ledger of the formula on which the budget of
+/// learned clauses was spent.
+pub(crate) fn decide_combined(
+    alloc: Global,
+    plan: &PairPlan,
+    table: &FitTable,
+    budget: u32,
+) -> Result<Answer, AllocError>
+    requires first { IsInProfile plan.now.left }
+    requires second { IsInProfile plan.now.right }
+    requires table { IsTable table.now plan.now.left plan.now.right }
+    ensures { IfOk result (λ answer. IsCombinedAnswer plan.now.left plan.now.right budget answer) }
+{
+    profile_keeps_the_limits();
+    meeting_satisfies_the_formula();
+    if targets_clash(table) {
+        return Ok(Answer::Apart);
+    }
+    let formula = encode(alloc, plan, table)?;
+    match solve(alloc, &formula, budget)? {
+        Verdict::NoModel(_) => Ok(Answer::Apart),
+        Verdict::Model(values) => {
+            let example = example_of(alloc, plan, table, values.as_slice())?;
+            Ok(Answer::Meet(example))
+        }
+        Verdict::Spent(ledger) => Ok(Answer::Spent(ledger)),
+    }
+}
+
+/// Whether no element passes both targets, so that the selectors do not meet. This saves making the formula.
+fn targets_clash(table: &FitTable) -> bool
+    requires { AreFits table.now.fits (groups table.now.left.chain table.now.right.chain) }
+    ensures { IsTrue result → TheyMeet table.now.left table.now.right → ⊥ }
+{
+    selectors_that_meet_have_a_shape();
+    is_misfit(&table.fits()[0])
+}
+
+/// Whether there are no features.
+fn is_misfit(found: &Option<Features>) -> bool
+    ensures { IsTrue result ↔ (found.now ≡ None) }
+{
+    found.is_none()
+}
+
+/// The example of the shape that values give which satisfy the formula of the pair.
+fn example_of(
+    alloc: Global,
+    plan: &PairPlan,
+    table: &FitTable,
+    values: &[bool],
+) -> Result<Example, AllocError>
+    requires first { IsInProfile plan.now.left }
+    requires second { IsInProfile plan.now.right }
+    requires table { IsTable table.now plan.now.left plan.now.right }
+    requires model { IsModel plan.now.left plan.now.right values.now }
+    ensures { IfOk result (λ e. IsEvidence e plan.now.left plan.now.right) }
+{
+    profile_keeps_the_limits();
+    profile_has_names();
+    profile_is_fittable();
+    let shape = decode_shape(alloc, plan, values)?;
+    build(alloc, plan, &shape, table)
+}
