@@ -1,3 +1,4 @@
+mod FormLemmas
 pub mod ParseLemmas
 pub mod ReadingLemmas
 pub mod TermLemmas

@@ -9,45 +9,146 @@ ghost use Rattle.css_model.specs.Lists.{same_text};
 ghost use Rattle.css_model.specs.Text.Lexemes as lexemes;
 ghost use Rattle.css_model.specs.Selectors.Tokens as spec;
 ghost use Rattle.css_model.specs.Text.Names.{code_points, decoded};
+ghost use Rattle.sel_parse.specs.Forms as forms;
 
 use css_model::{Gap, Piece, Text, TokenKind};
 use css_tokens::{decode, is_named};
 use std::alloc::{AllocError, Global};
 use std::marker::Model;
 
+/// What a token is, but for the byte or code point of a sign.
+#[derive(Clone, Copy, Debug, PartialEq, Eq)]
+enum Form {
+    White,
+    Str,
+    IdHash,
+    Hash,
+    Number,
+    Percentage,
+    Dimension,
+    CommentOpen,
+    CommentClose,
+    AtKeyword,
+    Ident,
+    Function,
+    Url,
+    Sign,
+    Delim,
+}
+
 /// A token of a selector text that is no white space: a slice of its source.
+// In this order, and with its kind in three parts, it takes 24 bytes and not 32.
 #[derive(Debug, Drop)]
 pub(crate) struct SelectorToken<'a> {
-    kind: TokenKind,
     bytes: &'a [u8],
+    code: u32,
+    sign: u8,
+    form: Form,
     gap: Gap,
 }
 
 impl<'a> Model for SelectorToken<'a> {
     ghost use Rattle.std.specs.Prelude.{◌<◌, ◌^◌, length};
     ghost use Rattle.css_model.specs.Selectors.Tokens as tokens;
+    ghost use Rattle.sel_parse.specs.Forms.{kind_of};
 
     ghost Value = { tokens.SelectorToken };
 
-    ghost view = { λ t. tokens.selector_token (record { kind = t.kind; bytes = t.bytes.now; gap = t.gap }) };
+    ghost view = { λ t. tokens.selector_token (record { kind = kind_of t.form t.sign t.code; bytes = t.bytes.now; gap = t.gap }) };
 
     ghost invariant = { λ t. length t.bytes.now < 2 ^ 32 };
 }
 
+/// The form of a kind.
+fn form_of(kind: TokenKind) -> Form
+    ensures { result ≡ forms.form_of kind }
+{
+    match kind {
+        TokenKind::White => Form::White,
+        TokenKind::Str => Form::Str,
+        TokenKind::IdHash => Form::IdHash,
+        TokenKind::Hash => Form::Hash,
+        TokenKind::Number => Form::Number,
+        TokenKind::Percentage => Form::Percentage,
+        TokenKind::Dimension => Form::Dimension,
+        TokenKind::CommentOpen => Form::CommentOpen,
+        TokenKind::CommentClose => Form::CommentClose,
+        TokenKind::AtKeyword => Form::AtKeyword,
+        TokenKind::Ident => Form::Ident,
+        TokenKind::Function => Form::Function,
+        TokenKind::Url => Form::Url,
+        TokenKind::Sign(_) => Form::Sign,
+        TokenKind::Delim(_) => Form::Delim,
+    }
+}
+
+/// The byte of a sign, and 0 of any other kind.
+fn sign_of(kind: TokenKind) -> u8
+    ensures { result ≡ forms.sign_of kind }
+{
+    match kind {
+        TokenKind::Sign(byte) => byte,
+        _ => 0,
+    }
+}
+
+/// The code point of one that stands by itself, and 0 of any other kind.
+fn code_of(kind: TokenKind) -> u32
+    ensures { result ≡ forms.code_of kind }
+{
+    match kind {
+        TokenKind::Delim(code) => code,
+        _ => 0,
+    }
+}
+
+/// The kind of a form with this byte and code point.
+fn kind_of(form: Form, sign: u8, code: u32) -> TokenKind
+    ensures { result ≡ forms.kind_of form sign code }
+{
+    match form {
+        Form::White => TokenKind::White,
+        Form::Str => TokenKind::Str,
+        Form::IdHash => TokenKind::IdHash,
+        Form::Hash => TokenKind::Hash,
+        Form::Number => TokenKind::Number,
+        Form::Percentage => TokenKind::Percentage,
+        Form::Dimension => TokenKind::Dimension,
+        Form::CommentOpen => TokenKind::CommentOpen,
+        Form::CommentClose => TokenKind::CommentClose,
+        Form::AtKeyword => TokenKind::AtKeyword,
+        Form::Ident => TokenKind::Ident,
+        Form::Function => TokenKind::Function,
+        Form::Url => TokenKind::Url,
+        Form::Sign => TokenKind::Sign(sign),
+        Form::Delim => TokenKind::Delim(code),
+    }
+}
+
 impl<'a> SelectorToken<'a> {
     /// A token of this kind with these bytes, before such a gap.
+    #[tactic(auto, using(crate::proofs::FormLemmas::kind_again))]
     pub(crate) fn new(kind: TokenKind, bytes: &'a [u8], gap: Gap) -> SelectorToken<'a>
         requires { length bytes.now < 2 ^ 32 }
         ensures { result ≡ spec.selector_token (record { kind = kind; bytes = bytes.now; gap = gap }) }
     {
-        SelectorToken { kind, bytes, gap }
+        let code = code_of(kind);
+        let sign = sign_of(kind);
+        let form = form_of(kind);
+        SelectorToken {
+            bytes,
+            code,
+            sign,
+            form,
+            gap,
+        }
     }
 
     /// What it is.
     pub(crate) fn kind(&self) -> TokenKind
         ensures { result ≡ self.now.kind }
     {
-        self.kind
+        kind_of(self.form, self.sign, self.code)
     }
 
     /// What stands behind it.
@@ -73,14 +174,14 @@ impl<'a> SelectorToken<'a> {
         requires { IsAscii word.now }
         ensures { result ≡ spec.is_word word.now self.now.name }
     {
-        is_named(name_in(self.kind, self.bytes), word)
+        is_named(name_in(self.kind(), self.bytes), word)
     }
 
     /// The code points of its name, or of what its string says.
     pub(crate) fn text(&self, alloc: Global) -> Result<Text, AllocError>
         ensures { IfOk result (λ t. t ≡ code_points self.now.name) }
     {
-        decode_whole(alloc, name_in(self.kind, self.bytes))
+        decode_whole(alloc, name_in(self.kind(), self.bytes))
     }
 
     /// Whether it is spelled with `--` at its start.
