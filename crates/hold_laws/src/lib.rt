@@ -1,0 +1,7 @@
+//! Laws of what a plan holds of the steps of a sheet, cuts among them, while it takes one step after the
+//! other: in the form that code needs, with a test in place of a list of what waits.
+#![tactic(auto)]
+
+mod room;
+
+pub use room::{sheets_have_room, steps_add_one_item};
