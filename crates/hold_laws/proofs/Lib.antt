@@ -1,1 +1,3 @@
+mod Been
+mod Elsewhere
 mod Rooms

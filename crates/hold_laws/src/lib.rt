@@ -2,6 +2,8 @@
 //! other: in the form that code needs, with a test in place of a list of what waits.
 #![tactic(auto)]
 
+mod before;
 mod room;
 
+pub use before::{cuts_have_been, no_step_adds_pairs, steps_have_been};
 pub use room::{sheets_have_room, steps_add_one_item};
