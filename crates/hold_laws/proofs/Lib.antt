@@ -1,3 +1,4 @@
 mod Been
+mod Beside
 mod Elsewhere
 mod Rooms

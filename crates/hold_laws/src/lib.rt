@@ -3,7 +3,9 @@
 #![tactic(auto)]
 
 mod before;
+mod behind;
 mod room;
 
 pub use before::{cuts_have_been, no_step_adds_pairs, steps_have_been};
+pub use behind::{going_on_is_side_by_side, hindered_goes_on};
 pub use room::{sheets_have_room, steps_add_one_item};

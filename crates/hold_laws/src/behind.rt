@@ -1,0 +1,31 @@
+//! What hinders a step, behind another one.
+
+ghost use Rattle.hold_laws.specs.Behind.{GoingOnIsSideBySide, HinderedGoesOn};
+
+use step_laws::steps_rearrange;
+use wall_laws::{
+    edits_commute, hindrances_go_on, items_stay, joins_stay, kept_hindrances_go_on,
+    steps_are_side_by_side,
+};
+
+/// A step that goes on behind another one, a cut too, is side by side with it: each may be taken behind the
+/// other.
+pub fn going_on_is_side_by_side()
+    ensures { GoingOnIsSideBySide }
+{
+    steps_are_side_by_side();
+    steps_rearrange();
+    items_stay();
+    edits_commute();
+    joins_stay();
+}
+
+/// What hinders a step that goes on behind another one hinders it there, too, where that one moves no pair of
+/// what hinders.
+pub fn hindered_goes_on()
+    ensures { HinderedGoesOn }
+{
+    going_on_is_side_by_side();
+    hindrances_go_on();
+    kept_hindrances_go_on();
+}
