@@ -1,4 +1,5 @@
 mod Been
 mod Beside
 mod Elsewhere
+mod HeldSteps
 mod Rooms
