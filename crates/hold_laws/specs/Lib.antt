@@ -2,3 +2,4 @@ pub mod Before
 pub mod Behind
 pub mod Held
 pub mod Room
+pub mod Taken
