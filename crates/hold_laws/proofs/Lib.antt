@@ -1,5 +1,6 @@
 mod Been
 mod Beside
+mod Born
 mod Elsewhere
 mod HeldSteps
 mod Rooms
