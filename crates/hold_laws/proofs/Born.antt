@@ -16,7 +16,7 @@ use Rattle.hold_laws.specs.Births.{AreBirths, AreBornBehind, later_born, owner}
 
 -- ---- The items of a step
 
-within : (items : List Item) (k : Step) (e : Edit) → IsStep items k e → (first_item k < length items) × (last_item k < length items)
+pub within : (items : List Item) (k : Step) (e : Edit) → IsStep items k e → (first_item k < length items) × (last_item k < length items)
 within items (CutDecl n i) e c = let h = slice_get_within items n (Rule c.rule) c.rule_at in (h, h)
 within items (CutSel n i) e c = let h = slice_get_within items n (Rule c.rule) c.rule_at in (h, h)
 within items (JoinSelUp x y) e j = (slice_get_within items x (Rule j.upper) j.rules.upper_at, slice_get_within items y (Rule j.lower) j.rules.lower_at)
@@ -64,8 +64,12 @@ latest births x y =
     (λ less. let h : slice_index births x < slice_index births y = ltb-true (slice_index births x) (slice_index births y) less in (omega (arith, h), omega arith))
     (λ more. let h : slice_index births y ≤ slice_index births x = ltb-false (slice_index births x) (slice_index births y) more in (omega arith, h))
 
+-- it is one of the two
+pub later_is_one : (births : List ℕ) (x y : ℕ) (P : ℕ → Type 0) → P x → P y → P (later_born births x y)
+later_is_one births x y P first last = cond_both (nat_lt (slice_index births x) (slice_index births y)) y x P (λ _. last) (λ _. first)
+
 -- an item that was born before has come
-old_has_come : (items : List Item) (d : Edit) (births births' : List ℕ) (next : ℕ) → AreBornBehind items d births births' next → (m : ℕ) → m < length (edited d items) → slice_index births' m < next → HasCome d items m
+pub old_has_come : (items : List Item) (d : Edit) (births births' : List ℕ) (next : ℕ) → AreBornBehind items d births births' next → (m : ℕ) → m < length (edited d items) → slice_index births' m < next → HasCome d items m
 old_has_come items d births births' next behind m less past = which (behind.born m (slice_index births' m) (slice_get-get_or births' m 0 (let e = behind.beside in omega (arith, e, less))))
   where
     which : (next ≤ slice_index births' m) ⊎ HasCome d items m → HasCome d items m

@@ -50,7 +50,7 @@ module _ (have_been : StepsHaveBeen) (hindered_on : HinderedGoesOn) (answers : L
           (on_holds b.step b.edit n on ((b.saves n).1 saves) some))
 
 -- more answers hinder no less
-more_hinder : (answers answers' : List Answered) (items : List Item) (e : Edit) → AreAmong answers answers' → (h : Hindrance) → Hinders answers items e h → Hinders answers' items e h
+pub more_hinder : (answers answers' : List Answered) (items : List Item) (e : Edit) → AreAmong answers answers' → (h : Hindrance) → Hinders answers items e h → Hinders answers' items e h
 more_hinder answers answers' items e among (OfPair p q) hinders = (hinders.0, among (record { first = p.selector; second = q.selector; is_apart = false }) hinders.1)
 more_hinder answers answers' items e among (OfKept p number) hinders = hinders
 

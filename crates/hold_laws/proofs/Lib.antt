@@ -3,4 +3,6 @@ mod Beside
 mod Born
 mod Elsewhere
 mod HeldSteps
+mod Led
+mod Names
 mod Rooms

@@ -2,5 +2,6 @@ pub mod Before
 pub mod Behind
 pub mod Births
 pub mod Held
+pub mod Leads
 pub mod Room
 pub mod Taken

@@ -1,0 +1,97 @@
+-- What a plan holds in code: one turn for all steps of an owner, and what is set aside.
+use Rattle.std.specs.Prelude.{◌≡◌, ◌⊎◌, ℕ, ◌<◌, ◌≤◌, List, Option, Some, None, length, slice_get, slice_index}
+use Rattle.std.specs.List.{AllPairs, Contains}
+use Rattle.css_model.specs.declared.sheet.Item.{Item}
+use Rattle.css_model.specs.Sheets.Sound.{IsSound}
+use Rattle.order_laws.specs.Edits.{Edit, edited}
+use Rattle.plan_laws.specs.Cover.{Turn, IsSooner}
+use Rattle.step_laws.specs.declared.step.Step.{Step}
+use Rattle.step_laws.specs.Free.{Answered, AreAmong, IsFree}
+use Rattle.step_laws.specs.Leading.{Takes, IsDone}
+use Rattle.step_laws.specs.Sizes.{Saves}
+use Rattle.step_laws.specs.Steps.{IsStep, first_item, last_item}
+use Rattle.wall_laws.specs.Holding.{Hindrance, Hinders, HasRoom, IsUntouched, Aside, turn_of}
+use Rattle.wall_laws.specs.Renumbering.{Leaves, new_number, renumbered}
+use Rattle.hold_laws.specs.Behind.{GoesOn}
+use Rattle.hold_laws.specs.Births.{AreBirths, AreBornBehind, owner}
+
+-- Beside each item its label and its birth; the birth of the next item; by the birth of an owner the turn that
+-- leads its steps, which names items by labels; and the turns that are set aside, which name them by births.
+pub record Holding : Type 0 where
+  pub labels : List ℕ
+  pub births : List ℕ
+  pub next : ℕ
+  pub leads : ℕ → Option Turn
+  pub aside : List Aside
+
+-- the turn of a step, with names in place of the numbers of its items
+abbrev pub named : List ℕ → ℕ → Step → Turn
+named names n k = turn_of n (renumbered (λ m. slice_index names m) k)
+
+-- one label for each item, greater than those before it
+pub record AreLabels (items : List Item) (labels : List ℕ) : Type 0 where
+  pub beside : length labels ≡ length items
+  pub ascend : AllPairs (λ l m. l < m) labels
+
+-- the turn of a step's owner leads the step: it does not come later
+abbrev pub IsLed : Holding → ℕ → Step → Type 0
+IsLed h n k = (t : Turn) × (h.leads (slice_index h.births (owner h.births k)) ≡ Some t) × (IsSooner (named h.labels n k) t → ⊥)
+
+-- a step is set aside with what blocks it
+abbrev pub IsSetAside : Holding → ℕ → Step → Hindrance → Type 0
+IsSetAside h n k by = Contains h.aside (record { turn = named h.births n k; by = by })
+
+-- Each step of a sheet that saves is led or set aside, and what it is set aside with blocks it.
+pub record IsHeld (answers : List Answered) (source : List ℕ) (items : List Item) (h : Holding) : Type 0 where
+  pub births : AreBirths items h.births h.next
+  pub labels : AreLabels items h.labels
+  pub held : (k : Step) (e : Edit) (n : ℕ) → IsStep items k e → Saves source items e n → 0 < n → IsLed h n k ⊎ ((by : Hindrance) × IsSetAside h n k by)
+  pub hinders : (k : Step) (e : Edit) (n : ℕ) (by : Hindrance) → IsStep items k e → Saves source items e n → 0 < n → IsSetAside h n k by → Hinders answers items e by
+  pub past : (a : Aside) → Contains h.aside a → (first_item a.turn.step < h.next) × (last_item a.turn.step < h.next)
+
+-- What is held of a sheet, and what of the one behind an edit. The items that the edit left keep their labels
+-- and births; their turns come no later than before. Of what was set aside that stays which the edit does not
+-- touch, and any other step that goes on is led. The steps of owners that were born behind the edit are led.
+pub record GoesOver (source : List ℕ) (items : List Item) (d : Edit) (h h' : Holding) : Type 0 where
+  pub births : AreBirths (edited d items) h'.births h'.next
+  pub labels : AreLabels (edited d items) h'.labels
+  pub born : AreBornBehind items d h.births h'.births h.next
+  pub labels_stay : (n l : ℕ) → Leaves d n → slice_get h.labels n ≡ Some l → slice_get h'.labels (new_number d items n) ≡ Some l
+  pub later : h.next ≤ h'.next
+  pub leads : (n b : ℕ) (t : Turn) → Leaves d n → slice_get h.births n ≡ Some b → h.leads b ≡ Some t → (t' : Turn) × (h'.leads b ≡ Some t') × (IsSooner t t' → ⊥)
+  pub made : (k' : Step) (e' : Edit) (n : ℕ) → IsStep (edited d items) k' e' → Saves source (edited d items) e' n → 0 < n →
+      h.next ≤ slice_index h'.births (owner h'.births k') → IsLed h' n k'
+  pub aside : (k : Step) (e : Edit) (n : ℕ) (by : Hindrance) → GoesOn items d k e → Saves source items e n → 0 < n → IsSetAside h n k by →
+      Contains h'.aside (record { turn = named h.births n k; by = by }) ⊎ IsLed h' n (renumbered (new_number d items) k)
+  pub untouched : (a : Aside) → Contains h'.aside a → Contains h.aside a × IsUntouched d a.by
+
+-- What is held goes over to the sheet behind a step.
+abbrev pub HeldGoesOver : Type 0
+HeldGoesOver = (answers : List Answered) (source : List ℕ) (items : List Item) (j : Step) (d : Edit) (h h' : Holding) → IsStep items j d → IsSound source items → HasRoom items →
+    GoesOver source items d h h' → IsHeld answers source items h → IsHeld answers source (edited d items) h'
+
+-- What is held of a sheet changes: turns are led by others, or set aside with what blocks them.
+pub record ChangesHere (answers : List Answered) (source : List ℕ) (items : List Item) (h h' : Holding) : Type 0 where
+  pub same_labels : h'.labels ≡ h.labels
+  pub same_births : h'.births ≡ h.births
+  pub same_next : h'.next ≡ h.next
+  pub held : (k : Step) (e : Edit) (n : ℕ) → IsStep items k e → Saves source items e n → 0 < n → IsLed h n k ⊎ ((by : Hindrance) × IsSetAside h n k by) →
+      IsLed h' n k ⊎ ((by : Hindrance) × IsSetAside h' n k by)
+  pub aside : (a : Aside) → Contains h'.aside a → Contains h.aside a
+      ⊎ ((first_item a.turn.step < h.next) × (last_item a.turn.step < h.next)
+      × ((k : Step) (e : Edit) (n : ℕ) → IsStep items k e → Saves source items e n → 0 < n → a.turn ≡ named h.births n k → Hinders answers items e a.by))
+
+-- So it is still held, while answers come in.
+abbrev pub HeldMayChange : Type 0
+HeldMayChange = (answers answers' : List Answered) (source : List ℕ) (items : List Item) (h h' : Holding) → AreAmong answers answers' →
+    ChangesHere answers' source items h h' → IsHeld answers source items h → IsHeld answers' source items h'
+
+-- A free step that saves, and that comes no later than any turn that leads, is the one to take.
+abbrev pub FirstLeadIsTaken : Type 0
+FirstLeadIsTaken = (answers : List Answered) (source : List ℕ) (items : List Item) (h : Holding) → IsHeld answers source items h →
+    (k : Step) (e : Edit) (n : ℕ) → IsStep items k e → IsFree answers items e → 0 < n → Saves source items e n →
+    ((b : ℕ) (t : Turn) → h.leads b ≡ Some t → IsSooner t (named h.labels n k) → ⊥) → Takes answers source items (edited e items)
+
+-- Where no turn leads, nothing is left to do.
+abbrev pub NoLeadIsDone : Type 0
+NoLeadIsDone = (answers : List Answered) (source : List ℕ) (items : List Item) (h : Holding) → IsHeld answers source items h → ((b : ℕ) → h.leads b ≡ None) → IsDone answers source items

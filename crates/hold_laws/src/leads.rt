@@ -1,0 +1,40 @@
+//! What a plan holds in code: one turn for all steps of an owner, and what is set aside.
+
+ghost use Rattle.hold_laws.specs.Leads.{FirstLeadIsTaken, HeldGoesOver, HeldMayChange, NoLeadIsDone};
+
+use crate::before::steps_have_been;
+use crate::behind::hindered_goes_on;
+use plan_laws::{first_is_next, none_waits_is_done};
+use wall_laws::hindered_is_blocked;
+
+/// What is held of a sheet goes over to the one behind a step: the items that were left keep their labels,
+/// births and turns, what the step does not touch stays set aside, and the turns of new owners lead.
+pub fn held_goes_over()
+    ensures { HeldGoesOver }
+{
+    steps_have_been();
+    hindered_goes_on();
+}
+
+/// What is held of a sheet is still held where its steps are led by other turns or set aside with what blocks
+/// them, and while answers come in.
+pub fn held_may_change()
+    ensures { HeldMayChange }
+{}
+
+/// A free step that saves, and that comes no later than any turn that leads, is the next one. Turns that lead
+/// name items by labels, so that those of items that are gone have a place too.
+pub fn first_lead_is_taken()
+    ensures { FirstLeadIsTaken }
+{
+    hindered_is_blocked();
+    first_is_next();
+}
+
+/// Where no turn leads, nothing is left to do.
+pub fn no_lead_is_done()
+    ensures { NoLeadIsDone }
+{
+    hindered_is_blocked();
+    none_waits_is_done();
+}
