@@ -20,7 +20,8 @@ use Rattle.wall_laws.specs.SideBySide.{HasCome}
 use Rattle.hold_laws.specs.Before.{HasBeen, StepsHaveBeen}
 use Rattle.hold_laws.specs.Behind.{GoesOn, HinderedGoesOn}
 use Rattle.hold_laws.specs.Births.{AreBirths, owner}
-use Rattle.hold_laws.specs.Leads.{Holding, AreLabels, named, IsLed, IsSetAside, IsHeld, GoesOver, ChangesHere}
+use Rattle.hold_laws.specs.Leads.{Holding, IsLed, IsSetAside, IsHeld, GoesOver, ChangesHere}
+use Rattle.hold_laws.specs.Turns.{named, AreLabels}
 use Rattle.hold_laws.proofs.Been.{renumbers}
 use Rattle.hold_laws.proofs.Born.{within, owner_stays, old_has_come, old_owners_have_come, later_is_one}
 use Rattle.hold_laws.proofs.HeldSteps.{more_hinder}

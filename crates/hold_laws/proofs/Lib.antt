@@ -5,4 +5,5 @@ mod Elsewhere
 mod HeldSteps
 mod Led
 mod Names
+mod Ordered
 mod Rooms

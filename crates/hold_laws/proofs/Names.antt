@@ -14,7 +14,7 @@ use Rattle.step_laws.specs.declared.step.Step.TheVariants.{CutDecl, CutSel, Join
 use Rattle.step_laws.specs.Steps.{rank, first_item, last_item}
 use Rattle.wall_laws.specs.Holding.{turn_of}
 use Rattle.wall_laws.specs.Renumbering.{Leaves, new_number, renumbered}
-use Rattle.hold_laws.specs.Leads.{AreLabels, named}
+use Rattle.hold_laws.specs.Turns.{named, AreLabels}
 
 -- ---- Names that stay
 
@@ -54,7 +54,7 @@ new_last f (Share x y) = refl
 
 -- ---- The order of turns
 
-rank_length : (k : Step) → length (rank k) ≡ 3
+pub rank_length : (k : Step) → length (rank k) ≡ 3
 rank_length (CutDecl n i) = refl
 rank_length (CutSel n i) = refl
 rank_length (JoinSelUp x y) = refl

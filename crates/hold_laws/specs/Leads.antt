@@ -1,6 +1,6 @@
 -- What a plan holds in code: one turn for all steps of an owner, and what is set aside.
-use Rattle.std.specs.Prelude.{◌≡◌, ◌⊎◌, ℕ, ◌<◌, ◌≤◌, List, Option, Some, None, length, slice_get, slice_index}
-use Rattle.std.specs.List.{AllPairs, Contains}
+use Rattle.std.specs.Prelude.{◌≡◌, ◌⊎◌, ℕ, ◌<◌, ◌≤◌, List, Option, Some, None, slice_get, slice_index}
+use Rattle.std.specs.List.{Contains}
 use Rattle.css_model.specs.declared.sheet.Item.{Item}
 use Rattle.css_model.specs.Sheets.Sound.{IsSound}
 use Rattle.order_laws.specs.Edits.{Edit, edited}
@@ -10,10 +10,11 @@ use Rattle.step_laws.specs.Free.{Answered, AreAmong, IsFree}
 use Rattle.step_laws.specs.Leading.{Takes, IsDone}
 use Rattle.step_laws.specs.Sizes.{Saves}
 use Rattle.step_laws.specs.Steps.{IsStep, first_item, last_item}
-use Rattle.wall_laws.specs.Holding.{Hindrance, Hinders, HasRoom, IsUntouched, Aside, turn_of}
+use Rattle.wall_laws.specs.Holding.{Hindrance, Hinders, HasRoom, IsUntouched, Aside}
 use Rattle.wall_laws.specs.Renumbering.{Leaves, new_number, renumbered}
 use Rattle.hold_laws.specs.Behind.{GoesOn}
 use Rattle.hold_laws.specs.Births.{AreBirths, AreBornBehind, owner}
+use Rattle.hold_laws.specs.Turns.{named, AreLabels}
 
 -- Beside each item its label and its birth; the birth of the next item; by the birth of an owner the turn that
 -- leads its steps, which names items by labels; and the turns that are set aside, which name them by births.
@@ -23,15 +24,6 @@ pub record Holding : Type 0 where
   pub next : ℕ
   pub leads : ℕ → Option Turn
   pub aside : List Aside
-
--- the turn of a step, with names in place of the numbers of its items
-abbrev pub named : List ℕ → ℕ → Step → Turn
-named names n k = turn_of n (renumbered (λ m. slice_index names m) k)
-
--- one label for each item, greater than those before it
-pub record AreLabels (items : List Item) (labels : List ℕ) : Type 0 where
-  pub beside : length labels ≡ length items
-  pub ascend : AllPairs (λ l m. l < m) labels
 
 -- the turn of a step's owner leads the step: it does not come later
 abbrev pub IsLed : Holding → ℕ → Step → Type 0

@@ -5,3 +5,4 @@ pub mod Held
 pub mod Leads
 pub mod Room
 pub mod Taken
+pub mod Turns

@@ -1,0 +1,35 @@
+-- The order of turns, and turns that name their items by what stands beside them.
+use Rattle.std.specs.Prelude.{◌≡◌, ◌≢◌, ◌⊎◌, ◌↔◌, ℕ, ◌<◌, List, length, slice_index}
+use Rattle.std.specs.List.{AllPairs}
+use Rattle.css_model.specs.declared.sheet.Item.{Item}
+use Rattle.order_laws.specs.Edits.{Edit}
+use Rattle.plan_laws.specs.Cover.{Turn, IsSooner}
+use Rattle.step_laws.specs.declared.step.Step.{Step}
+use Rattle.step_laws.specs.Steps.{IsStep}
+use Rattle.wall_laws.specs.Holding.{turn_of}
+use Rattle.wall_laws.specs.Renumbering.{renumbered}
+
+-- Of two turns one comes before the other, or they are one.
+abbrev pub TurnsAreOrdered : Type 0
+TurnsAreOrdered = ((t : Turn) → IsSooner t t → ⊥)
+    × ((s t u : Turn) → IsSooner s t → IsSooner t u → IsSooner s u)
+    × ((s t : Turn) → IsSooner s t ⊎ (s ≡ t) ⊎ IsSooner t s)
+
+-- the turn of a step, with names in place of the numbers of its items
+abbrev pub named : List ℕ → ℕ → Step → Turn
+named names n k = turn_of n (renumbered (λ m. slice_index names m) k)
+
+-- one label for each item, greater than those before it
+pub record AreLabels (items : List Item) (labels : List ℕ) : Type 0 where
+  pub beside : length labels ≡ length items
+  pub ascend : AllPairs (λ l m. l < m) labels
+
+-- Labels tell the order of the turns of a sheet.
+abbrev pub LabelsTellOrder : Type 0
+LabelsTellOrder = (items : List Item) (labels : List ℕ) → AreLabels items labels → (j k : Step) (d e : Edit) → IsStep items j d → IsStep items k e →
+    (m n : ℕ) → IsSooner (turn_of m j) (turn_of n k) ↔ IsSooner (named labels m j) (named labels n k)
+
+-- Where no two names are alike, a turn by names is that of one step.
+abbrev pub NamesTellSteps : Type 0
+NamesTellSteps = (items : List Item) (names : List ℕ) → length names ≡ length items → AllPairs (λ x y. x ≢ y) names → (j k : Step) (d e : Edit) → IsStep items j d → IsStep items k e →
+    (m n : ℕ) → named names m j ≡ named names n k → (m ≡ n) × (j ≡ k) × (d ≡ e)

@@ -1,0 +1,24 @@
+//! The order of turns, and turns that name their items by what stands beside them.
+
+ghost use Rattle.hold_laws.specs.Turns.{LabelsTellOrder, NamesTellSteps, TurnsAreOrdered};
+
+use step_laws::steps_are_one_edit;
+
+/// Of two turns one comes before the other, or they are one.
+pub fn turns_are_ordered()
+    ensures { TurnsAreOrdered }
+{}
+
+/// Labels that ascend with the items tell the order of the turns of a sheet.
+pub fn labels_tell_order()
+    ensures { LabelsTellOrder }
+{
+    turns_are_ordered();
+}
+
+/// Where no two names are alike, a turn by names is that of one step, and of one edit.
+pub fn names_tell_steps()
+    ensures { NamesTellSteps }
+{
+    steps_are_one_edit();
+}
