@@ -1,5 +1,5 @@
 -- What a plan holds in code, behind a step and while it works.
-use Rattle.std.proofs.Common.{◌≡◌, ◌⊎◌, ℕ, ◌<◌, Bool, true, false, List, [], ◌∷◌, Some, None, length, refl, sym, ap, ◌∙◌, subst, inl, inr, arith}
+use Rattle.std.proofs.Common.{◌≡◌, ◌⊎◌, ℕ, ◌<◌, ◌≤◌, Bool, true, false, List, [], ◌∷◌, Some, None, length, refl, sym, ap, ◌∙◌, subst, inl, inr, arith}
 use Rattle.std.specs.Prelude.{nat_lt, slice_get, slice_index}
 use Rattle.std.specs.List.{Contains}
 use Rattle.std.proofs.lemmas.Bool.{ltb-true, ltb-false}
@@ -12,7 +12,7 @@ use Rattle.plan_laws.specs.Cover.{Turn, IsSooner, IsCovered, FirstIsNext, NoneWa
 use Rattle.step_laws.specs.declared.step.Step.{Step}
 use Rattle.step_laws.specs.Free.{Answered, AreAmong, IsFree, IsBlocked}
 use Rattle.step_laws.specs.Leading.{Takes, IsDone}
-use Rattle.step_laws.specs.Sizes.{Saves}
+use Rattle.step_laws.specs.Sizes.{size, Saves}
 use Rattle.step_laws.specs.Steps.{IsStep, first_item, last_item}
 use Rattle.wall_laws.specs.Holding.{Hindrance, Hinders, HinderedIsBlocked, HasRoom, IsUntouched, Aside, turn_of}
 use Rattle.wall_laws.specs.Renumbering.{Leaves, new_number, renumbered, IsOfOthers}
@@ -21,11 +21,32 @@ use Rattle.hold_laws.specs.Before.{HasBeen, StepsHaveBeen}
 use Rattle.hold_laws.specs.Behind.{GoesOn, HinderedGoesOn}
 use Rattle.hold_laws.specs.Births.{AreBirths, owner}
 use Rattle.hold_laws.specs.Leads.{Holding, IsLed, IsSetAside, IsHeld, GoesOver, ChangesHere}
-use Rattle.hold_laws.specs.Turns.{named, AreLabels}
+use Rattle.hold_laws.specs.Turns.{named, AreLabels, first_turn, FirstTurnIsFirst}
 use Rattle.hold_laws.proofs.Been.{renumbers}
 use Rattle.hold_laws.proofs.Born.{within, owner_stays, old_has_come, old_owners_have_come, later_is_one}
 use Rattle.hold_laws.proofs.HeldSteps.{more_hinder}
 use Rattle.hold_laws.proofs.Names.{same_name, again, new_first, new_last, not_itself, not_sooner, sooner_labelled}
+
+-- ---- At the start
+
+pub start_held : FirstTurnIsFirst → (answers : List Answered) (source : List ℕ) (items : List Item) (h : Holding) (bound : ℕ) → AreBirths items h.births h.next → AreLabels items h.labels → size source items ≤ bound →
+    h.aside ≡ [] → ((n b : ℕ) → slice_get h.births n ≡ Some b → h.leads b ≡ Some (first_turn bound)) → IsHeld answers source items h
+start_held first answers source items h bound births labels long none leads = record {
+  births = births;
+  labels = labels;
+  held = λ k e n is saves some. inl (first_turn bound, leads (owner h.births k) (slice_index h.births (owner h.births k)) (at k e is), first source items bound long k e n saves h.labels);
+  hinders = λ k e n by is saves some aside. absurd (nothing (record { turn = named h.births n k; by = by }) aside);
+  past = λ a aside. absurd (nothing a aside);
+}
+  where
+    at : (k : Step) (e : Edit) → IsStep items k e → slice_get h.births (owner h.births k) ≡ Some (slice_index h.births (owner h.births k))
+    at k e is =
+        let w : (first_item k < length items) × (last_item k < length items) = within items k e is in
+        let less : owner h.births k < length items = later_is_one h.births (first_item k) (last_item k) (λ n. n < length items) w.0 w.1 in
+        slice_get-get_or h.births (owner h.births k) 0 (let b = births.beside in omega (arith, b, less))
+
+    nothing : (a : Aside) → Contains h.aside a → ⊥
+    nothing a aside = Contains-nil a (subst (λ (xs : List Aside). Contains xs a) none aside)
 
 -- ---- Behind a step
 

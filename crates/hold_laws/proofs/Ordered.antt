@@ -1,5 +1,5 @@
 -- The order of turns is total, and names tell steps apart.
-use Rattle.std.proofs.Common.{◌≡◌, ◌≢◌, ◌⊎◌, ◌↔◌, ℕ, zero, suc, ◌<◌, true, List, [], ◌∷◌, length, refl, sym, ap, ap₂, ◌∙◌, subst, inl, inr, arith}
+use Rattle.std.proofs.Common.{◌≡◌, ◌≢◌, ◌⊎◌, ◌↔◌, ℕ, zero, suc, ◌<◌, ◌≤◌, true, List, [], ◌∷◌, length, refl, sym, ap, ap₂, ◌∙◌, subst, inl, inr, arith}
 use Rattle.std.specs.Prelude.{slice_index}
 use Rattle.std.specs.List.{AllPairs}
 use Rattle.std.proofs.lemmas.Bool.Decides.{nat_tests}
@@ -11,10 +11,11 @@ use Rattle.plan_laws.specs.Cover.{Turn, IsSooner}
 use Rattle.step_laws.specs.declared.step.Step.{Step}
 use Rattle.step_laws.specs.declared.step.Step.TheVariants.{CutDecl, CutSel, JoinSelUp, JoinSelDown, JoinDeclUp, JoinDeclDown, Share}
 use Rattle.step_laws.specs.Left.{StepsAreOneEdit}
+use Rattle.step_laws.specs.Sizes.{size, Saves}
 use Rattle.step_laws.specs.Steps.{rank, IsStep, first_item, last_item}
 use Rattle.wall_laws.specs.Holding.{turn_of}
 use Rattle.wall_laws.specs.Renumbering.{renumbered}
-use Rattle.hold_laws.specs.Turns.{TurnsAreOrdered, named, AreLabels}
+use Rattle.hold_laws.specs.Turns.{TurnsAreOrdered, named, AreLabels, first_turn}
 use Rattle.hold_laws.proofs.Born.{within}
 use Rattle.hold_laws.proofs.Names.{rank_length, not_itself, sooner_labelled}
 
@@ -140,3 +141,22 @@ pub told_by_names : StepsAreOneEdit → (items : List Item) (names : List ℕ) �
 told_by_names one items names beside differ j k d e is_j is_k m n same =
     let steps : j ≡ k = one_named items names beside differ j k (within items j d is_j) (within items k e is_k) (ap (λ (t : Turn). t.step) same) in
     (ap (λ (t : Turn). t.saving) same, steps, one items k d e (subst (λ (i : Step). IsStep items i d) steps is_j) is_k)
+
+-- ---- The first turn
+
+first_rank : (c x y : ℕ) → exceeds (0 ∷ 0 ∷ 0 ∷ []) (c ∷ x ∷ y ∷ []) ≡ true → ⊥
+first_rank c x y h = grind (arith, nat_tests)
+
+none_before : (k : Step) → exceeds (rank (CutDecl 0 0)) (rank k) ≡ true → ⊥
+none_before (CutDecl n i) h = first_rank 0 n i h
+none_before (CutSel n i) h = first_rank 1 n i h
+none_before (JoinSelUp x y) h = first_rank 2 x y h
+none_before (JoinSelDown x y) h = first_rank 3 x y h
+none_before (JoinDeclUp x y) h = first_rank 4 x y h
+none_before (JoinDeclDown x y) h = first_rank 5 x y h
+none_before (Share x y) h = first_rank 6 x y h
+
+pub first_is_first : (source : List ℕ) (items : List Item) (bound : ℕ) → size source items ≤ bound → (k : Step) (e : Edit) (n : ℕ) → Saves source items e n →
+    (names : List ℕ) → IsSooner (named names n k) (first_turn bound) → ⊥
+first_is_first source items bound long k e n saves names (inl h) = absurd (omega (arith, long, saves, h))
+first_is_first source items bound long k e n saves names (inr h) = none_before (renumbered (λ m. slice_index names m) k) h.1

@@ -1,5 +1,5 @@
 -- What a plan holds in code: one turn for all steps of an owner, and what is set aside.
-use Rattle.std.specs.Prelude.{◌≡◌, ◌⊎◌, ℕ, ◌<◌, ◌≤◌, List, Option, Some, None, slice_get, slice_index}
+use Rattle.std.specs.Prelude.{◌≡◌, ◌⊎◌, ℕ, ◌<◌, ◌≤◌, List, [], Option, Some, None, slice_get, slice_index}
 use Rattle.std.specs.List.{Contains}
 use Rattle.css_model.specs.declared.sheet.Item.{Item}
 use Rattle.css_model.specs.Sheets.Sound.{IsSound}
@@ -8,13 +8,13 @@ use Rattle.plan_laws.specs.Cover.{Turn, IsSooner}
 use Rattle.step_laws.specs.declared.step.Step.{Step}
 use Rattle.step_laws.specs.Free.{Answered, AreAmong, IsFree}
 use Rattle.step_laws.specs.Leading.{Takes, IsDone}
-use Rattle.step_laws.specs.Sizes.{Saves}
+use Rattle.step_laws.specs.Sizes.{size, Saves}
 use Rattle.step_laws.specs.Steps.{IsStep, first_item, last_item}
 use Rattle.wall_laws.specs.Holding.{Hindrance, Hinders, HasRoom, IsUntouched, Aside}
 use Rattle.wall_laws.specs.Renumbering.{Leaves, new_number, renumbered}
 use Rattle.hold_laws.specs.Behind.{GoesOn}
 use Rattle.hold_laws.specs.Births.{AreBirths, AreBornBehind, owner}
-use Rattle.hold_laws.specs.Turns.{named, AreLabels}
+use Rattle.hold_laws.specs.Turns.{named, AreLabels, first_turn}
 
 -- Beside each item its label and its birth; the birth of the next item; by the birth of an owner the turn that
 -- leads its steps, which names items by labels; and the turns that are set aside, which name them by births.
@@ -40,6 +40,11 @@ pub record IsHeld (answers : List Answered) (source : List ℕ) (items : List It
   pub held : (k : Step) (e : Edit) (n : ℕ) → IsStep items k e → Saves source items e n → 0 < n → IsLed h n k ⊎ ((by : Hindrance) × IsSetAside h n k by)
   pub hinders : (k : Step) (e : Edit) (n : ℕ) (by : Hindrance) → IsStep items k e → Saves source items e n → 0 < n → IsSetAside h n k by → Hinders answers items e by
   pub past : (a : Aside) → Contains h.aside a → (first_item a.turn.step < h.next) × (last_item a.turn.step < h.next)
+
+-- Where nothing is set aside, and each owner has a turn before which no step comes, all is held.
+abbrev pub StartIsHeld : Type 0
+StartIsHeld = (answers : List Answered) (source : List ℕ) (items : List Item) (h : Holding) (bound : ℕ) → AreBirths items h.births h.next → AreLabels items h.labels → size source items ≤ bound →
+    h.aside ≡ [] → ((n b : ℕ) → slice_get h.births n ≡ Some b → h.leads b ≡ Some (first_turn bound)) → IsHeld answers source items h
 
 -- What is held of a sheet, and what of the one behind an edit. The items that the edit left keep their labels
 -- and births; their turns come no later than before. Of what was set aside that stays which the edit does not

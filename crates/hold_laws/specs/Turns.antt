@@ -1,10 +1,12 @@
 -- The order of turns, and turns that name their items by what stands beside them.
-use Rattle.std.specs.Prelude.{◌≡◌, ◌≢◌, ◌⊎◌, ◌↔◌, ℕ, ◌<◌, List, length, slice_index}
+use Rattle.std.specs.Prelude.{◌≡◌, ◌≢◌, ◌⊎◌, ◌↔◌, ℕ, ◌<◌, ◌≤◌, List, length, slice_index}
 use Rattle.std.specs.List.{AllPairs}
 use Rattle.css_model.specs.declared.sheet.Item.{Item}
 use Rattle.order_laws.specs.Edits.{Edit}
 use Rattle.plan_laws.specs.Cover.{Turn, IsSooner}
 use Rattle.step_laws.specs.declared.step.Step.{Step}
+use Rattle.step_laws.specs.declared.step.Step.TheVariants.{CutDecl}
+use Rattle.step_laws.specs.Sizes.{size, Saves}
 use Rattle.step_laws.specs.Steps.{IsStep}
 use Rattle.wall_laws.specs.Holding.{turn_of}
 use Rattle.wall_laws.specs.Renumbering.{renumbered}
@@ -33,3 +35,12 @@ LabelsTellOrder = (items : List Item) (labels : List ℕ) → AreLabels items la
 abbrev pub NamesTellSteps : Type 0
 NamesTellSteps = (items : List Item) (names : List ℕ) → length names ≡ length items → AllPairs (λ x y. x ≢ y) names → (j k : Step) (d e : Edit) → IsStep items j d → IsStep items k e →
     (m n : ℕ) → named names m j ≡ named names n k → (m ≡ n) × (j ≡ k) × (d ≡ e)
+
+-- the first of all turns that save so much
+abbrev pub first_turn : ℕ → Turn
+first_turn n = turn_of n (CutDecl 0 0)
+
+-- No step of a sheet comes before the first turn that saves as much as the sheet is long.
+abbrev pub FirstTurnIsFirst : Type 0
+FirstTurnIsFirst = (source : List ℕ) (items : List Item) (bound : ℕ) → size source items ≤ bound → (k : Step) (e : Edit) (n : ℕ) → Saves source items e n →
+    (names : List ℕ) → IsSooner (named names n k) (first_turn bound) → ⊥

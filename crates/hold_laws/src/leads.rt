@@ -1,11 +1,19 @@
 //! What a plan holds in code: one turn for all steps of an owner, and what is set aside.
 
-ghost use Rattle.hold_laws.specs.Leads.{FirstLeadIsTaken, HeldGoesOver, HeldMayChange, NoLeadIsDone};
+ghost use Rattle.hold_laws.specs.Leads.{FirstLeadIsTaken, HeldGoesOver, HeldMayChange, NoLeadIsDone, StartIsHeld};
 
 use crate::before::steps_have_been;
 use crate::behind::hindered_goes_on;
+use crate::turns::first_turn_is_first;
 use plan_laws::{first_is_next, none_waits_is_done};
 use wall_laws::hindered_is_blocked;
+
+/// Where nothing is set aside, and each owner has a turn before which no step comes, all is held.
+pub fn start_is_held()
+    ensures { StartIsHeld }
+{
+    first_turn_is_first();
+}
 
 /// What is held of a sheet goes over to the one behind a step: the items that were left keep their labels,
 /// births and turns, what the step does not touch stays set aside, and the turns of new owners lead.

@@ -1,6 +1,6 @@
 //! The order of turns, and turns that name their items by what stands beside them.
 
-ghost use Rattle.hold_laws.specs.Turns.{LabelsTellOrder, NamesTellSteps, TurnsAreOrdered};
+ghost use Rattle.hold_laws.specs.Turns.{FirstTurnIsFirst, LabelsTellOrder, NamesTellSteps, TurnsAreOrdered};
 
 use step_laws::steps_are_one_edit;
 
@@ -22,3 +22,8 @@ pub fn names_tell_steps()
 {
     steps_are_one_edit();
 }
+
+/// No step of a sheet comes before the first turn that saves as much as the sheet is long.
+pub fn first_turn_is_first()
+    ensures { FirstTurnIsFirst }
+{}
