@@ -1,0 +1,16 @@
+//! Where an element stands.
+
+/// Where an element of a document stands (Selectors 3, section 6.6.5).
+#[derive(Clone, Copy, Debug, PartialEq, Eq)]
+pub struct Whereabouts {
+    /// How many siblings stand before it.
+    pub before: u128,
+    /// How many siblings stand behind it.
+    pub behind: u128,
+    /// Whether it is the root.
+    pub is_root: bool,
+    /// Whether it counts as a child.
+    pub is_child: bool,
+    /// Whether it has children.
+    pub has_children: bool,
+}
