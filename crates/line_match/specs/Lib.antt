@@ -1,0 +1,2 @@
+pub mod Recurring
+pub mod Runs
