@@ -1,11 +1,11 @@
 -- What matches at an element, compound by compound.
-use Rattle.std.proofs.Common.{◌≡◌, Bool, true, false, ◌&&◌, List, [], ◌∷◌, drop, refl, ap, ◌∙◌, sym}
+use Rattle.std.proofs.Common.{◌≡◌, Bool, true, false, ◌&&◌, List, [], ◌∷◌, drop, refl, ap}
 use Rattle.css_model.specs.declared.selector.Combinator.{Combinator}
 use Rattle.css_model.specs.declared.selector.Simple.{Simple}
 use Rattle.css_model.specs.Documents.Document.{Element}
 use Rattle.eval_laws.specs.declared.types.Reached.{Reached}
 use Rattle.eval_laws.specs.declared.types.Surroundings.{Surroundings}
-use Rattle.eval_laws.specs.Reaching.{leads, located, put_here}
+use Rattle.eval_laws.specs.Reaching.{located, put_here}
 use Rattle.eval_laws.specs.Surrounded.{chain_among, compound_among}
 use Rattle.line_match.specs.Runs.{is_led}
 

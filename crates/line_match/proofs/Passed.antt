@@ -1,5 +1,5 @@
 -- Along a run: one element, a period of them, and periods that change nothing.
-use Rattle.std.proofs.Common.{◌≡◌, ◌⊎◌, ℕ, zero, suc, ◌+◌, ◌-◌, ◌*◌, ◌<◌, ◌≤◌, Bool, true, List, map, refl, sym, ap, subst, ◌∙◌, arith, inl, inr}
+use Rattle.std.proofs.Common.{◌≡◌, ◌⊎◌, ℕ, suc, ◌+◌, ◌-◌, ◌*◌, ◌<◌, ◌≤◌, Bool, true, List, map, sym, ap, ◌∙◌, arith, inl, inr}
 use Rattle.css_model.specs.declared.selector.Combinator.{Combinator}
 use Rattle.eval_laws.specs.declared.types.Reached.{Reached}
 use Rattle.eval_laws.specs.Reaching.{from_next, located, passed}

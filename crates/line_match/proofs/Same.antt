@@ -1,5 +1,5 @@
 -- Equality decides whether the same is known.
-use Rattle.std.proofs.Common.{◌≡◌, Bool, true, false, ◌&&◌, List, Decides, rules, refl, subst}
+use Rattle.std.proofs.Common.{◌≡◌, Bool, true, ◌&&◌, List, Decides, refl, subst}
 use Rattle.std.proofs.lemmas.Bool.{and_parts}
 use Rattle.std.specs.Cmp.{booleans_Decides}
 use Rattle.std.specs.Cmp.Lexicographic.{pointwise, pointwise_decides}

@@ -1,4 +1,4 @@
-use Rattle.std.proofs.Common.{◌≡◌, ◌≢◌, ℕ, suc, ◌+◌, ◌-◌, ◌≤◌, List, map, sym, ap, ◌∙◌, arith}
+use Rattle.std.proofs.Common.{◌≡◌, ◌≢◌, ℕ, suc, ◌+◌, ◌-◌, List, map, sym, ap, ◌∙◌, arith}
 use Rattle.css_model.specs.declared.example.RunLine.{RunLine}
 use Rattle.eval_laws.specs.declared.types.Reached.{Reached}
 use Rattle.eval_laws.specs.Climbing.{climbed, count_at, has_one_at, standings_of}

@@ -1,4 +1,4 @@
-use Rattle.std.proofs.Common.{◌≡◌, ◌+◌, ◌-◌, arith}
+use Rattle.std.proofs.Common.{◌-◌, arith}
 use Rattle.line_match.specs.Runs.{run_tests}
 use Rattle.line_match.proofs.Passed.{passed_first}
 use Rattle.line_match.proofs.passing.behind_each.Goals as goal

@@ -1,5 +1,4 @@
-use Rattle.std.proofs.Common.{◌≡◌, ℕ, ◌+◌, ◌-◌, ◌≤◌, List, refl, sym, ap, ◌∙◌, arith}
-use Rattle.eval_laws.specs.declared.types.Reached.{Reached}
+use Rattle.std.proofs.Common.{◌≡◌, ℕ, ◌+◌, ◌-◌, ◌≤◌, refl, sym, ap, ◌∙◌, arith}
 use Rattle.eval_laws.specs.Reaching.{passed}
 use Rattle.line_match.specs.Runs.{run_tests}
 use Rattle.line_match.proofs.Passed.{passed_first, passed_on}

@@ -1,4 +1,4 @@
-use Rattle.std.proofs.Common.{ℕ, ◌<◌, Bool, subst, sym}
+use Rattle.std.proofs.Common.{◌<◌, Bool, subst, sym}
 use Rattle.css_model.specs.Documents.FeatureParts.{FeatureParts}
 use Rattle.eval_laws.specs.Repeating.{Repeats}
 use Rattle.line_match.specs.declared.recurrence.Recurrence.{Recurrence}
