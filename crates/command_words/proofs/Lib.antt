@@ -1,0 +1,3 @@
+mod FormLaws
+mod Lists
+mod Numbers

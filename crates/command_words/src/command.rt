@@ -1,0 +1,35 @@
+//! What a command line asks for.
+
+/// The greatest budget of learned clauses that words may name.
+pub const MOST_BUDGET: u32 = 20_000;
+
+/// What help is asked about.
+#[derive(Clone, Copy, Debug, PartialEq, Eq)]
+pub enum Topic {
+    /// The program.
+    Program,
+    /// The command `min`.
+    Min,
+    /// The command `cmp`.
+    Cmp,
+}
+
+/// What the program is to do.
+#[derive(Clone, Copy, Debug)]
+pub enum Command<'a> {
+    /// Minify a style sheet.
+    Min,
+    /// Compare two selectors.
+    Cmp {
+        /// The text of the first one.
+        left: &'a str,
+        /// The text of the second one.
+        right: &'a str,
+        /// How many clauses may be learned for a pair, where the words say it: at most `MOST_BUDGET`.
+        budget: Option<u32>,
+    },
+    /// Tell how the program, or a command of it, is used.
+    Help(Topic),
+    /// Tell the version.
+    Version,
+}

@@ -1,0 +1,20 @@
+//! What follows from the definition of the forms, as functions that do nothing.
+
+ghost use Rattle.command_words.specs.Laws.{CmpComparesTwoWords, MinIsOneWord, MostBudgetIsDefined};
+
+/// Exactly the one word `min` minifies.
+#[tactic(auto, using(crate::proofs::FormLaws::min_is_one_word))]
+pub fn min_is_one_word()
+    ensures { MinIsOneWord }
+{}
+
+/// `cmp` and two words that do not begin with `-` compare them.
+#[tactic(auto, using(crate::proofs::FormLaws::cmp_compares))]
+pub fn cmp_compares_two_words()
+    ensures { CmpComparesTwoWords }
+{}
+
+/// The greatest budget is that of the definition.
+pub fn most_budget_is_defined()
+    ensures { MostBudgetIsDefined }
+{}

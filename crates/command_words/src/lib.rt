@@ -1,0 +1,15 @@
+//! The words of a command line: which command they are.
+#![tactic(auto)]
+
+mod budget;
+mod command;
+mod laws;
+mod reading;
+mod words;
+
+pub use command::{Command, MOST_BUDGET, Topic};
+pub use laws::{cmp_compares_two_words, min_is_one_word, most_budget_is_defined};
+pub use reading::command_of;
+
+#[cfg(test)]
+mod tests;

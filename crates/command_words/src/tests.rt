@@ -1,0 +1,131 @@
+//! Words of each form, and words of none.
+
+use super::*;
+use std::alloc::{AllocError, Global};
+use std::test::Fail;
+
+// What the words of a line ask for, as `Debug` shows it.
+fn shown(alloc: Global, line: &str) -> Result<String, AllocError> {
+    let mut words = Vec::new(alloc);
+    for word in line.split_ascii_whitespace() {
+        words.push(String::from_str(alloc, word)?)?;
+    }
+    let command = command_of(&words);
+    format!(in alloc; "{command:?}")
+}
+
+#[test]
+fn reads_each_form(rt: HostRuntime) -> Result<(), Fail> {
+    for (line, form) in [
+        ("min", "Some(Min)"),
+        (
+            "cmp a b",
+            "Some(Cmp { left: \"a\", right: \"b\", budget: None })",
+        ),
+        (
+            "cmp a b --budget 0",
+            "Some(Cmp { left: \"a\", right: \"b\", budget: Some(0) })",
+        ),
+        (
+            "cmp a --budget 20000 b",
+            "Some(Cmp { left: \"a\", right: \"b\", budget: Some(20000) })",
+        ),
+        (
+            "cmp --budget 2000 a>b .c",
+            "Some(Cmp { left: \"a>b\", right: \".c\", budget: Some(2000) })",
+        ),
+        (
+            "cmp a b --budget=7",
+            "Some(Cmp { left: \"a\", right: \"b\", budget: Some(7) })",
+        ),
+        (
+            "cmp a --budget=70 b",
+            "Some(Cmp { left: \"a\", right: \"b\", budget: Some(70) })",
+        ),
+        (
+            "cmp --budget=1 min cmp",
+            "Some(Cmp { left: \"min\", right: \"cmp\", budget: Some(1) })",
+        ),
+        ("--help", "Some(Help(Program))"),
+        ("-h", "Some(Help(Program))"),
+        ("help", "Some(Help(Program))"),
+        ("min --help", "Some(Help(Min))"),
+        ("min -h", "Some(Help(Min))"),
+        ("cmp --help", "Some(Help(Cmp))"),
+        ("cmp -h", "Some(Help(Cmp))"),
+        ("--version", "Some(Version)"),
+        ("-V", "Some(Version)"),
+    ] {
+        assert_eq!(rt; shown(rt.alloc(), line)?.as_str(), form, "{line}");
+    }
+    Ok(())
+}
+
+#[test]
+fn refuses_other_words(rt: HostRuntime) -> Result<(), Fail> {
+    for line in [
+        "",
+        "mim",
+        "Min",
+        "min min",
+        "min --report",
+        "min --budget 20001",
+        "min --budget 07",
+        "min --budget --report",
+        "min --help --report",
+        "min --version",
+        "min help",
+        "--help min",
+        "help min",
+        "help help",
+        "-V -V",
+        "--budget 3",
+        "trial",
+        "trial 3",
+        "why 1 2",
+        "cmp",
+        "cmp a",
+        "cmp a b c",
+        "cmp a b c d",
+        "cmp a b c d e",
+        "cmp a b --budget",
+        "cmp a b --budget 07",
+        "cmp a b --budget 20001",
+        "cmp a b --budget +1",
+        "cmp a b --budget -1",
+        "cmp a b --budget 1x",
+        "cmp a b --budget=",
+        "cmp a b --budget=00",
+        "cmp a b --budget=20001",
+        "cmp a b --budget=4294967296",
+        "cmp a b --bud=3",
+        "cmp a b --Budget=3",
+        "cmp a b --budget 1 --budget 2",
+        "cmp a b --budget=1 --budget=2",
+        "cmp --budget a b 1",
+        "cmp a --budget=3",
+        "cmp -- a b",
+        "cmp -a b",
+        "cmp a -b",
+        "cmp a --help",
+        "cmp --help a",
+    ] {
+        assert_eq!(rt; shown(rt.alloc(), line)?.as_str(), "None", "{line}");
+    }
+    Ok(())
+}
+
+// An empty word is a text.
+#[test]
+fn reads_empty_words(rt: HostRuntime) -> Result<(), Fail> {
+    let alloc = rt.alloc();
+    let name = String::from_str(alloc, "cmp")?;
+    let words = vec![in alloc; name, String::new(alloc), String::new(alloc)]?;
+    let command = command_of(&words);
+    let text = format!(in alloc; "{command:?}")?;
+    assert_eq!(rt;
+        text.as_str(),
+        "Some(Cmp { left: \"\", right: \"\", budget: None })"
+    );
+    Ok(())
+}
