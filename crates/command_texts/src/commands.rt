@@ -1,0 +1,73 @@
+//! The commands of the program, as `clap` describes them.
+
+use clap::{Arg, Command, value_parser};
+use command_words::MOST_BUDGET;
+use std::alloc::{AllocError, Global};
+
+const PROGRAM_HELP: &str = "\
+Exit status: 0 done, 2 wrong words, 3 the sheet is refused, 4 the input could not be read,
+5 the output could not be written, 6 not enough memory.
+
+    cssmin min <sheet.css >sheet.min.css
+    cssmin cmp 'a:hover' '.menu > a'
+
+No file names are taken: name the sheet by `<`, and the target by `>`, which must be another file.";
+
+const MIN_HELP: &str = "\
+The sheet is read from standard input to its end, and the smaller one is written to standard output.
+Nothing is written where the sheet is refused (status 3, and a line `refused: KIND at N` on standard
+error, N in bytes from 0).";
+
+const CMP_HELP: &str = "\
+Writes one of these to standard output, and reads no input:
+
+    disjoint    no element of any page matches both
+    overlap     some element does; a small page with it, marked `*`, follows
+    outside R   they are not compared, for the reason of the number R
+    spent       the budget was spent before that was decided";
+
+/// The command `min`.
+fn min_command<'a>(alloc: Global) -> Command<'a> {
+    Command::new(alloc, "min")
+        .about("Make a style sheet smaller, with the same winners of the cascade")
+        .after_help(MIN_HELP)
+}
+
+/// The command `cmp`.
+fn cmp_command<'a>(alloc: Global) -> Result<Command<'a>, AllocError> {
+    let left = Arg::new(alloc, "LEFT")
+        .required(true)
+        .help("A selector, which does not begin with `-`");
+    let right = Arg::new(alloc, "RIGHT").required(true).help("Another one");
+    let budget = Arg::new(alloc, "budget")
+        .long("budget")
+        .value_name("N")
+        .value_parser(value_parser!(u32).range(0..=i64::from(MOST_BUDGET)))
+        .help(
+            "Give up after N learned clauses, from 0 to 20000 [default: go on until it is decided]",
+        );
+    Command::new(alloc, "cmp")
+        .about("Tell whether one element can match two selectors")
+        .after_help(CMP_HELP)
+        .arg(left)?
+        .arg(right)?
+        .arg(budget)
+}
+
+/// The word `help`.
+fn help_command<'a>(alloc: Global) -> Command<'a> {
+    Command::new(alloc, "help").about("Print this message")
+}
+
+/// The program.
+pub(crate) fn program<'a>(alloc: Global, version: &'a str) -> Result<Command<'a>, AllocError> {
+    Command::new(alloc, "cssmin")
+        .about("Makes a CSS style sheet smaller, and never changes which declaration wins")
+        .version(version)
+        .after_help(PROGRAM_HELP)
+        .subcommand_required(true)
+        .subcommand(min_command(alloc))?
+        .subcommand(cmp_command(alloc)?)?
+        .disable_help_subcommand(true)
+        .subcommand(help_command(alloc))
+}

@@ -1,0 +1,11 @@
+//! What is told of the words of a command line: help, the version, and why words are refused.
+#![tactic(auto)]
+
+mod commands;
+mod ended;
+mod texts;
+
+pub use texts::{VERSION, help_text, refusal_text, version_text};
+
+#[cfg(test)]
+mod tests;

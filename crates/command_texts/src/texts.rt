@@ -1,0 +1,93 @@
+//! The texts.
+
+ghost use Rattle.std.specs.Prelude.{◌≡◌, IfOk};
+ghost use Rattle.command_texts.specs.Texts.{EndsLine, version_text};
+
+use crate::commands::program;
+use crate::ended::ended;
+use clap::Error;
+use clap::error::ErrorKind;
+use command_words::Topic;
+use std::alloc::{AllocError, Global};
+
+/// The version of the program.
+pub const VERSION: &str = "0.3.0";
+
+/// What `clap` has to tell of words, if anything: why it refuses them, or the help or the version that they ask
+/// for. The first word is the name of the program.
+fn told<'a>(alloc: Global, words: &'a [&'a str]) -> Result<Option<Error>, AllocError> {
+    match program(alloc, VERSION)?.try_get_matches_from(words) {
+        Ok(_) => Ok(None),
+        Err(error) => match error.kind() {
+            ErrorKind::OutOfMemory => Err(AllocError),
+            _ => Ok(Some(error)),
+        },
+    }
+}
+
+/// The text of what is told, or the line of usage.
+fn text_of(alloc: Global, told: Option<Error>) -> Result<Vec<u8>, AllocError>
+    ensures { IfOk result (λ text. EndsLine text.items) }
+{
+    match told {
+        Some(error) => {
+            let text = format!(in alloc; "{error}")?;
+            ended(text.as_bytes(), alloc)
+        }
+        None => ended(b"usage: cssmin COMMAND", alloc),
+    }
+}
+
+/// Whether an error is no refusal, but help or the version.
+fn is_refusal(error: &Error) -> bool {
+    match error.kind() {
+        ErrorKind::DisplayHelp => false,
+        ErrorKind::DisplayVersion => false,
+        _ => true,
+    }
+}
+
+/// How the program, or a command of it, is used. It ends with the end of a line; what it says is tested.
+pub fn help_text(alloc: Global, about: Topic) -> Result<Vec<u8>, AllocError>
+    ensures { IfOk result (λ text. EndsLine text.items) }
+{
+    let words: &[&str] = match about {
+        Topic::Program => &["cssmin", "--help"],
+        Topic::Min => &["cssmin", "min", "--help"],
+        Topic::Cmp => &["cssmin", "cmp", "--help"],
+    };
+    text_of(alloc, told(alloc, words)?)
+}
+
+/// The name of the program and its version, on a line.
+pub fn version_text(alloc: Global) -> Result<Vec<u8>, AllocError>
+    ensures { IfOk result (λ text. text.items ≡ version_text) }
+{
+    let mut text = b"cssmin ".to_vec(alloc)?;
+    text.extend_from_slice(VERSION.as_bytes())?;
+    text.push(b'\n')?;
+    Ok(text)
+}
+
+/// Why words are refused, in `clap`'s text; where it has none, a line that tells the form of all words. The words
+/// are those after the program's name. It ends with the end of a line; what it says is tested.
+pub fn refusal_text(alloc: Global, words: &Vec<String>) -> Result<Vec<u8>, AllocError>
+    ensures { IfOk result (λ text. EndsLine text.items) }
+{
+    let mut all: Vec<&str> = Vec::new(alloc);
+    all.push("cssmin")?;
+    for word in words {
+        all.push(word.as_str())?;
+    }
+    let told = match told(alloc, all.as_slice())? {
+        Some(error) => {
+            if is_refusal(&error) {
+                Some(error)
+            } else {
+                None
+            }
+        }
+        None => None,
+    };
+    text_of(alloc, told)
+}
