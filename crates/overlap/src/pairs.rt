@@ -63,6 +63,15 @@ impl Pairs {
         self.answers.get(&places)
     }
 
+    /// Says that the answers that are held are true for the budget, and that no ordered pair has two. By
+    /// `apart_selectors_do_not_meet`, selectors for which `Apart` is held do not meet. Does nothing when it runs.
+    pub fn are_true(&self)
+        ensures { ∥ spec.IsTrueList self.now ∥₁ }
+    {
+        // What the type keeps is at hand where a field is read.
+        let _budget = self.budget;
+    }
+
     /// Where the answer for the ordered pair stands, if there is one.
     fn place(&self, x: &Selector, y: &Selector) -> Option<usize>
         ensures { spec.StandsAt self.now.answers x.now y.now result }
