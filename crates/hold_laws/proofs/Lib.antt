@@ -3,6 +3,7 @@ mod Beside
 mod Born
 mod Elsewhere
 mod HeldSteps
+mod HoldExamples
 mod Led
 mod Names
 mod Ordered
