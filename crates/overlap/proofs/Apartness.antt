@@ -1,20 +1,18 @@
 -- Selectors that are called apart do not meet.
-use Rattle.std.proofs.Common.{◌≡◌, Option, ◌⊎◌, inl, inr, ℕ, zero, suc, ◌<◌, Bool, true, false, List, length, get_or, refl, sym, ap, subst, ◌∙◌, true≢false}
+use Rattle.std.proofs.Common.{◌≡◌, Option, inl, inr, ℕ, Bool, true, false, sym, subst, ◌∙◌}
 use Rattle.std.specs.Prelude.{nat_lt}
 use Rattle.std.specs.Bool.{MatchBool}
 use Rattle.std.proofs.Math.Logic.{∥∥₁_elim}
-use Rattle.std.specs.List.{All, Contains}
 use Rattle.css_model.specs.Cascade.Order.{Meet as TheyMeet}
 use Rattle.css_model.specs.declared.selector.Pseudo.{Pseudo}
 use Rattle.css_model.specs.Documents.Matching.{same_pseudo}
 use Rattle.css_model.specs.Documents.SelectorParts.{SelectorParts}
 use Rattle.css_model.specs.Sheets.Limits.{max_stepped}
 use Rattle.overlap.specs.Answers.{IsAlikeAnswer, IsFewAnswer, IsTrueAnswer, pair_stepped, too_many_stepped}
-use Rattle.overlap.specs.declared.answer.Answer.{Answer}
-use Rattle.overlap.specs.declared.answer.Answer.TheVariants.{Apart, Meet, Outside, Spent}
+use Rattle.overlap.specs.declared.answer.Answer.TheVariants.{Apart, Outside}
 use Rattle.overlap.specs.Laws.{ApartSelectorsDoNotMeet}
-use Rattle.overlap.specs.PairsParts.{Answered, PairsParts}
-use Rattle.overlap.specs.Remembered.{IsAnswered, IsTrueList}
+use Rattle.overlap.specs.PairsParts.{Answered}
+use Rattle.overlap.specs.Remembered.{IsTrueList}
 use Rattle.overlap.proofs.Deciding.{same_self}
 
 not_outside : (r n : ℕ) → Apart ≡ Outside r n → ⊥

@@ -1,6 +1,6 @@
 -- What is answered, put together.
-use Rattle.std.proofs.Common.{◌≡◌, ◌⊎◌, inl, inr, ◌↔◌, ℕ, zero, suc, ◌+◌, ◌<◌, ◌≤◌, ◌==◌, ◌&&◌, ◌++◌, Bool, true, false, List, [], ◌∷◌, length, Option, Some, None, Result, Ok, Err, IfOk, refl, sym, ap, subst, ◌∙◌, true≢false, arith, lt-ltb, le-ltb}
-use Rattle.std.specs.Prelude.{nat_lt, slice_index_or}
+use Rattle.std.proofs.Common.{◌≡◌, ◌⊎◌, inl, inr, ℕ, ◌<◌, ◌≤◌, ◌==◌, ◌&&◌, ◌++◌, Bool, true, false, List, [], ◌∷◌, length, Option, Some, None, Result, Ok, Err, IfOk, refl, sym, ap, subst, ◌∙◌, true≢false, arith, lt-ltb, le-ltb}
+use Rattle.std.specs.Prelude.{slice_index_or}
 use Rattle.std.specs.Bool.{MatchBool}
 use Rattle.std.specs.Cmp.{unsigned_Decides}
 use Rattle.std.specs.List.{All}
@@ -13,7 +13,6 @@ use Rattle.css_model.specs.declared.selector.Pseudo.TheVariants.{FirstLine, Firs
 use Rattle.css_model.specs.declared.selector.Simple.{Simple}
 use Rattle.css_model.specs.Documents.Document.{Document, Target}
 use Rattle.css_model.specs.Documents.FeatureParts.{FeatureParts}
-use Rattle.css_model.specs.Documents.Features.{CanSuit}
 use Rattle.css_model.specs.Documents.Matching.{Matches, MatchesFrom, same_pseudo}
 use Rattle.css_model.specs.Documents.RunDocuments.{expand, target_of}
 use Rattle.css_model.specs.Documents.SelectorParts.{SelectorParts}
@@ -21,7 +20,6 @@ use Rattle.css_model.specs.Sheets.Limits.{max_stepped}
 use Rattle.compound_fit.specs.Attributes.{attribute_tests}
 use Rattle.compound_fit.specs.Fitting.{AreFeatures, IsAnswer, SpacesAreLeft}
 use Rattle.compound_fit.specs.Table.{AreFits, groups, target}
-use Rattle.document_laws.specs.Laws.{ShowsMeeting}
 use Rattle.element_laws.specs.Names.{HaveNames}
 use Rattle.sibling_counts.specs.Places.{ChildPasses}
 use Rattle.single_examples.specs.Examples.{IsSingleExample, RootPasses}
@@ -29,8 +27,9 @@ use Rattle.single_examples.specs.Laws.{ExamplesShowMeeting, MeetingPasses, Passe
 use Rattle.single_examples.specs.Trying.{IsTried, NoneTried}
 use Rattle.overlap.specs.declared.answer.Answer.{Answer}
 use Rattle.overlap.specs.declared.answer.Answer.TheVariants.{Apart, Meet, Outside, Spent}
+use Rattle.overlap.specs.declared.answer.Decision.{Decision}
 use Rattle.overlap.specs.Combined.{IsCombinedAnswer}
-use Rattle.overlap.specs.Answers.{HaveSpaces, IsAlikeAnswer, IsDecided, IsFewAnswer, IsTrueAnswer, are_single, pair_stepped, too_many_stepped}
+use Rattle.overlap.specs.Answers.{IsAlikeAnswer, IsDecided, IsFewAnswer, IsTrueAnswer, are_single, pair_stepped, too_many_stepped}
 use Rattle.overlap.specs.Singles.{IsSingleAnswer}
 
 -- ---- Pseudo-elements
@@ -42,7 +41,7 @@ same_self (Some FirstLetter) = refl
 same_self (Some Before) = refl
 same_self (Some After) = refl
 
-same_is : (a b : Option Pseudo) → same_pseudo a b ≡ true → a ≡ b
+pub same_is : (a b : Option Pseudo) → same_pseudo a b ≡ true → a ≡ b
 same_is None None h = refl
 same_is (Some FirstLine) (Some FirstLine) h = refl
 same_is (Some FirstLetter) (Some FirstLetter) h = refl
@@ -175,14 +174,9 @@ single_decided x y budget c d (Meet ex) e f g h p is = (
 single_decided x y budget c d (Outside r n) e f g h p is = absurd is
 single_decided x y budget c d (Spent l) e f g h p is = absurd is
 
-pub few_result : {E : Type 0} (x y : SelectorParts) (budget : ℕ) (fits : List (Option FeatureParts)) (r : Result Answer E) → AreFits fits (groups x.chain y.chain) → IfOk r (λ a. IsDecided x y budget a) → IfOk r (λ a. IsFewAnswer x y budget a)
-few_result x y budget fits (Ok a) h d = fitted x y budget fits a h d
+pub few_result : {E : Type 0} (x y : SelectorParts) (budget : ℕ) (fits : List (Option FeatureParts)) (r : Result Decision E) → AreFits fits (groups x.chain y.chain) → IfOk r (λ d. IsDecided x y budget d.answer) → IfOk r (λ d. IsFewAnswer x y budget d.answer)
+few_result x y budget fits (Ok a) h d = fitted x y budget fits a.answer h d
 few_result x y budget fits (Err e) h d = d
-
-pub single_result : {E : Type 0} (x y : SelectorParts) (budget : ℕ) (c d : List Simple) (r : Result Answer E) → x.chain ≡ c ∷ [] → y.chain ≡ d ∷ [] → x.links ≡ [] → y.links ≡ [] → x.pseudo ≡ y.pseudo →
-    IfOk r (λ a. IsSingleAnswer c d x.pseudo a) → IfOk r (λ a. IsDecided x y budget a)
-single_result x y budget c d (Ok a) e f g h p is = single_decided x y budget c d a e f g h p is
-single_result x y budget c d (Err n) e f g h p is = is
 
 -- a chain that is not of one compound
 pub not_single : (x y : SelectorParts) → (length x.chain ≡ 1 → length y.chain ≡ 1 → ⊥) → are_single x y ≡ false
@@ -201,6 +195,6 @@ combined_decided x y budget (Meet ex) e h = (h, λ one. absurd (true≢false (sy
 combined_decided x y budget (Outside r n) e h = h
 combined_decided x y budget (Spent l) e h = (e, h)
 
-pub combined_result : {E : Type 0} (x y : SelectorParts) (budget : ℕ) (r : Result Answer E) → are_single x y ≡ false → IfOk r (λ a. IsCombinedAnswer x y budget a) → IfOk r (λ a. IsDecided x y budget a)
-combined_result x y budget (Ok a) e h = combined_decided x y budget a e h
+pub combined_result : {E : Type 0} (x y : SelectorParts) (budget : ℕ) (r : Result Decision E) → are_single x y ≡ false → IfOk r (λ d. IsCombinedAnswer x y budget d.answer) → IfOk r (λ d. IsDecided x y budget d.answer)
+combined_result x y budget (Ok d) e h = combined_decided x y budget d.answer e h
 combined_result x y budget (Err n) e h = h

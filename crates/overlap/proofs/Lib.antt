@@ -2,6 +2,7 @@ mod Apartness
 mod Deciding
 mod Keeping
 mod Limits
+mod Logging
 mod Named
 mod Targets
 mod TrueLists

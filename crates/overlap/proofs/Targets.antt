@@ -1,5 +1,5 @@
 -- Where two selectors meet, some element passes both targets.
-use Rattle.std.proofs.Common.{◌≡◌, ℕ, zero, suc, ◌≤◌, ◌==◌, Bool, true, List, [], ◌∷◌, ◌++◌, Option, Some, None, IsTrue, refl, sym, ap, subst, ◌∙◌, if◌then◌else◌, arith}
+use Rattle.std.proofs.Common.{◌≡◌, ℕ, ◌==◌, List, [], ◌∷◌, ◌++◌, Option, None, refl, sym, ap, subst, ◌∙◌, if◌then◌else◌, arith}
 use Rattle.std.specs.Prelude.{slice_index_or}
 use Rattle.css_model.specs.Cascade.Order.{Meet as TheyMeet}
 use Rattle.css_model.specs.declared.selector.Combinator.{Combinator}

@@ -1,14 +1,15 @@
 -- A true list with one answer more, and what such a list says.
-use Rattle.std.proofs.Common.{◌≡◌, ℕ, zero, suc, ◌+◌, ◌<◌, ◌++◌, List, [], ◌∷◌, Result, Ok, Err, OnOk, OnErr, IfOk, Option, Some, slice_get, length, get_or, refl, sym, ap, subst, ◌∙◌, arith, inl, inr, ◌⊎◌}
+use Rattle.std.proofs.Common.{◌≡◌, ℕ, zero, suc, ◌++◌, List, [], ◌∷◌, Result, Ok, Err, OnOk, OnErr, IfOk, Option, Some, slice_get, length, refl, sym, ap, subst, ◌∙◌, arith}
 use Rattle.std.proofs.Math.Logic.{∥∥₁_map}
 use Rattle.std.specs.List.{All, AllPairs}
-use Rattle.std.proofs.lemmas.Bool.{cases_lt}
-use Rattle.std.proofs.lemmas.List.Elements.{All-append, All-cons, All-head, All-nil, All-tail}
+use Rattle.std.proofs.lemmas.List.Elements.{All-append, All-cons, All-head, All-nil, All-tail, Contains-append_right}
+use Rattle.cnf.specs.Cnf.{Cnf}
+use Rattle.cnf.specs.declared.lit.Lit.{Lit}
 use Rattle.css_model.specs.Documents.SelectorParts.{SelectorParts}
-use Rattle.overlap.specs.Answers.{IsTrueAnswer}
+use Rattle.overlap.specs.Answers.{IsLogOf, IsTrueAnswer}
 use Rattle.overlap.specs.declared.answer.Answer.{Answer}
 use Rattle.overlap.specs.PairsParts.{Answered, PairsParts}
-use Rattle.overlap.specs.Remembered.{IsOfOther, IsTrueList, IsUnknown, StandsAt}
+use Rattle.overlap.specs.Remembered.{IsHeldWithLog, IsOfOther, IsTrueList, IsUnknown, StandsAt}
 
 abbrev entry : SelectorParts → SelectorParts → Answer → Answered
 entry x y answer = record { left = x; right = y; answer = answer }
@@ -52,3 +53,10 @@ stands_last (Ok at) old new x y answer place is = (
   refl,
 )
 stands_last (Err e) old new x y answer place is = is
+
+-- it is held, with its log
+pub held_with_log : (old new : PairsParts) (x y : SelectorParts) (answer : Answer) (log : Option (Cnf × List (List Lit))) →
+    new ≡ record { budget = old.budget; answers = old.answers ++ entry x y answer ∷ [] } → IsLogOf x y old.budget answer log → IsHeldWithLog new x y log
+held_with_log old new x y answer log is h =
+    subst (λ (p : PairsParts). IsHeldWithLog p x y log) (sym is)
+    (answer, Contains-append_right old.answers (entry x y answer ∷ []) (entry x y answer) (zero, omega arith, refl), h)

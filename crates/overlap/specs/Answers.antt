@@ -1,7 +1,9 @@
 -- What an answer for two selectors says (own).
-use Rattle.std.specs.Prelude.{◌≡◌, ◌⊎◌, ℕ, ◌+◌, ◌≤◌, ◌==◌, nat_lt, Bool, true, false, ◌&&◌, List, ◌++◌, length}
+use Rattle.std.specs.Prelude.{◌≡◌, ◌⊎◌, ℕ, ◌+◌, ◌==◌, nat_lt, Bool, true, false, not, ◌&&◌, List, ◌++◌, length, Option, Some, None}
 use Rattle.std.specs.Bool.{MatchBool}
 use Rattle.std.specs.List.{All, Contains}
+use Rattle.cnf.specs.Cnf.{Cnf}
+use Rattle.cnf.specs.declared.lit.Lit.{Lit}
 use Rattle.css_model.specs.Cascade.Order.{Meet as TheyMeet}
 use Rattle.css_model.specs.declared.selector.Simple.{Simple}
 use Rattle.css_model.specs.Documents.Matching.{same_pseudo}
@@ -12,7 +14,7 @@ use Rattle.compound_fit.specs.Fitting.{SpacesAreTaken, SpacesAreLeft}
 use Rattle.compound_fit.specs.Table.{groups, target}
 use Rattle.slot_plan.specs.Parts.{stepped_count}
 use Rattle.single_examples.specs.Examples.{IsSingleExample}
-use Rattle.overlap.specs.Combined.{IsEvidence, IsSpentOn}
+use Rattle.overlap.specs.Combined.{IsEvidence, IsRefutation, IsSpentOn}
 use Rattle.overlap.specs.declared.answer.Answer.{Answer}
 use Rattle.overlap.specs.declared.answer.Answer.TheVariants.{Apart, Meet, Outside, Spent}
 
@@ -68,3 +70,17 @@ IsAlikeAnswer x y budget answer =
 --     otherwise                              the pair is decided
 abbrev pub IsTrueAnswer : SelectorParts → SelectorParts → (budget : ℕ) → Answer → Type 0
 IsTrueAnswer x y budget answer = MatchBool (same_pseudo x.pseudo y.pseudo) (IsAlikeAnswer x y budget answer) (answer ≡ Apart)
+
+-- ---- Logs
+
+-- whether an answer is that they do not meet by their formula: the pseudo-element is the same, and one has a combinator
+abbrev pub is_refuted : SelectorParts → SelectorParts → Answer → Bool
+is_refuted x y Apart = same_pseudo x.pseudo y.pseudo && not (are_single x y)
+is_refuted x y (Meet e) = false
+is_refuted x y (Outside reason number) = false
+is_refuted x y (Spent ledger) = false
+
+-- what is logged of an answer: exactly then the formula, with the ledger that refutes it
+abbrev pub IsLogOf : SelectorParts → SelectorParts → (budget : ℕ) → Answer → Option (Cnf × List (List Lit)) → Type 0
+IsLogOf x y budget answer None = is_refuted x y answer ≡ false
+IsLogOf x y budget answer (Some log) = (is_refuted x y answer ≡ true) × IsRefutation x y budget log.0 log.1

@@ -1,16 +1,18 @@
 -- Two selectors of which one has a combinator (own).
-use Rattle.std.specs.Prelude.{◌≡◌, ◌≢◌, ◌≤◌, ℕ, List, length, IsTrue}
+use Rattle.std.specs.Prelude.{◌≡◌, ◌≢◌, ◌≤◌, ℕ, List, Option, Some, None, length, IsTrue}
 use Rattle.cnf.specs.Budgets.{no_limit}
+use Rattle.cnf.specs.Cnf.{Cnf}
 use Rattle.cnf.specs.declared.lit.Lit.{Lit}
 use Rattle.cnf.specs.Propagation.{IsLedger}
 use Rattle.css_model.specs.Cascade.Order.{Meet as TheyMeet}
 use Rattle.css_model.specs.declared.example.Example.{Example}
 use Rattle.css_model.specs.Documents.SelectorParts.{SelectorParts}
-use Rattle.clause_encode.specs.Fits.{pair_formula}
+use Rattle.clause_encode.specs.Fits.{IsSmallFormula, pair_formula}
 use Rattle.compound_fit.specs.Table.{IsTable}
 use Rattle.compound_fit.specs.TableParts.{TableParts}
 use Rattle.document_laws.specs.Laws.{ShowsMeeting}
 use Rattle.example_doc.specs.Built.{most_lines}
+use Rattle.sat_core.specs.Verdict.{HasNoModel}
 use Rattle.sat_watch.specs.Nonempty.{are_nonempty}
 use Rattle.overlap.specs.declared.answer.Answer.{Answer}
 use Rattle.overlap.specs.declared.answer.Answer.TheVariants.{Apart, Meet, Outside, Spent}
@@ -35,3 +37,17 @@ IsCombinedAnswer x y budget Apart = TheyMeet x y → ⊥
 IsCombinedAnswer x y budget (Meet e) = IsEvidence e x y
 IsCombinedAnswer x y budget (Outside reason number) = ⊥
 IsCombinedAnswer x y budget (Spent ledger) = IsSpentOn x y budget ledger
+
+-- A formula with a ledger: it is the formula of the pair, no values satisfy it, and the ledger shows that, within the
+-- budget of learned clauses.
+pub record IsRefutation (x y : SelectorParts) (budget : ℕ) (formula : Cnf) (ledger : List (List Lit)) : Type 0 where
+  pub table : TableParts
+  pub of_pair : IsTable table x y
+  pub is : formula ≡ pair_formula x y table.fits
+  pub small : IsSmallFormula formula
+  pub refuted : HasNoModel formula budget ledger
+
+-- what is logged of an answer by the formula: the refutation exactly where they do not meet
+abbrev pub IsCombinedLog : SelectorParts → SelectorParts → (budget : ℕ) → Answer → Option (Cnf × List (List Lit)) → Type 0
+IsCombinedLog x y budget answer None = answer ≢ Apart
+IsCombinedLog x y budget answer (Some log) = (answer ≡ Apart) × IsRefutation x y budget log.0 log.1

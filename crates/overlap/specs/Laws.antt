@@ -1,5 +1,5 @@
 -- Laws on answers.
-use Rattle.std.specs.Prelude.{◌≡◌, ℕ}
+use Rattle.std.specs.Prelude.{◌≡◌}
 use Rattle.css_model.specs.Cascade.Order.{Meet as TheyMeet}
 use Rattle.css_model.specs.Documents.SelectorParts.{SelectorParts}
 use Rattle.overlap.specs.Answers.{no_space_left, too_many_stepped}

@@ -2,8 +2,10 @@
 use Rattle.std.specs.Prelude.{◌≡◌, ℕ, List, ◌++◌, slice_get, Option, Some, None}
 use Rattle.std.specs.Borrow.{Bor}
 use Rattle.std.specs.List.{All, AllPairs, Contains}
+use Rattle.cnf.specs.Cnf.{Cnf}
+use Rattle.cnf.specs.declared.lit.Lit.{Lit}
 use Rattle.css_model.specs.Documents.SelectorParts.{SelectorParts}
-use Rattle.overlap.specs.Answers.{IsTrueAnswer}
+use Rattle.overlap.specs.Answers.{IsLogOf, IsTrueAnswer}
 use Rattle.overlap.specs.declared.answer.Answer.{Answer}
 use Rattle.overlap.specs.PairsParts.{Answered, PairsParts}
 
@@ -27,6 +29,10 @@ IsAnswered answers x y answer = Contains answers (record { left = x; right = y; 
 -- some answer is
 abbrev pub IsHeld : List Answered → SelectorParts → SelectorParts → Type 0
 IsHeld answers x y = (answer : Answer) × IsAnswered answers x y answer
+
+-- some answer is, and this is what is logged of it
+abbrev pub IsHeldWithLog : PairsParts → SelectorParts → SelectorParts → Option (Cnf × List (List Lit)) → Type 0
+IsHeldWithLog p x y log = (answer : Answer) × IsAnswered p.answers x y answer × IsLogOf x y p.budget answer log
 
 -- what is held of the ordered pair
 abbrev pub Known : List Answered → SelectorParts → SelectorParts → Option (Bor Answer) → Type 0

@@ -1,6 +1,6 @@
 -- How answers are kept (own): a list of the selectors that were asked, and the answers with the places of both
 -- selectors in it.
-use Rattle.std.specs.Prelude.{◌≡◌, ◌≢◌, ◌⊎◌, ℕ, ◌<◌, List, [], ◌∷◌, ◌++◌, map, length, get_or, slice_get, Option, Some, None}
+use Rattle.std.specs.Prelude.{◌≡◌, ◌≢◌, ◌⊎◌, ℕ, ◌<◌, List, [], ◌++◌, map, length, get_or, slice_get, Option, Some, None}
 use Rattle.std.specs.List.{All, IsDistinct}
 use Rattle.css_model.specs.contracts.selector.SelectorPartialEq.TheImpl as selector
 use Rattle.css_model.specs.Documents.SelectorParts.{SelectorParts}

@@ -1,6 +1,6 @@
 //! What is answered for two selectors.
 
-use cnf::Ledger;
+use cnf::{Formula, Ledger};
 use css_model::Example;
 
 /// As the reason of `Answer::Outside`: both selectors together have more than four positions whose step has
@@ -24,4 +24,13 @@ pub enum Answer {
     /// The budget of learned clauses was spent on this ledger of the formula of the pair. Only where a selector
     /// has a combinator.
     Spent(Ledger),
+}
+
+/// What is decided for two selectors.
+#[derive(Drop)]
+pub(crate) struct Decision {
+    /// The answer.
+    pub answer: Answer,
+    /// The formula of the pair with the ledger that refutes it, where the answer is made by that.
+    pub log: Option<(Formula, Ledger)>,
 }

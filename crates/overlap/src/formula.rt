@@ -5,9 +5,9 @@ ghost use Rattle.css_model.specs.Cascade.Order.{Meet as TheyMeet};
 ghost use Rattle.css_model.specs.Selectors.Profile.{IsInProfile};
 ghost use Rattle.clause_encode.specs.Fits.{IsModel};
 ghost use Rattle.compound_fit.specs.Table.{AreFits, IsTable, groups};
-ghost use Rattle.overlap.specs.Combined.{IsCombinedAnswer, IsEvidence};
+ghost use Rattle.overlap.specs.Combined.{IsCombinedAnswer, IsCombinedLog, IsEvidence};
 
-use crate::answer::Answer;
+use crate::answer::{Answer, Decision};
 use clause_encode::encode;
 use compound_fit::FitTable;
 use css_model::{Example, Features};
@@ -20,33 +20,59 @@ use shape_laws::selectors_that_meet_have_a_shape;
 use slot_plan::PairPlan;
 use std::alloc::{AllocError, Global};
 
-/// The answer for the two selectors of a plan: that they do not meet, where no values satisfy the formula of the
-/// pair; the example of a shape that satisfying values give; or the ledger of the formula on which the budget of
-/// learned clauses was spent.
+/// The answer for the two selectors of a plan, and what is logged of it.
 pub(crate) fn decide_combined(
     alloc: Global,
     plan: &PairPlan,
     table: &FitTable,
     budget: u32,
-) -> Result<Answer, AllocError>
+    with_log: bool,
+) -> Result<Decision, AllocError>
     requires first { IsInProfile plan.now.left }
     requires second { IsInProfile plan.now.right }
     requires table { IsTable table.now plan.now.left plan.now.right }
-    ensures { IfOk result (λ answer. IsCombinedAnswer plan.now.left plan.now.right budget answer) }
+    ensures answer { IfOk result (λ d. IsCombinedAnswer plan.now.left plan.now.right budget d.answer) }
+    ensures log { IfOk result (λ d. IsTrue with_log → IsCombinedLog plan.now.left plan.now.right budget d.answer d.log) }
+{
+    if !with_log && targets_clash(table) {
+        return Ok(Decision {
+            answer: Answer::Apart,
+            log: None,
+        });
+    }
+    decide_by_formula(alloc, plan, table, budget)
+}
+
+/// The same by the formula of the pair: that they do not meet, where no values satisfy it; the example of a shape
+/// that satisfying values give; or the ledger on which the budget of learned clauses was spent.
+fn decide_by_formula(
+    alloc: Global,
+    plan: &PairPlan,
+    table: &FitTable,
+    budget: u32,
+) -> Result<Decision, AllocError>
+    requires first { IsInProfile plan.now.left }
+    requires second { IsInProfile plan.now.right }
+    requires table { IsTable table.now plan.now.left plan.now.right }
+    ensures answer { IfOk result (λ d. IsCombinedAnswer plan.now.left plan.now.right budget d.answer) }
+    ensures log { IfOk result (λ d. IsCombinedLog plan.now.left plan.now.right budget d.answer d.log) }
 {
     profile_keeps_the_limits();
     meeting_satisfies_the_formula();
-    if targets_clash(table) {
-        return Ok(Answer::Apart);
-    }
     let formula = encode(alloc, plan, table)?;
     match solve(alloc, &formula, budget)? {
-        Verdict::NoModel(_) => Ok(Answer::Apart),
-        Verdict::Model(values) => {
-            let example = example_of(alloc, plan, table, values.as_slice())?;
-            Ok(Answer::Meet(example))
-        }
-        Verdict::Spent(ledger) => Ok(Answer::Spent(ledger)),
+        Verdict::NoModel(ledger) => Ok(Decision {
+            answer: Answer::Apart,
+            log: Some((formula, ledger)),
+        }),
+        Verdict::Model(values) => Ok(Decision {
+            answer: Answer::Meet(example_of(alloc, plan, table, values.as_slice())?),
+            log: None,
+        }),
+        Verdict::Spent(ledger) => Ok(Decision {
+            answer: Answer::Spent(ledger),
+            log: None,
+        }),
     }
 }
 

@@ -6,9 +6,10 @@ ghost use Rattle.overlap.specs.Answers.{IsTrueAnswer};
 ghost use Rattle.overlap.specs.Remembered as spec;
 ghost use Rattle.overlap.specs.Stored.{IsStore, answers_of};
 
-use crate::answer::Answer;
+use crate::answer::{Answer, Decision};
 use crate::decision::decide;
 use crate::store::{Places, find_places, store};
+use cnf::{Formula, Ledger};
 use css_model::Selector;
 use indexmap::{IndexMap, IndexSet};
 use std::alloc::{AllocError, Global};
@@ -105,8 +106,8 @@ impl Pairs {
         if let Some(at) = self.place(x, y) {
             return Ok(at);
         }
-        let answer = decide(self.alloc, x, y, self.budget)?;
-        self.remember(x, y, answer)
+        let decision = decide(self.alloc, x, y, self.budget, false)?;
+        self.remember(x, y, decision.answer)
     }
 
     /// Answers for the ordered pair of two selectors of the profile, unless an answer is held for it; `known`
@@ -121,6 +122,28 @@ impl Pairs {
     {
         let _at = self.answered(x, y)?;
         Ok(())
+    }
+
+    /// Answers for an ordered pair of selectors of the profile for which no answer is held; `known` then gives the
+    /// answer. Some log comes exactly where they do not meet, both are of one pseudo-element, and one has a
+    /// combinator: the formula of the pair, and the ledger that refutes it. All that was held stays, and comes
+    /// first; after `AllocError` that is all that is held.
+    pub fn ask_with_log(
+        &mut self,
+        x: &Selector,
+        y: &Selector,
+    ) -> Result<Option<(Formula, Ledger)>, AllocError>
+        requires first { IsInProfile x.now }
+        requires second { IsInProfile y.now }
+        requires unknown { spec.IsUnknown self.old.answers x.now y.now }
+        ensures asks { spec.Asks self.old self.new x.now y.now }
+        ensures held { IfOk result (λ log. spec.IsHeldWithLog self.new x.now y.now log) }
+        ensures list { ∥ spec.IsTrueList self.new ∥₁ }
+        ensures err { OnErr result (self.new ≡ self.old) }
+    {
+        let Decision { answer, log } = decide(self.alloc, x, y, self.budget, true)?;
+        self.remember(x, y, answer)?;
+        Ok(log)
     }
 
     /// The answer for the ordered pair of two selectors of the profile: the one that is held for it, or else

@@ -1,4 +1,4 @@
-use Rattle.std.proofs.Common.{◌≡◌, ◌<◌, List, Option, subst}
+use Rattle.std.proofs.Common.{◌≡◌, List, Option, subst}
 use Rattle.std.specs.Prelude.{slice_index_or}
 use Rattle.css_model.specs.Documents.FeatureParts.{FeatureParts}
 use Rattle.overlap.proofs.Targets.{misfit_apart}

@@ -1,7 +1,6 @@
-use Rattle.std.proofs.Common.{◌≡◌, List, Some, refl, sym, subst}
-use Rattle.overlap.specs.contracts.pairs.Pairs.{the_view}
+use Rattle.std.proofs.Common.{Some, refl, sym, subst}
 use Rattle.overlap.specs.PairsParts.{PairsParts}
-use Rattle.overlap.specs.Remembered.{Asks, IsTrueList, StandsAt}
+use Rattle.overlap.specs.Remembered.{Asks, StandsAt}
 use Rattle.overlap.proofs.Keeping.{lent_at}
 use Rattle.overlap.proofs.pairs.Pairs.ask.Goals as goal
 

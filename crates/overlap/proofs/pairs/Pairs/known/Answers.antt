@@ -1,4 +1,4 @@
-use Rattle.std.proofs.Common.{rules, ◌≡◌, List, None, sym, subst}
+use Rattle.std.proofs.Common.{rules, ◌≡◌, List, sym, subst}
 use Rattle.overlap.specs.PairsParts.{Answered}
 use Rattle.overlap.specs.Remembered.{IsUnknown, Known}
 use Rattle.overlap.specs.Stored.{answers_of}
