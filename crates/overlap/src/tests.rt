@@ -177,3 +177,33 @@ fn answers_are_of_ordered_pairs(rt: HostRuntime) -> Result<(), Fail> {
     assert!(rt; unknown.is_none());
     Ok(())
 }
+
+/// Whether a log comes with the answer for two selectors, and whether the answer that is held then is that they do
+/// not meet.
+fn logs(rt: &impl Abort, alloc: Global, row: (&str, &str, (bool, bool))) -> Result<(), Fail> {
+    let (first, second, wanted) = row;
+    assert!(rt; first.len() <= 1_000 && second.len() <= 1_000, "a long row");
+    let x = selector(alloc, first.as_bytes()).expect(rt, "a selector");
+    let y = selector(alloc, second.as_bytes()).expect(rt, "a selector");
+    let mut pairs = Pairs::new(alloc, NO_LIMIT);
+    let log = pairs.ask_with_log(&x, &y)?;
+    let apart = matches!(pairs.known(&x, &y), Some(Answer::Apart));
+    assert_eq!(rt; (log.is_some(), apart), wanted, "for {first} and {second}");
+    Ok(())
+}
+
+#[test]
+fn what_the_formula_refutes_is_logged(rt: HostRuntime) -> Result<(), Fail> {
+    let alloc = rt.alloc();
+    for row in [
+        (":nth-child(2n)+p", ":nth-child(2n)", (true, true)),
+        ("a b:link", "b:visited", (true, true)),
+        ("a", "a", (false, false)),
+        ("a>b", "b", (false, false)),
+        ("a:link", "a:visited", (false, true)),
+        ("a>b::before", "b", (false, true)),
+    ] {
+        logs(&rt, alloc, row)?;
+    }
+    Ok(())
+}
