@@ -1,5 +1,5 @@
 -- What a plan holds in code, behind a step and while it works.
-use Rattle.std.proofs.Common.{◌≡◌, ◌⊎◌, ℕ, ◌<◌, ◌≤◌, Bool, true, false, List, [], ◌∷◌, Some, None, length, refl, sym, ap, ◌∙◌, subst, inl, inr, arith}
+use Rattle.std.proofs.Common.{◌≡◌, ◌⊎◌, ℕ, ◌<◌, ◌≤◌, Bool, true, false, List, [], ◌∷◌, Some, length, refl, sym, ap, ◌∙◌, subst, inl, inr, arith}
 use Rattle.std.specs.Prelude.{nat_lt, slice_get, slice_index}
 use Rattle.std.specs.List.{Contains}
 use Rattle.std.proofs.lemmas.Bool.{ltb-true, ltb-false}
@@ -20,7 +20,7 @@ use Rattle.wall_laws.specs.SideBySide.{HasCome}
 use Rattle.hold_laws.specs.Before.{HasBeen, StepsHaveBeen}
 use Rattle.hold_laws.specs.Behind.{GoesOn, HinderedGoesOn}
 use Rattle.hold_laws.specs.Births.{AreBirths, owner}
-use Rattle.hold_laws.specs.Leads.{Holding, IsLed, IsSetAside, IsHeld, GoesOver, ChangesHere}
+use Rattle.hold_laws.specs.Leads.{Lead, Holding, IsLeadOf, IsLed, IsSetAside, IsHeld, GoesOver, ChangesHere}
 use Rattle.hold_laws.specs.Turns.{named, AreLabels, first_turn, FirstTurnIsFirst}
 use Rattle.hold_laws.proofs.Been.{renumbers}
 use Rattle.hold_laws.proofs.Born.{within, owner_stays, old_has_come, old_owners_have_come, later_is_one}
@@ -30,11 +30,15 @@ use Rattle.hold_laws.proofs.Names.{same_name, again, new_first, new_last, not_it
 -- ---- At the start
 
 pub start_held : FirstTurnIsFirst → (answers : List Answered) (source : List ℕ) (items : List Item) (h : Holding) (bound : ℕ) → AreBirths items h.births h.next → AreLabels items h.labels → size source items ≤ bound →
-    h.aside ≡ [] → ((n b : ℕ) → slice_get h.births n ≡ Some b → h.leads b ≡ Some (first_turn bound)) → IsHeld answers source items h
+    h.aside ≡ [] → ((n b : ℕ) → slice_get h.births n ≡ Some b → Contains h.leads (record { turn = first_turn bound; owner = b; alone = false })) → IsHeld answers source items h
 start_held first answers source items h bound births labels long none leads = record {
   births = births;
   labels = labels;
-  held = λ k e n is saves some. inl (first_turn bound, leads (owner h.births k) (slice_index h.births (owner h.births k)) (at k e is), first source items bound long k e n saves h.labels);
+  held = λ k e n is saves some. inl (
+    record { turn = first_turn bound; owner = slice_index h.births (owner h.births k); alone = false },
+    leads (owner h.births k) (slice_index h.births (owner h.births k)) (at k e is),
+    inr (refl, refl, first source items bound long k e n saves h.labels),
+  );
   hinders = λ k e n by is saves some aside. absurd (nothing (record { turn = named h.births n k; by = by }) aside);
   past = λ a aside. absurd (nothing a aside);
 }
@@ -71,17 +75,21 @@ module _ (have_been : StepsHaveBeen) (hindered_on : HinderedGoesOn) (answers : L
       let w : (first_item k < length items) × (last_item k < length items) = within items k e is in
       later_is_one h.births (first_item k) (last_item k) (λ n. Leaves d n × (n < length items)) (others.0, w.0) (others.1, w.1)
 
-  -- what led a step that goes on, or comes no later, leads it still
+  -- what led a step that goes on leads it still
   led_on : (k : Step) (e : Edit) (n : ℕ) → GoesOn items d k e → IsLed h n k → IsLed h' n (renumbered (new_number d items) k)
-  led_on k e n on (t, leads, no_sooner) =
-      let left : Leaves d (owner h.births k) × (owner h.births k < length items) = owner_left k e on.before on.others in
-      let b : ℕ = slice_index h.births (owner h.births k) in
-      let at : slice_get h.births (owner h.births k) ≡ Some b = slice_get-get_or h.births (owner h.births k) 0 (let e = old.births.beside in let l = left.1 in omega (arith, e, l)) in
-      let w : (t' : Turn) × (h'.leads b ≡ Some t') × (IsSooner t t' → ⊥) = over.leads (owner h.births k) b t left.0 at leads in
-      let same : slice_index h'.births (owner h'.births (renumbered (new_number d items) k)) ≡ b =
-      ap (λ m. slice_index h'.births m) (owner_stays items d h.births h'.births h.next old.births over.born k e on.before on.others)
-      ∙ same_name items d h.births h'.births old.births.beside over.born.kept (owner h.births k) left.0 left.1 in
-      (w.0, ap h'.leads same ∙ w.1, λ sooner. not_sooner (named h.labels n k) t w.0 no_sooner w.2 (subst (λ (u : Turn). IsSooner u w.0) (same_labelled k e n on.before on.others) sooner))
+  led_on k e n on (l, among, leads) = (l, over.leads l among, which leads)
+    where
+      left : Leaves d (owner h.births k) × (owner h.births k < length items)
+      left = owner_left k e on.before on.others
+
+      same_owner : slice_index h'.births (owner h'.births (renumbered (new_number d items) k)) ≡ slice_index h.births (owner h.births k)
+      same_owner =
+          ap (λ m. slice_index h'.births m) (owner_stays items d h.births h'.births h.next old.births over.born k e on.before on.others)
+          ∙ same_name items d h.births h'.births old.births.beside over.born.kept (owner h.births k) left.0 left.1
+
+      which : IsLeadOf h l n k → IsLeadOf h' l n (renumbered (new_number d items) k)
+      which (inl same) = inl (same ∙ sym (same_labelled k e n on.before on.others))
+      which (inr (chain, own, no_sooner)) = inr (chain, own ∙ sym same_owner, λ sooner. no_sooner (subst (λ (u : Turn). IsSooner u l.turn) (same_labelled k e n on.before on.others) sooner))
 
   goes_on : (k' : Step) (e' : Edit) → IsStep (edited d items) k' e' → (b : HasBeen source items d k' e') → GoesOn items d b.step b.edit
   goes_on k' e' is b = record { before = b.is_step; others = b.others; behind = renumbers items d k' b.step e' b.edit b.step_is b.edit_is is }
@@ -167,7 +175,7 @@ may_change answers answers' source items h h' among changes old = record {
 
 pub first_taken : HinderedIsBlocked → FirstIsNext → (answers : List Answered) (source : List ℕ) (items : List Item) (h : Holding) → IsHeld answers source items h →
     (k : Step) (e : Edit) (n : ℕ) → IsStep items k e → IsFree answers items e → 0 < n → Saves source items e n →
-    ((b : ℕ) (t : Turn) → h.leads b ≡ Some t → IsSooner t (named h.labels n k) → ⊥) → Takes answers source items (edited e items)
+    ((l : Lead) → Contains h.leads l → IsSooner l.turn (named h.labels n k) → ⊥) → Takes answers source items (edited e items)
 first_taken block next answers source items h held k e n is free some saves first = (k, e, next answers source items (turn_of n k ∷ []) covered k e n is free some saves only, refl)
   where
     only : (t : Turn) → Contains (turn_of n k ∷ []) t → IsSooner t (turn_of n k) → ⊥
@@ -181,20 +189,19 @@ first_taken block next answers source items h held k e n is free some saves firs
     covered i g m step_i saves_i some_i = which (held.held i g m step_i saves_i some_i)
       where
         which : IsLed h m i ⊎ ((by : Hindrance) × IsSetAside h m i by) → IsBlocked answers items g ⊎ ((t : Turn) × Contains (turn_of n k ∷ []) t × (IsSooner (turn_of m i) t → ⊥))
-        which (inl (t, leads, no_sooner)) = inr (
-          turn_of n k,
-          Contains-here (turn_of n k) [],
-          λ sooner. not_sooner (named h.labels m i) t (named h.labels n k) no_sooner (first (slice_index h.births (owner h.births i)) t leads)
-              (sooner_labelled items h.labels held.labels m n i k (within items k e is) sooner),
-        )
+        which (inl (l, among, leads)) = inr (turn_of n k, Contains-here (turn_of n k) [], λ sooner. no_sooner leads (sooner_labelled items h.labels held.labels m n i k (within items k e is) sooner))
+          where
+            no_sooner : IsLeadOf h l m i → IsSooner (named h.labels m i) (named h.labels n k) → ⊥
+            no_sooner (inl same) sooner = first l among (subst (λ (t : Turn). IsSooner t (named h.labels n k)) (sym same) sooner)
+            no_sooner (inr (chain, own, not_before)) sooner = not_sooner (named h.labels m i) l.turn (named h.labels n k) not_before (first l among) sooner
         which (inr (by, aside)) = inl (block answers items g by (held.hinders i g m by step_i saves_i some_i aside))
 
-pub none_left : HinderedIsBlocked → NoneWaitsIsDone → (answers : List Answered) (source : List ℕ) (items : List Item) (h : Holding) → IsHeld answers source items h → ((b : ℕ) → h.leads b ≡ None) → IsDone answers source items
+pub none_left : HinderedIsBlocked → NoneWaitsIsDone → (answers : List Answered) (source : List ℕ) (items : List Item) (h : Holding) → IsHeld answers source items h → h.leads ≡ [] → IsDone answers source items
 none_left block none_waits answers source items h held none = none_waits answers source items covered
   where
     covered : IsCovered answers source items []
     covered i g m step_i saves_i some_i = which (held.held i g m step_i saves_i some_i)
       where
         which : IsLed h m i ⊎ ((by : Hindrance) × IsSetAside h m i by) → IsBlocked answers items g ⊎ ((t : Turn) × Contains [] t × (IsSooner (turn_of m i) t → ⊥))
-        which (inl (t, leads, no_sooner)) = absurd (let e : None ≡ Some t = sym (none (slice_index h.births (owner h.births i))) ∙ leads in cc)
+        which (inl (l, among, leads)) = absurd (Contains-nil l (subst (λ (ls : List Lead). Contains ls l) none among))
         which (inr (by, aside)) = inl (block answers items g by (held.hinders i g m by step_i saves_i some_i aside))

@@ -1,5 +1,5 @@
 -- What a plan holds in code: one turn for all steps of an owner, and what is set aside.
-use Rattle.std.specs.Prelude.{◌≡◌, ◌⊎◌, ℕ, ◌<◌, ◌≤◌, List, [], Option, Some, None, slice_get, slice_index}
+use Rattle.std.specs.Prelude.{◌≡◌, ◌⊎◌, ℕ, ◌<◌, ◌≤◌, Bool, false, List, [], Some, slice_get, slice_index}
 use Rattle.std.specs.List.{Contains}
 use Rattle.css_model.specs.declared.sheet.Item.{Item}
 use Rattle.css_model.specs.Sheets.Sound.{IsSound}
@@ -16,18 +16,28 @@ use Rattle.hold_laws.specs.Behind.{GoesOn}
 use Rattle.hold_laws.specs.Births.{AreBirths, AreBornBehind, owner}
 use Rattle.hold_laws.specs.Turns.{named, AreLabels, first_turn}
 
--- Beside each item its label and its birth; the birth of the next item; by the birth of an owner the turn that
--- leads its steps, which names items by labels; and the turns that are set aside, which name them by births.
+-- A turn that leads the steps of an owner, told by its birth: of those that wait none comes before it. Or it is
+-- the turn of one step, alone. It names items by labels.
+pub record Lead : Type 0 where
+  pub turn : Turn
+  pub owner : ℕ
+  pub alone : Bool
+
+-- Beside each item its label and its birth; the birth of the next item; the turns that lead; and the turns that
+-- are set aside, which name items by births.
 pub record Holding : Type 0 where
   pub labels : List ℕ
   pub births : List ℕ
   pub next : ℕ
-  pub leads : ℕ → Option Turn
+  pub leads : List Lead
   pub aside : List Aside
 
--- the turn of a step's owner leads the step: it does not come later
+-- a turn leads a step: it is the step's own, or it is one of the step's owner that does not come later
+abbrev pub IsLeadOf : Holding → Lead → ℕ → Step → Type 0
+IsLeadOf h l n k = (l.turn ≡ named h.labels n k) ⊎ ((l.alone ≡ false) × (l.owner ≡ slice_index h.births (owner h.births k)) × (IsSooner (named h.labels n k) l.turn → ⊥))
+
 abbrev pub IsLed : Holding → ℕ → Step → Type 0
-IsLed h n k = (t : Turn) × (h.leads (slice_index h.births (owner h.births k)) ≡ Some t) × (IsSooner (named h.labels n k) t → ⊥)
+IsLed h n k = (l : Lead) × Contains h.leads l × IsLeadOf h l n k
 
 -- a step is set aside with what blocks it
 abbrev pub IsSetAside : Holding → ℕ → Step → Hindrance → Type 0
@@ -44,10 +54,10 @@ pub record IsHeld (answers : List Answered) (source : List ℕ) (items : List It
 -- Where nothing is set aside, and each owner has a turn before which no step comes, all is held.
 abbrev pub StartIsHeld : Type 0
 StartIsHeld = (answers : List Answered) (source : List ℕ) (items : List Item) (h : Holding) (bound : ℕ) → AreBirths items h.births h.next → AreLabels items h.labels → size source items ≤ bound →
-    h.aside ≡ [] → ((n b : ℕ) → slice_get h.births n ≡ Some b → h.leads b ≡ Some (first_turn bound)) → IsHeld answers source items h
+    h.aside ≡ [] → ((n b : ℕ) → slice_get h.births n ≡ Some b → Contains h.leads (record { turn = first_turn bound; owner = b; alone = false })) → IsHeld answers source items h
 
 -- What is held of a sheet, and what of the one behind an edit. The items that the edit left keep their labels
--- and births; their turns come no later than before. Of what was set aside that stays which the edit does not
+-- and births, and all turns that led lead. Of what was set aside that stays which the edit does not
 -- touch, and any other step that goes on is led. The steps of owners that were born behind the edit are led.
 pub record GoesOver (source : List ℕ) (items : List Item) (d : Edit) (h h' : Holding) : Type 0 where
   pub births : AreBirths (edited d items) h'.births h'.next
@@ -55,7 +65,7 @@ pub record GoesOver (source : List ℕ) (items : List Item) (d : Edit) (h h' : H
   pub born : AreBornBehind items d h.births h'.births h.next
   pub labels_stay : (n l : ℕ) → Leaves d n → slice_get h.labels n ≡ Some l → slice_get h'.labels (new_number d items n) ≡ Some l
   pub later : h.next ≤ h'.next
-  pub leads : (n b : ℕ) (t : Turn) → Leaves d n → slice_get h.births n ≡ Some b → h.leads b ≡ Some t → (t' : Turn) × (h'.leads b ≡ Some t') × (IsSooner t t' → ⊥)
+  pub leads : (l : Lead) → Contains h.leads l → Contains h'.leads l
   pub made : (k' : Step) (e' : Edit) (n : ℕ) → IsStep (edited d items) k' e' → Saves source (edited d items) e' n → 0 < n →
       h.next ≤ slice_index h'.births (owner h'.births k') → IsLed h' n k'
   pub aside : (k : Step) (e : Edit) (n : ℕ) (by : Hindrance) → GoesOn items d k e → Saves source items e n → 0 < n → IsSetAside h n k by →
@@ -87,8 +97,8 @@ HeldMayChange = (answers answers' : List Answered) (source : List ℕ) (items : 
 abbrev pub FirstLeadIsTaken : Type 0
 FirstLeadIsTaken = (answers : List Answered) (source : List ℕ) (items : List Item) (h : Holding) → IsHeld answers source items h →
     (k : Step) (e : Edit) (n : ℕ) → IsStep items k e → IsFree answers items e → 0 < n → Saves source items e n →
-    ((b : ℕ) (t : Turn) → h.leads b ≡ Some t → IsSooner t (named h.labels n k) → ⊥) → Takes answers source items (edited e items)
+    ((l : Lead) → Contains h.leads l → IsSooner l.turn (named h.labels n k) → ⊥) → Takes answers source items (edited e items)
 
 -- Where no turn leads, nothing is left to do.
 abbrev pub NoLeadIsDone : Type 0
-NoLeadIsDone = (answers : List Answered) (source : List ℕ) (items : List Item) (h : Holding) → IsHeld answers source items h → ((b : ℕ) → h.leads b ≡ None) → IsDone answers source items
+NoLeadIsDone = (answers : List Answered) (source : List ℕ) (items : List Item) (h : Holding) → IsHeld answers source items h → h.leads ≡ [] → IsDone answers source items
