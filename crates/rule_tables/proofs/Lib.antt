@@ -1,0 +1,3 @@
+mod EntrySets
+mod Sharing
+mod Standing

@@ -1,0 +1,147 @@
+-- Which labels are found for a rule.
+use Rattle.std.proofs.Common.{◌≡◌, ◌⊎◌, inl, inr, ℕ, List, [], ◌∷◌, sym, ap, subst, ◌∙◌}
+use Rattle.std.specs.List.{Contains}
+use Rattle.css_model.specs.declared.sheet.DeclItem.{DeclItem}
+use Rattle.css_model.specs.declared.sheet.SelItem.{SelItem}
+use Rattle.css_model.specs.Sheets.RuleParts.{RuleParts}
+use Rattle.css_model.specs.Sheets.StyleRule.{HaveSameSelectors, selectors_of}
+use Rattle.list_facts.proofs.Members.{Contains-cons_cases, Contains-here, Contains-nil, Contains-there}
+use Rattle.rule_tables.specs.declared.entries.Entry.{Entry}
+use Rattle.rule_tables.specs.Digests.{selector_digest, decl_digest}
+use Rattle.rule_tables.specs.Entries.{PutsUnder, entry}
+use Rattle.rule_tables.specs.Tables.{CanBePartners, HaveDigestInCommon, IsUnderOne, Labelled, PutsShared, PutsUnderOne, StandFor, TableParts, decl_digests, entries_by_decl, entries_by_selector, selector_digests}
+use Rattle.rule_tables.specs.Tables.{by_selectors, by_decl}
+use Rattle.rule_tables.proofs.EntrySets.{mapped, unmapped}
+use Rattle.rule_tables.proofs.Standing.{in_flat, of_flat}
+
+-- ---- By one selector, and by declarations
+
+pub shared_by_one : (entries : List Entry) (selectors : List SelItem) (s : SelItem) → Contains selectors s → (old new : List ℕ) → PutsUnder entries (selector_digest s.selector) old new →
+    PutsShared entries (selector_digests selectors) old new
+shared_by_one entries selectors s in_list old new puts = record {
+  keeps = λ label h. (puts label).1 (inl h);
+  shared = λ label h. (puts label).1 (inr (h.1 (selector_digest s.selector) among));
+  only = λ label h. elim ((puts label).0 h) [ inl k ↦ inl k | inr k ↦ inr (selector_digest s.selector, among, k) ];
+}
+  where
+    among : Contains (selector_digests selectors) (selector_digest s.selector)
+    among = mapped (λ (s : SelItem). selector_digest s.selector) selectors s in_list
+
+pub shared_by_none : (entries : List Entry) (selectors : List SelItem) → selectors ≡ [] → (old : List ℕ) → PutsShared entries (selector_digests selectors) old old
+shared_by_none entries selectors is old = record {
+  keeps = λ label h. h;
+  shared = λ label h. absurd (Contains-nil h.0.0 (subst (λ (ss : List SelItem). Contains (selector_digests ss) h.0.0) is h.0.1));
+  only = λ label h. inl h;
+}
+
+one_step : (entries : List Entry) (digest : ℕ) (digests : List ℕ) (a b c : List ℕ) → PutsUnder entries digest a b → PutsUnderOne entries digests b c → PutsUnderOne entries (digest ∷ digests) a c
+one_step entries digest digests a b c f g label = (λ h. there ((g label).0 h), λ h. (g label).1 (back h))
+  where
+    there : Contains b label ⊎ IsUnderOne entries digests label → Contains a label ⊎ IsUnderOne entries (digest ∷ digests) label
+    there (inl h) = elim ((f label).0 h) [ inl k ↦ inl k | inr k ↦ inr (digest, Contains-here digest digests, k) ]
+    there (inr h) = inr (h.0, Contains-there digest digests h.0 h.1, h.2)
+
+    back : Contains a label ⊎ IsUnderOne entries (digest ∷ digests) label → Contains b label ⊎ IsUnderOne entries digests label
+    back (inl h) = inl ((f label).1 (inl h))
+    back (inr h) = elim (Contains-cons_cases digest digests h.0 h.1) [
+      | inl e ↦ inl ((f label).1 (inr (subst (λ (d : ℕ). Contains entries (entry d label)) (sym e) h.2)))
+      | inr r ↦ inr (h.0, r, h.2)
+    ]
+
+pub decls_step : (entries : List Entry) (rest behind : List DeclItem) (first : DeclItem) → rest ≡ first ∷ behind → (a b c : List ℕ) → PutsUnder entries (decl_digest first.decl) a b →
+    PutsUnderOne entries (decl_digests behind) b c → PutsUnderOne entries (decl_digests rest) a c
+decls_step entries rest behind first is a b c f g = subst (λ (ds : List DeclItem). PutsUnderOne entries (decl_digests ds) a c) (sym is) (one_step entries (decl_digest first.decl) (decl_digests behind) a b c f g)
+
+none_under : (entries : List Entry) (a : List ℕ) → PutsUnderOne entries [] a a
+none_under entries a label = (λ h. inl h, back)
+  where
+    back : Contains a label ⊎ IsUnderOne entries [] label → Contains a label
+    back (inl h) = h
+    back (inr h) = absurd (Contains-nil h.0 h.1)
+
+pub decls_end : (entries : List Entry) (rest : List DeclItem) → rest ≡ [] → (a : List ℕ) → PutsUnderOne entries (decl_digests rest) a a
+decls_end entries rest is a = subst (λ (ds : List DeclItem). PutsUnderOne entries (decl_digests ds) a a) (sym is) (none_under entries a)
+
+-- ---- All partners are found, and none but rules that have a digest in common
+
+by_each : (t : TableParts) (rules : List Labelled) (r : RuleParts) (x : Labelled) → StandFor t rules → Contains rules x → HaveSameSelectors r x.rule →
+    (digest : ℕ) → Contains (selector_digests r.selectors) digest → Contains t.selectors (entry digest x.label)
+by_each t rules r x stand in_list same digest h =
+    let i : (s : SelItem) × Contains r.selectors s × (selector_digest s.selector ≡ digest) = unmapped (λ (s : SelItem). selector_digest s.selector) r.selectors digest h in
+    let there : Contains (selectors_of x.rule) i.0.selector = (same i.0.selector).0 (mapped (λ (s : SelItem). s.selector) r.selectors i.0 i.1) in
+    let j : (s : SelItem) × Contains x.rule.selectors s × (s.selector ≡ i.0.selector) = unmapped (λ (s : SelItem). s.selector) x.rule.selectors i.0.selector there in
+    let e : Contains (entries_by_selector x) (entry (selector_digest j.0.selector) x.label) = mapped (λ (s : SelItem). entry (selector_digest s.selector) x.label) x.rule.selectors j.0 j.1 in
+    subst (λ (d : ℕ). Contains t.selectors (entry d x.label)) (ap selector_digest j.2 ∙ i.2)
+    ((stand.selectors (entry (selector_digest j.0.selector) x.label)).1 (in_flat entries_by_selector rules x (entry (selector_digest j.0.selector) x.label) in_list e))
+
+pub partners_found : (t : TableParts) (r : RuleParts) (none some found : List ℕ) → PutsShared t.selectors (selector_digests r.selectors) none some → PutsUnderOne t.decls (decl_digests r.decls) some found →
+    (rules : List Labelled) (x : Labelled) → StandFor t rules → Contains rules x → CanBePartners r x.rule → Contains found x.label
+partners_found t r none some found shared under rules x stand in_list (by_selectors s has same) =
+    let i : (y : SelItem) × Contains r.selectors y × (y.selector ≡ s) = unmapped (λ (y : SelItem). y.selector) r.selectors s has in
+    (under x.label).1 (inl (shared.shared x.label ((selector_digest i.0.selector, mapped (λ (y : SelItem). selector_digest y.selector) r.selectors i.0 i.1), by_each t rules r x stand in_list same)))
+partners_found t r none some found shared under rules x stand in_list (by_decl d has_r has_x) =
+    let i : (y : DeclItem) × Contains r.decls y × (y.decl ≡ d) = unmapped (λ (y : DeclItem). y.decl) r.decls d has_r in
+    let j : (y : DeclItem) × Contains x.rule.decls y × (y.decl ≡ d) = unmapped (λ (y : DeclItem). y.decl) x.rule.decls d has_x in
+    let e : Contains (entries_by_decl x) (entry (decl_digest j.0.decl) x.label) = mapped (λ (y : DeclItem). entry (decl_digest y.decl) x.label) x.rule.decls j.0 j.1 in
+    let k : Contains t.decls (entry (decl_digest j.0.decl) x.label) = (stand.decls (entry (decl_digest j.0.decl) x.label)).1 (in_flat entries_by_decl rules x (entry (decl_digest j.0.decl) x.label) in_list e) in
+    (under x.label).1 (inr (decl_digest i.0.decl, mapped (λ (y : DeclItem). decl_digest y.decl) r.decls i.0 i.1, subst (λ (n : ℕ). Contains t.decls (entry n x.label)) (ap decl_digest (j.2 ∙ sym i.2)) k))
+
+pub only_such : (t : TableParts) (r : RuleParts) (none some found : List ℕ) → none ≡ [] → PutsShared t.selectors (selector_digests r.selectors) none some → PutsUnderOne t.decls (decl_digests r.decls) some found →
+    (rules : List Labelled) (label : ℕ) → StandFor t rules → Contains found label → (x : Labelled) × Contains rules x × (x.label ≡ label) × HaveDigestInCommon r x.rule
+only_such t r none some found empty shared under rules label stand h = by ((under label).0 h)
+  where
+    selectors_case : IsUnderOne t.selectors (selector_digests r.selectors) label → (x : Labelled) × Contains rules x × (x.label ≡ label) × HaveDigestInCommon r x.rule
+    selectors_case u =
+        let x : (y : Labelled) × Contains rules y × Contains (entries_by_selector y) (entry u.0 label) = of_flat entries_by_selector rules (entry u.0 label) ((stand.selectors (entry u.0 label)).0 u.2) in
+        let s : (y : SelItem) × Contains x.0.rule.selectors y × (entry (selector_digest y.selector) x.0.label ≡ entry u.0 label) =
+        unmapped (λ (y : SelItem). entry (selector_digest y.selector) x.0.label) x.0.rule.selectors (entry u.0 label) x.2 in (
+          x.0,
+          x.1,
+          ap (λ (e : Entry). e.label) s.2,
+          inl (
+            u.0,
+            u.1,
+            subst (Contains (selector_digests x.0.rule.selectors)) (ap (λ (e : Entry). e.digest) s.2)
+                (mapped (λ (y : SelItem). selector_digest y.selector) x.0.rule.selectors s.0 s.1),
+          ),
+        )
+
+    decls_case : IsUnderOne t.decls (decl_digests r.decls) label → (x : Labelled) × Contains rules x × (x.label ≡ label) × HaveDigestInCommon r x.rule
+    decls_case u =
+        let x : (y : Labelled) × Contains rules y × Contains (entries_by_decl y) (entry u.0 label) = of_flat entries_by_decl rules (entry u.0 label) ((stand.decls (entry u.0 label)).0 u.2) in
+        let s : (y : DeclItem) × Contains x.0.rule.decls y × (entry (decl_digest y.decl) x.0.label ≡ entry u.0 label) =
+        unmapped (λ (y : DeclItem). entry (decl_digest y.decl) x.0.label) x.0.rule.decls (entry u.0 label) x.2 in (
+          x.0,
+          x.1,
+          ap (λ (e : Entry). e.label) s.2,
+          inr (
+            u.0,
+            u.1,
+            subst (Contains (decl_digests x.0.rule.decls)) (ap (λ (e : Entry). e.digest) s.2)
+                (mapped (λ (y : DeclItem). decl_digest y.decl) x.0.rule.decls s.0 s.1),
+          ),
+        )
+
+    by : Contains some label ⊎ IsUnderOne t.decls (decl_digests r.decls) label → (x : Labelled) × Contains rules x × (x.label ≡ label) × HaveDigestInCommon r x.rule
+    by (inl k) = elim (shared.only label k) [ inl m ↦ absurd (Contains-nil label (subst (λ (ls : List ℕ). Contains ls label) empty m)) | inr m ↦ selectors_case m ]
+    by (inr k) = decls_case k
+
+-- ---- As the code has the parts
+
+module _ (t : TableParts) (r : RuleParts) (a b : List Entry) (ss : List SelItem) (ds : List DeclItem)
+    (is_a : a ≡ t.selectors) (is_b : b ≡ t.decls) (is_ss : ss ≡ r.selectors) (is_ds : ds ≡ r.decls) (none some found list : List ℕ) (is_list : list ≡ found) where
+  shared_there : PutsShared a (selector_digests ss) none some → PutsShared t.selectors (selector_digests r.selectors) none some
+  shared_there h = subst (λ (o : List Entry). PutsShared o (selector_digests r.selectors) none some) is_a (subst (λ (zs : List SelItem). PutsShared a (selector_digests zs) none some) is_ss h)
+
+  under_there : PutsUnderOne b (decl_digests ds) some found → PutsUnderOne t.decls (decl_digests r.decls) some found
+  under_there h = subst (λ (o : List Entry). PutsUnderOne o (decl_digests r.decls) some found) is_b (subst (λ (zs : List DeclItem). PutsUnderOne b (decl_digests zs) some found) is_ds h)
+
+  pub all_listed : PutsShared a (selector_digests ss) none some → PutsUnderOne b (decl_digests ds) some found →
+      (rules : List Labelled) (x : Labelled) → StandFor t rules → Contains rules x → CanBePartners r x.rule → Contains list x.label
+  all_listed shared under rules x stand in_list can =
+      subst (λ (ls : List ℕ). Contains ls x.label) (sym is_list) (partners_found t r none some found (shared_there shared) (under_there under) rules x stand in_list can)
+
+  pub only_listed : none ≡ [] → PutsShared a (selector_digests ss) none some → PutsUnderOne b (decl_digests ds) some found →
+      (rules : List Labelled) (label : ℕ) → StandFor t rules → Contains list label → (x : Labelled) × Contains rules x × (x.label ≡ label) × HaveDigestInCommon r x.rule
+  only_listed empty shared under rules label stand h =
+      only_such t r none some found empty (shared_there shared) (under_there under) rules label stand (subst (λ (ls : List ℕ). Contains ls label) is_list h)

@@ -1,0 +1,218 @@
+-- Tables while rules come and go.
+use Rattle.std.proofs.Common.{◌≡◌, ◌↔◌, ◌⊎◌, inl, inr, ℕ, List, [], ◌∷◌, ◌++◌, refl, sym, ap, subst, ◌∙◌}
+use Rattle.std.specs.List.{Contains, flat_map}
+use Rattle.std.proofs.lemmas.List.Elements.{Contains-append_cases, Contains-append_left, Contains-append_right}
+use Rattle.css_model.specs.declared.sheet.DeclItem.{DeclItem}
+use Rattle.css_model.specs.declared.sheet.Item.{Item}
+use Rattle.css_model.specs.declared.sheet.Item.TheVariants.{Rule, KeptRule, KeptBlock}
+use Rattle.css_model.specs.declared.sheet.SelItem.{SelItem}
+use Rattle.css_model.specs.Sheets.RuleParts.{RuleParts}
+use Rattle.list_facts.proofs.Members.{Contains-cons_cases, Contains-here, Contains-nil, Contains-there}
+use Rattle.rule_tables.specs.declared.entries.Entry.{Entry}
+use Rattle.rule_tables.specs.Entries.{Puts, PutsSome, Takes, decl_entries, selector_entries}
+use Rattle.rule_tables.specs.Tables.{IsUnused, Labelled, PutsRule, PutsRules, PutsSomeOf, StandFor, TableParts, TakesRule, entries_by_decl, entries_by_selector, labelled, with_label}
+use Rattle.rule_tables.proofs.EntrySets.{unmapped}
+
+-- ---- Lists of entries, by the rules that they come from
+
+module _ {S X : Type 0} (f : S → List X) where
+  pub in_flat : (xs : List S) (x : S) (e : X) → Contains xs x → Contains (f x) e → Contains (flat_map f xs) e
+  in_flat [] x e h k = absurd (Contains-nil x h)
+  in_flat (y ∷ ys) x e h k = elim (Contains-cons_cases y ys x h) [
+    | inl is ↦ Contains-append_left (f y) (flat_map f ys) e (subst (λ (z : S). Contains (f z) e) (sym is) k)
+    | inr r ↦ Contains-append_right (f y) (flat_map f ys) e (in_flat ys x e r k)
+  ]
+
+  pub of_flat : (xs : List S) (e : X) → Contains (flat_map f xs) e → (x : S) × Contains xs x × Contains (f x) e
+  of_flat [] e h = absurd (Contains-nil e h)
+  of_flat (y ∷ ys) e h = elim (Contains-append_cases (f y) (flat_map f ys) e h) [
+    | inl l ↦ (y, Contains-here y ys, l)
+    | inr r ↦ (let k : (x : S) × Contains ys x × Contains (f x) e = of_flat ys e r in (k.0, Contains-there y ys k.0 k.1, k.2))
+  ]
+
+-- one of two kinds of entries: all that holds of both
+module _ (f : Labelled → List Entry) (labels : (x : Labelled) (e : Entry) → Contains (f x) e → e.label ≡ x.label) where
+  apart : (label : ℕ) (rules : List Labelled) → IsUnused label rules → (e : Entry) → Contains (flat_map f rules) e → e.label ≡ label → ⊥
+  apart label [] unused e h is = Contains-nil e h
+  apart label (x ∷ rules) unused e h is = elim (Contains-append_cases (f x) (flat_map f rules) e h) [
+    | inl l ↦ unused.0 (sym (labels x e l) ∙ is)
+    | inr r ↦ apart label rules unused.1 e r is
+  ]
+
+  came : (old new : List Entry) (x : Labelled) (rules : List Labelled) → Puts old (f x) new → ((e : Entry) → Contains old e ↔ Contains (flat_map f rules) e) →
+      (e : Entry) → Contains new e ↔ Contains (flat_map f (x ∷ rules)) e
+  came old new x rules puts stands e = (λ h. there ((puts e).0 h), λ h. (puts e).1 (back (Contains-append_cases (f x) (flat_map f rules) e h)))
+    where
+      there : Contains old e ⊎ Contains (f x) e → Contains (flat_map f (x ∷ rules)) e
+      there (inl h) = Contains-append_right (f x) (flat_map f rules) e ((stands e).0 h)
+      there (inr h) = Contains-append_left (f x) (flat_map f rules) e h
+
+      back : Contains (f x) e ⊎ Contains (flat_map f rules) e → Contains old e ⊎ Contains (f x) e
+      back (inl h) = inr h
+      back (inr h) = inl ((stands e).1 h)
+
+  went : (old new : List Entry) (x : Labelled) (rules : List Labelled) → IsUnused x.label rules → Takes old (f x) new → ((e : Entry) → Contains old e → Contains (f x) e ⊎ Contains (flat_map f rules) e) →
+      ((e : Entry) → Contains (flat_map f rules) e → Contains old e) → (e : Entry) → Contains new e ↔ Contains (flat_map f rules) e
+  went old new x rules unused takes only all e = (there, back)
+    where
+      there : Contains new e → Contains (flat_map f rules) e
+      there h = elim (only e ((takes e).0 h).0) [ inl l ↦ absurd (((takes e).0 h).1 l) | inr r ↦ r ]
+
+      back : Contains (flat_map f rules) e → Contains new e
+      back h = (takes e).1 (all e h, λ k. apart x.label rules unused e h (labels x e k))
+
+selector_labels : (x : Labelled) (e : Entry) → Contains (entries_by_selector x) e → e.label ≡ x.label
+selector_labels x e h = ap (λ (z : Entry). z.label) (sym (unmapped _ x.rule.selectors e h).2)
+
+decl_labels : (x : Labelled) (e : Entry) → Contains (entries_by_decl x) e → e.label ≡ x.label
+decl_labels x e h = ap (λ (z : Entry). z.label) (sym (unmapped _ x.rule.decls e h).2)
+
+pub inserted : (old new : TableParts) (r : RuleParts) (label : ℕ) → PutsRule old r label new → (rules : List Labelled) → StandFor old rules → StandFor new (with_label r label ∷ rules)
+inserted old new r label puts rules stand = record {
+  selectors = came entries_by_selector selector_labels old.selectors new.selectors (with_label r label) rules puts.selectors stand.selectors;
+  decls = came entries_by_decl decl_labels old.decls new.decls (with_label r label) rules puts.decls stand.decls;
+}
+
+pub removed : (old new : TableParts) (r : RuleParts) (label : ℕ) → TakesRule old r label new → (rules : List Labelled) → StandFor old (with_label r label ∷ rules) → IsUnused label rules → StandFor new rules
+removed old new r label takes rules stand unused = record {
+  selectors = went entries_by_selector selector_labels old.selectors new.selectors (with_label r label) rules unused takes.selectors
+      (λ e h. Contains-append_cases (entries_by_selector (with_label r label)) (flat_map entries_by_selector rules) e ((stand.selectors e).0 h))
+      (λ e h. (stand.selectors e).1 (Contains-append_right (entries_by_selector (with_label r label)) (flat_map entries_by_selector rules) e h));
+  decls = went entries_by_decl decl_labels old.decls new.decls (with_label r label) rules unused takes.decls
+      (λ e h. Contains-append_cases (entries_by_decl (with_label r label)) (flat_map entries_by_decl rules) e ((stand.decls e).0 h))
+      (λ e h. (stand.decls e).1 (Contains-append_right (entries_by_decl (with_label r label)) (flat_map entries_by_decl rules) e h));
+}
+
+other_way : {A B C : Type 0} → (A → B) → A ⊎ C → C ⊎ B
+other_way f (inl a) = inr (f a)
+other_way f (inr c) = inl c
+
+pub undone : (old between new : TableParts) (r : RuleParts) (label : ℕ) → PutsSomeOf old r label between → TakesRule between r label new →
+    (rules : List Labelled) → StandFor old rules → IsUnused label rules → StandFor new rules
+undone old between new r label puts takes rules stand unused = record {
+  selectors = went entries_by_selector selector_labels between.selectors new.selectors (with_label r label) rules unused takes.selectors
+      (λ e h. other_way (stand.selectors e).0 ((puts.selectors e).1 h)) (λ e h. (puts.selectors e).0 ((stand.selectors e).1 h));
+  decls = went entries_by_decl decl_labels between.decls new.decls (with_label r label) rules unused takes.decls
+      (λ e h. other_way (stand.decls e).0 ((puts.decls e).1 h)) (λ e h. (puts.decls e).0 ((stand.decls e).1 h));
+}
+
+-- ---- Rule by rule
+
+puts_both : (f : Labelled → List Entry) (a b c : List Entry) (first rest : List Labelled) → Puts a (flat_map f first) b → Puts b (flat_map f rest) c → Puts a (flat_map f (first ++ rest)) c
+puts_both f a b c [] rest g h e = (λ k. there ((h e).0 k), λ k. (h e).1 (back k))
+  where
+    there : Contains b e ⊎ Contains (flat_map f rest) e → Contains a e ⊎ Contains (flat_map f rest) e
+    there (inl k) = elim ((g e).0 k) [ inl m ↦ inl m | inr m ↦ absurd (Contains-nil e m) ]
+    there (inr k) = inr k
+
+    back : Contains a e ⊎ Contains (flat_map f rest) e → Contains b e ⊎ Contains (flat_map f rest) e
+    back (inl k) = inl ((g e).1 (inl k))
+    back (inr k) = inr k
+puts_both f a b c (x ∷ first) rest g h e = (λ k. there ((h e).0 k), λ k. (h e).1 (back k))
+  where
+    there : Contains b e ⊎ Contains (flat_map f rest) e → Contains a e ⊎ Contains (flat_map f (x ∷ first ++ rest)) e
+    there (inl k) = elim ((g e).0 k) [
+      | inl m ↦ inl m
+      | inr m ↦ (let n : (y : Labelled) × Contains (x ∷ first) y × Contains (f y) e = of_flat f (x ∷ first) e m in inr (in_flat f (x ∷ first ++ rest) n.0 e (Contains-append_left (x ∷ first) rest n.0 n.1) n.2))
+    ]
+    there (inr k) = (let n : (y : Labelled) × Contains rest y × Contains (f y) e = of_flat f rest e k in inr (in_flat f (x ∷ first ++ rest) n.0 e (Contains-append_right (x ∷ first) rest n.0 n.1) n.2))
+
+    back : Contains a e ⊎ Contains (flat_map f (x ∷ first ++ rest)) e → Contains b e ⊎ Contains (flat_map f rest) e
+    back (inl k) = inl ((g e).1 (inl k))
+    back (inr k) =
+        let n : (y : Labelled) × Contains (x ∷ first ++ rest) y × Contains (f y) e = of_flat f (x ∷ first ++ rest) e k in
+        elim (Contains-append_cases (x ∷ first) rest n.0 n.1) [
+          | inl m ↦ inl ((g e).1 (inr (in_flat f (x ∷ first) n.0 e m n.2)))
+          | inr m ↦ inr (in_flat f rest n.0 e m n.2)
+        ]
+
+abbrev one_item : Item → ℕ → List Labelled
+one_item x label = labelled (x ∷ []) (label ∷ [])
+
+item_first : (x : Item) (items : List Item) (label : ℕ) (labels : List ℕ) → labelled (x ∷ items) (label ∷ labels) ≡ one_item x label ++ labelled items labels
+item_first (Rule r) items label labels = refl
+item_first (KeptRule k) items label labels = refl
+item_first (KeptBlock piece) items label labels = refl
+
+pub next_item : (items behind : List Item) (x : Item) (labels behind_labels : List ℕ) (label : ℕ) → items ≡ x ∷ behind → labels ≡ label ∷ behind_labels → (a b c : TableParts) →
+    PutsRules a (labelled (x ∷ []) (label ∷ [])) b → PutsRules b (labelled behind behind_labels) c → PutsRules a (labelled items labels) c
+next_item items behind x labels behind_labels label is_items is_labels a b c g h =
+    subst (λ (xs : List Item). PutsRules a (labelled xs labels) c) (sym is_items)
+    (subst (λ (ls : List ℕ). PutsRules a (labelled (x ∷ behind) ls) c) (sym is_labels)
+    (subst (λ (rules : List Labelled). PutsRules a rules c) (sym (item_first x behind label behind_labels)) (record {
+      selectors = puts_both entries_by_selector a.selectors b.selectors c.selectors (one_item x label) (labelled behind behind_labels) g.selectors h.selectors;
+      decls = puts_both entries_by_decl a.decls b.decls c.decls (one_item x label) (labelled behind behind_labels) g.decls h.decls;
+    })))
+
+puts_same : {X : Type 0} (a : List X) → Puts a [] a
+puts_same {X} a x = (λ h. inl h, back)
+  where
+    back : Contains a x ⊎ Contains [] x → Contains a x
+    back (inl h) = h
+    back (inr h) = absurd (Contains-nil x h)
+
+pub no_rules : (a : TableParts) (rules : List Labelled) → rules ≡ [] → PutsRules a rules a
+no_rules a rules is = subst (λ (xs : List Labelled). PutsRules a xs a) (sym is) (record { selectors = puts_same a.selectors; decls = puts_same a.decls })
+
+pub no_items : (a : TableParts) (items : List Item) (labels : List ℕ) → items ≡ [] → PutsRules a (labelled items labels) a
+no_items a items labels is = no_rules a (labelled items labels) (ap (λ (xs : List Item). labelled xs labels) is)
+
+no_label : (items : List Item) → labelled items [] ≡ []
+no_label [] = refl
+no_label (x ∷ items) = refl
+
+pub no_labels : (a : TableParts) (items : List Item) (labels : List ℕ) → labels ≡ [] → PutsRules a (labelled items labels) a
+no_labels a items labels is = no_rules a (labelled items labels) (ap (labelled items) is ∙ no_label items)
+
+from_nothing : (f : Labelled → List Entry) (new : List Entry) (rules : List Labelled) → Puts [] (flat_map f rules) new → (e : Entry) → Contains new e ↔ Contains (flat_map f rules) e
+from_nothing f new rules puts e = (λ h. elim ((puts e).0 h) [ inl k ↦ absurd (Contains-nil e k) | inr k ↦ k ], λ h. (puts e).1 (inr h))
+
+pub made : (old new : TableParts) (rules : List Labelled) → old.selectors ≡ [] → old.decls ≡ [] → PutsRules old rules new → StandFor new rules
+made old new rules no_selectors no_decls puts = record {
+  selectors = from_nothing entries_by_selector new.selectors rules (subst (λ (es : List Entry). Puts es (flat_map entries_by_selector rules) new.selectors) no_selectors puts.selectors);
+  decls = from_nothing entries_by_decl new.decls rules (subst (λ (es : List Entry). Puts es (flat_map entries_by_decl rules) new.decls) no_decls puts.decls);
+}
+
+-- the entries of one rule
+one_flat : (f : Labelled → List Entry) (x : Labelled) (a b : List Entry) → Puts a (f x) b → Puts a (flat_map f (x ∷ [])) b
+one_flat f x a b g e = (λ h. there ((g e).0 h), λ h. (g e).1 (back h))
+  where
+    there : Contains a e ⊎ Contains (f x) e → Contains a e ⊎ Contains (flat_map f (x ∷ [])) e
+    there (inl h) = inl h
+    there (inr h) = inr (in_flat f (x ∷ []) x e (Contains-here x []) h)
+
+    back : Contains a e ⊎ Contains (flat_map f (x ∷ [])) e → Contains a e ⊎ Contains (f x) e
+    back (inl h) = inl h
+    back (inr h) = elim (Contains-append_cases (f x) [] e h) [ inl k ↦ inr k | inr k ↦ absurd (Contains-nil e k) ]
+
+pub rule_as_item : (a b : TableParts) (r : RuleParts) (label : ℕ) (x : Item) → x ≡ Rule r → PutsRule a r label b → PutsRules a (labelled (x ∷ []) (label ∷ [])) b
+rule_as_item a b r label x is puts = subst (λ (y : Item). PutsRules a (labelled (y ∷ []) (label ∷ [])) b) (sym is) (record {
+  selectors = one_flat entries_by_selector (with_label r label) a.selectors b.selectors puts.selectors;
+  decls = one_flat entries_by_decl (with_label r label) a.decls b.decls puts.decls;
+})
+
+-- ---- As the code has the parts
+
+module _ {S : Type 0} (R : List Entry → List Entry → List Entry → Type 0) (f : List S → List Entry) where
+  along : (a b c : List Entry) (xs ys : List S) → a ≡ b → xs ≡ ys → R a (f xs) c → R b (f ys) c
+  along a b c xs ys e d h = subst (λ (o : List Entry). R o (f ys) c) e (subst (λ (zs : List S). R a (f zs) c) d h)
+
+module _ (old new : TableParts) (r : RuleParts) (label : ℕ) (a b : List Entry) (ss : List SelItem) (ds : List DeclItem)
+    (is_a : a ≡ old.selectors) (is_b : b ≡ old.decls) (is_ss : ss ≡ r.selectors) (is_ds : ds ≡ r.decls) where
+  pub rule_put : Puts a (selector_entries label ss) new.selectors → Puts b (decl_entries label ds) new.decls → PutsRule old r label new
+  rule_put g h = record {
+    selectors = along Puts (selector_entries label) a old.selectors new.selectors ss r.selectors is_a is_ss g;
+    decls = along Puts (decl_entries label) b old.decls new.decls ds r.decls is_b is_ds h;
+  }
+
+  pub rule_partly_put : PutsSome a (selector_entries label ss) new.selectors → PutsSome b (decl_entries label ds) new.decls → PutsSomeOf old r label new
+  rule_partly_put g h = record {
+    selectors = along PutsSome (selector_entries label) a old.selectors new.selectors ss r.selectors is_a is_ss g;
+    decls = along PutsSome (decl_entries label) b old.decls new.decls ds r.decls is_b is_ds h;
+  }
+
+  pub rule_taken : Takes a (selector_entries label ss) new.selectors → Takes b (decl_entries label ds) new.decls → TakesRule old r label new
+  rule_taken g h = record {
+    selectors = along Takes (selector_entries label) a old.selectors new.selectors ss r.selectors is_a is_ss g;
+    decls = along Takes (decl_entries label) b old.decls new.decls ds r.decls is_b is_ds h;
+  }

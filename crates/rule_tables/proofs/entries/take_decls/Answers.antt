@@ -1,0 +1,17 @@
+use Rattle.std.proofs.Common.{◌≡◌, ℕ, ap}
+use Rattle.std.proofs.lemmas.List.{nil_from_length}
+use Rattle.css_model.specs.declared.sheet.DeclItem.{DeclItem}
+use Rattle.rule_tables.specs.Digests.{decl_digest}
+use Rattle.rule_tables.specs.Entries.{entry}
+use Rattle.rule_tables.proofs.EntrySets.{takes_end, takes_step}
+use Rattle.rule_tables.proofs.entries.take_decls.Goals as goal
+
+pub rest-preserved : goal.rest-preserved
+rest-preserved c =
+    let is : entry c.from-digest.result c.args.label ≡ entry (decl_digest c.in-Some.first.now.decl) c.args.label = ap (λ (d : ℕ). entry d c.args.label) (let e : c.from-digest.result ≡ decl_digest c.in-Some.first.now.decl = cc in e) in
+    λ final h. c.rest.invariant final (takes_step (λ (x : DeclItem). entry (decl_digest x.decl) c.args.label) c.rest.rest.now c.in-Some.behind.now c.in-Some.first.now c.in-Some.ensures.cases.0
+    c.rest.entries.keys c.take.new.entries.keys final (entry c.from-digest.result c.args.label) is c.take.ensures h)
+
+pub returns : goal.returns
+returns c =
+    c.rest.invariant c.rest.entries.keys (takes_end (λ (x : DeclItem). entry (decl_digest x.decl) c.args.label) c.rest.rest.now (nil_from_length c.rest.rest.now (rw c.in_default.is at c.split_first.ensures.cases)) c.rest.entries.keys)

@@ -1,0 +1,11 @@
+use Rattle.std.proofs.Common.{◌∙◌, ap}
+use Rattle.css_model.specs.Sheets.RuleParts.{RuleParts}
+use Rattle.rule_tables.specs.Tables.{TableParts}
+use Rattle.rule_tables.proofs.Standing.{rule_taken}
+use Rattle.rule_tables.proofs.tables.Tables.take_rule.Goals as goal
+
+pub returns : goal.returns
+returns c =
+    rule_taken c.args.self.now (record { selectors = c.take_selectors.new.entries.keys; decls = c.take_decls.new.entries.keys }) c.args.rule.now c.args.label
+    c.self.inside.selectors.keys c.self.inside.decls.keys c.deref.result.now c.deref-2.result.now (ap (λ (t : TableParts). t.selectors) c.self.view_is) (ap (λ (t : TableParts). t.decls) c.self.view_is) (c.deref.ensures.value ∙ ap (λ (r : RuleParts). r.selectors) c.rule.view_is) (c.deref-2.ensures.value ∙ ap (λ (r : RuleParts). r.decls) c.rule.view_is)
+    c.take_selectors.ensures c.take_decls.ensures

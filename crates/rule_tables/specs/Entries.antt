@@ -1,0 +1,34 @@
+-- The entries of the tables (own): for each part of a rule its digest, with the label of the rule.
+use Rattle.std.specs.Prelude.{◌↔◌, ◌⊎◌, ℕ, List, map}
+use Rattle.std.specs.List.{Contains}
+use Rattle.css_model.specs.declared.sheet.DeclItem.{DeclItem}
+use Rattle.css_model.specs.declared.sheet.SelItem.{SelItem}
+use Rattle.rule_tables.specs.declared.entries.Entry.{Entry}
+use Rattle.rule_tables.specs.Digests.{selector_digest, decl_digest}
+
+abbrev pub entry : ℕ → ℕ → Entry
+entry digest label = record { digest = digest; label = label }
+
+abbrev pub selector_entries : ℕ → List SelItem → List Entry
+selector_entries label selectors = map (λ s. entry (selector_digest s.selector) label) selectors
+
+abbrev pub decl_entries : ℕ → List DeclItem → List Entry
+decl_entries label decls = map (λ d. entry (decl_digest d.decl) label) decls
+
+-- ---- Changes of a set, by the lists of what it has
+
+-- the new set has the old elements and these
+abbrev pub Puts : {X : Type 0} → List X → List X → List X → Type 0
+Puts {X} old more new = (x : X) → Contains new x ↔ (Contains old x ⊎ Contains more x)
+
+-- the new set has the old elements, and else none but these
+abbrev pub PutsSome : {X : Type 0} → List X → List X → List X → Type 0
+PutsSome {X} old more new = (x : X) → (Contains old x → Contains new x) × (Contains new x → Contains old x ⊎ Contains more x)
+
+-- the new set has the old elements but these
+abbrev pub Takes : {X : Type 0} → List X → List X → List X → Type 0
+Takes {X} old gone new = (x : X) → Contains new x ↔ (Contains old x × (Contains gone x → ⊥))
+
+-- the new set of labels has the old ones and those that stand under a digest
+abbrev pub PutsUnder : List Entry → ℕ → List ℕ → List ℕ → Type 0
+PutsUnder entries digest old new = (label : ℕ) → Contains new label ↔ (Contains old label ⊎ Contains entries (entry digest label))
