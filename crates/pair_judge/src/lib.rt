@@ -1,0 +1,7 @@
+//! The judge of a plan that decides by answers for pairs of selectors.
+#![tactic(auto)]
+
+mod judge;
+mod judging;
+
+pub use judge::PairJudge;
