@@ -1,0 +1,219 @@
+-- Leads in order, and sets of them.
+use Rattle.std.proofs.Common.{◌≡◌, ◌⊎◌, ℕ, ◌<◌, Bool, true, false, List, [], ◌∷◌, map, Option, Some, None, refl, sym, ap, ap₂, ◌∙◌, subst, inl, inr, arith}
+use Rattle.std.specs.Prelude.{IfSome}
+use Rattle.std.specs.List.{All, Contains}
+use Rattle.std.specs.BTreeMap.Range.{IsLtBy}
+use Rattle.std.specs.declared.cmp.Ordering.{Ordering}
+use Rattle.std.specs.declared.cmp.Ordering.TheVariants.{Less, Equal, Greater}
+use Rattle.std.specs.Ordering.{nat_cmp, bool_cmp, ordering_then, match_ordering}
+use Rattle.std.specs.BTreeSet.{insert_key}
+use Rattle.std.proofs.lemmas.Bool.{false≢true}
+use Rattle.std.proofs.lemmas.Bool.Decides.{nat_tests}
+use Rattle.std.proofs.lemmas.List.Elements.{All-contains}
+use Rattle.css_model.specs.Cascade.Winner.{exceeds}
+use Rattle.hold_laws.specs.Leads as held
+use Rattle.lead_plan.specs.contracts.lead.KindOrd.TheImpl as kind_ord
+use Rattle.lead_plan.specs.contracts.lead.LeadOrd.TheImpl as lead_ord
+use Rattle.lead_plan.specs.declared.lead.Kind.{Kind}
+use Rattle.lead_plan.specs.declared.lead.Kind.TheVariants.{DeclCut, SelCut, SelJoinUp, SelJoinDown, DeclJoinUp, DeclJoinDown, Sharing}
+use Rattle.lead_plan.specs.declared.lead.Lead.{Lead}
+use Rattle.lead_plan.specs.Told.{step_of_kind, lead_told}
+use Rattle.list_facts.proofs.Members.{Contains-here, Contains-there, Contains-nil, Contains-cons_cases}
+use Rattle.order_laws.proofs.ForCallers.{map_from}
+use Rattle.plan_laws.specs.Cover.{Turn, IsSooner}
+use Rattle.hold_laws.specs.Turns.{TurnsAreOrdered}
+use Rattle.step_laws.specs.Steps.{rank}
+use Rattle.wall_laws.specs.Holding.{turn_of}
+
+abbrev kind_cmp : Kind → Kind → Ordering
+kind_cmp = (kind_ord.ghosts).cmp
+
+abbrev lead_cmp : Lead → Lead → Ordering
+lead_cmp = (lead_ord.ghosts).cmp
+
+-- ---- Kinds
+
+abbrev kind_number : Kind → ℕ
+kind_number DeclCut = 0
+kind_number SelCut = 1
+kind_number SelJoinUp = 2
+kind_number SelJoinDown = 3
+kind_number DeclJoinUp = 4
+kind_number DeclJoinDown = 5
+kind_number Sharing = 6
+
+kinds : (a b : Kind) → kind_cmp a b ≡ nat_cmp (kind_number a) (kind_number b)
+kinds DeclCut DeclCut = refl
+kinds SelCut SelCut = refl
+kinds SelJoinUp SelJoinUp = refl
+kinds SelJoinDown SelJoinDown = refl
+kinds DeclJoinUp DeclJoinUp = refl
+kinds DeclJoinDown DeclJoinDown = refl
+kinds Sharing Sharing = refl
+kinds a b = refl
+
+same_kind : (a b : Kind) → kind_number a ≡ kind_number b → a ≡ b
+same_kind DeclCut DeclCut e = refl
+same_kind SelCut SelCut e = refl
+same_kind SelJoinUp SelJoinUp e = refl
+same_kind SelJoinDown SelJoinDown e = refl
+same_kind DeclJoinUp DeclJoinUp e = refl
+same_kind DeclJoinDown DeclJoinDown e = refl
+same_kind Sharing Sharing e = refl
+same_kind a b e = absurd (omega (arith, e))
+
+rank_of : (k : Kind) (x y : ℕ) → rank (step_of_kind k x y) ≡ kind_number k ∷ x ∷ y ∷ []
+rank_of DeclCut x y = refl
+rank_of SelCut x y = refl
+rank_of SelJoinUp x y = refl
+rank_of SelJoinDown x y = refl
+rank_of DeclJoinUp x y = refl
+rank_of DeclJoinDown x y = refl
+rank_of Sharing x y = refl
+
+-- ---- The order of leads
+
+above : (x y : ℕ) → y < x → nat_cmp x y ≡ Greater
+above x y h = grind (arith, nat_tests)
+
+same : (x y : ℕ) → x ≡ y → nat_cmp x y ≡ Equal
+same x y e = grind (arith, nat_tests)
+
+is_same : (x y : ℕ) → nat_cmp x y ≡ Equal → x ≡ y
+is_same x y e = grind (arith, nat_tests)
+
+exceeding : (x y : ℕ) (xs ys : List ℕ) → exceeds (x ∷ xs) (y ∷ ys) ≡ true → (y < x) ⊎ ((x ≡ y) × (exceeds xs ys ≡ true))
+exceeding x y xs ys h = grind (arith, nat_tests)
+
+one_on : (x y : ℕ) (o : Ordering) (xs ys : List ℕ) → ordering_then (nat_cmp x y) o ≡ Less → exceeds (x ∷ xs) (y ∷ ys) ≡ true → (o ≡ Less) × (exceeds xs ys ≡ true)
+one_on x y o xs ys less over = which (exceeding x y xs ys over)
+  where
+    which : (y < x) ⊎ ((x ≡ y) × (exceeds xs ys ≡ true)) → (o ≡ Less) × (exceeds xs ys ≡ true)
+    which (inl h) = absurd (let e : Greater ≡ Less = sym (ap (λ z. ordering_then z o) (above x y h)) ∙ less in cc)
+    which (inr h) = (sym (ap (λ z. ordering_then z o) (same x y h.0)) ∙ less, h.1)
+
+-- a lead does not come before a smaller one
+pub not_before : (a b : Lead) → lead_cmp a b ≡ Less → IsSooner (lead_told b).turn (lead_told a).turn → ⊥
+not_before a b less (inl more) = let e : Greater ≡ Less = sym (ap (λ z. ordering_then z (ordering_then (kind_cmp a.kind b.kind) (ordering_then (nat_cmp a.first b.first) (ordering_then (nat_cmp a.second b.second) (ordering_then (nat_cmp a.owner b.owner) (bool_cmp a.alone b.alone)))))) (above b.saving.0 a.saving.0 more)) ∙ less in absurd (cc)
+not_before a b less (inr (equal, over)) = false≢true last.1
+  where
+    by_kind : ordering_then (kind_cmp a.kind b.kind) (ordering_then (nat_cmp a.first b.first) (ordering_then (nat_cmp a.second b.second) (ordering_then (nat_cmp a.owner b.owner) (bool_cmp a.alone b.alone)))) ≡ Less
+    by_kind = sym (ap (λ z. ordering_then z (ordering_then (kind_cmp a.kind b.kind) (ordering_then (nat_cmp a.first b.first) (ordering_then (nat_cmp a.second b.second) (ordering_then (nat_cmp a.owner b.owner) (bool_cmp a.alone b.alone)))))) (same b.saving.0 a.saving.0 equal)) ∙ less
+
+    by_number : ordering_then (nat_cmp (kind_number a.kind) (kind_number b.kind)) (ordering_then (nat_cmp a.first b.first) (ordering_then (nat_cmp a.second b.second) (ordering_then (nat_cmp a.owner b.owner) (bool_cmp a.alone b.alone)))) ≡ Less
+    by_number = subst (λ (z : Ordering). ordering_then z (ordering_then (nat_cmp a.first b.first) (ordering_then (nat_cmp a.second b.second) (ordering_then (nat_cmp a.owner b.owner) (bool_cmp a.alone b.alone)))) ≡ Less) (kinds a.kind b.kind) by_kind
+
+    ranks : exceeds (kind_number a.kind ∷ a.first ∷ a.second ∷ []) (kind_number b.kind ∷ b.first ∷ b.second ∷ []) ≡ true
+    ranks = subst (λ (xs : List ℕ). exceeds xs (kind_number b.kind ∷ b.first ∷ b.second ∷ []) ≡ true) (rank_of a.kind a.first a.second)
+        (subst (λ (ys : List ℕ). exceeds (rank (step_of_kind a.kind a.first a.second)) ys ≡ true) (rank_of b.kind b.first b.second) over)
+
+    firsts : (ordering_then (nat_cmp a.first b.first) (ordering_then (nat_cmp a.second b.second) (ordering_then (nat_cmp a.owner b.owner) (bool_cmp a.alone b.alone))) ≡ Less) × (exceeds (a.first ∷ a.second ∷ []) (b.first ∷ b.second ∷ []) ≡ true)
+    firsts = one_on (kind_number a.kind) (kind_number b.kind) (ordering_then (nat_cmp a.first b.first) (ordering_then (nat_cmp a.second b.second) (ordering_then (nat_cmp a.owner b.owner) (bool_cmp a.alone b.alone)))) (a.first ∷ a.second ∷ []) (b.first ∷ b.second ∷ []) by_number ranks
+
+    next : (ordering_then (nat_cmp a.second b.second) (ordering_then (nat_cmp a.owner b.owner) (bool_cmp a.alone b.alone)) ≡ Less) × (exceeds (a.second ∷ []) (b.second ∷ []) ≡ true)
+    next = one_on a.first b.first (ordering_then (nat_cmp a.second b.second) (ordering_then (nat_cmp a.owner b.owner) (bool_cmp a.alone b.alone))) (a.second ∷ []) (b.second ∷ []) firsts.0 firsts.1
+
+    last : (ordering_then (nat_cmp a.owner b.owner) (bool_cmp a.alone b.alone) ≡ Less) × (exceeds [] [] ≡ true)
+    last = one_on a.second b.second (ordering_then (nat_cmp a.owner b.owner) (bool_cmp a.alone b.alone)) [] [] next.0 next.1
+
+-- ---- Leads that are told apart
+
+then_equal : (o p : Ordering) → ordering_then o p ≡ Equal → (o ≡ Equal) × (p ≡ Equal)
+then_equal Less p e = absurd (cc)
+then_equal Equal p e = (refl, e)
+then_equal Greater p e = absurd (cc)
+
+same_bool : (a b : Bool) → bool_cmp a b ≡ Equal → a ≡ b
+same_bool false false e = refl
+same_bool false true e = absurd (cc)
+same_bool true false e = absurd (cc)
+same_bool true true e = refl
+
+same_told : (a b : Lead) → lead_cmp a b ≡ Equal → lead_told a ≡ lead_told b
+same_told a b e =
+    let s = then_equal (nat_cmp b.saving.0 a.saving.0) (ordering_then (kind_cmp a.kind b.kind) (ordering_then (nat_cmp a.first b.first) (ordering_then (nat_cmp a.second b.second) (ordering_then (nat_cmp a.owner b.owner) (bool_cmp a.alone b.alone))))) e in
+    let k = then_equal (kind_cmp a.kind b.kind) (ordering_then (nat_cmp a.first b.first) (ordering_then (nat_cmp a.second b.second) (ordering_then (nat_cmp a.owner b.owner) (bool_cmp a.alone b.alone)))) s.1 in
+    let f = then_equal (nat_cmp a.first b.first) (ordering_then (nat_cmp a.second b.second) (ordering_then (nat_cmp a.owner b.owner) (bool_cmp a.alone b.alone))) k.1 in
+    let g = then_equal (nat_cmp a.second b.second) (ordering_then (nat_cmp a.owner b.owner) (bool_cmp a.alone b.alone)) f.1 in
+    let o = then_equal (nat_cmp a.owner b.owner) (bool_cmp a.alone b.alone) g.1 in
+    let saving : a.saving.0 ≡ b.saving.0 = sym (is_same b.saving.0 a.saving.0 s.0) in
+    let kind : a.kind ≡ b.kind = same_kind a.kind b.kind (is_same (kind_number a.kind) (kind_number b.kind) (sym (kinds a.kind b.kind) ∙ k.0)) in
+    let first : a.first ≡ b.first = is_same a.first b.first f.0 in
+    let second : a.second ≡ b.second = is_same a.second b.second g.0 in
+    let owner : a.owner ≡ b.owner = is_same a.owner b.owner o.0 in
+    let alone : a.alone ≡ b.alone = same_bool a.alone b.alone o.1 in
+    let step : step_of_kind a.kind a.first a.second ≡ step_of_kind b.kind b.first b.second = ap (λ (z : Kind). step_of_kind z a.first a.second) kind ∙ ap₂ (step_of_kind b.kind) first second in
+    let turn : turn_of a.saving.0 (step_of_kind a.kind a.first a.second) ≡ turn_of b.saving.0 (step_of_kind b.kind b.first b.second) = ap₂ turn_of saving step in
+    told turn owner alone
+  where
+    make : Turn → ℕ → Bool → held.Lead
+    make t n b = record { turn = t; owner = n; alone = b }
+
+    told : {t u : Turn} {m n : ℕ} {b d : Bool} → t ≡ u → m ≡ n → b ≡ d → make t m b ≡ make u n d
+    told {t = t} {u = u} {m = m} {n = n} {b = b} {d = d} e g h = ap (λ (z : Turn). make z m b) e ∙ ap₂ (make u) g h
+
+-- ---- A lead more
+
+abbrev told_all : List Lead → List held.Lead
+told_all ks = map lead_told ks
+
+pub is_added : (k : Lead) (ks : List Lead) → Contains (told_all (insert_key lead_cmp ks k)) (lead_told k)
+is_added k [] = Contains-here (lead_told k) []
+is_added k (x ∷ ks) = which (lead_cmp k x) refl (is_added k ks)
+  where
+    which : (o : Ordering) → lead_cmp k x ≡ o → Contains (told_all (insert_key lead_cmp ks k)) (lead_told k) → Contains (told_all (match_ordering o (k ∷ x ∷ ks) (x ∷ ks) (x ∷ insert_key lead_cmp ks k))) (lead_told k)
+    which Less e rest = Contains-here (lead_told k) (told_all (x ∷ ks))
+    which Equal e rest = subst (λ (l : held.Lead). Contains (told_all (x ∷ ks)) l) (sym (same_told k x e)) (Contains-here (lead_told x) (told_all ks))
+    which Greater e rest = Contains-there (lead_told x) (told_all (insert_key lead_cmp ks k)) (lead_told k) rest
+
+pub still_there : (k : Lead) (ks : List Lead) (l : held.Lead) → Contains (told_all ks) l → Contains (told_all (insert_key lead_cmp ks k)) l
+still_there k [] l h = absurd (Contains-nil l h)
+still_there k (x ∷ ks) l h = which (lead_cmp k x) (still_there k ks l)
+  where
+    which : (o : Ordering) → (Contains (told_all ks) l → Contains (told_all (insert_key lead_cmp ks k)) l) → Contains (told_all (match_ordering o (k ∷ x ∷ ks) (x ∷ ks) (x ∷ insert_key lead_cmp ks k))) l
+    which Less rest = Contains-there (lead_told k) (told_all (x ∷ ks)) l h
+    which Equal rest = h
+    which Greater rest = among (Contains-cons_cases (lead_told x) (told_all ks) l h)
+      where
+        among : (lead_told x ≡ l) ⊎ Contains (told_all ks) l → Contains (told_all (x ∷ insert_key lead_cmp ks k)) l
+        among (inl e) = subst (λ (z : held.Lead). Contains (told_all (x ∷ insert_key lead_cmp ks k)) z) e (Contains-here (lead_told x) (told_all (insert_key lead_cmp ks k)))
+        among (inr g) = Contains-there (lead_told x) (told_all (insert_key lead_cmp ks k)) l (rest g)
+
+pub only_added : (k : Lead) (ks : List Lead) (l : held.Lead) → Contains (told_all (insert_key lead_cmp ks k)) l → Contains (told_all ks) l ⊎ (l ≡ lead_told k)
+only_added k [] l h = which (Contains-cons_cases (lead_told k) [] l h)
+  where
+    which : (lead_told k ≡ l) ⊎ Contains [] l → Contains [] l ⊎ (l ≡ lead_told k)
+    which (inl e) = inr (sym e)
+    which (inr g) = inl g
+only_added k (x ∷ ks) l h = which (lead_cmp k x) (only_added k ks l) h
+  where
+    which : (o : Ordering) → (Contains (told_all (insert_key lead_cmp ks k)) l → Contains (told_all ks) l ⊎ (l ≡ lead_told k)) →
+        Contains (told_all (match_ordering o (k ∷ x ∷ ks) (x ∷ ks) (x ∷ insert_key lead_cmp ks k))) l → Contains (told_all (x ∷ ks)) l ⊎ (l ≡ lead_told k)
+    which Less rest h = among (Contains-cons_cases (lead_told k) (told_all (x ∷ ks)) l h)
+      where
+        among : (lead_told k ≡ l) ⊎ Contains (told_all (x ∷ ks)) l → Contains (told_all (x ∷ ks)) l ⊎ (l ≡ lead_told k)
+        among (inl e) = inr (sym e)
+        among (inr g) = inl g
+    which Equal rest h = inl h
+    which Greater rest h = among (Contains-cons_cases (lead_told x) (told_all (insert_key lead_cmp ks k)) l h)
+      where
+        behind : Contains (told_all ks) l ⊎ (l ≡ lead_told k) → Contains (told_all (x ∷ ks)) l ⊎ (l ≡ lead_told k)
+        behind (inl g) = inl (Contains-there (lead_told x) (told_all ks) l g)
+        behind (inr e) = inr e
+
+        among : (lead_told x ≡ l) ⊎ Contains (told_all (insert_key lead_cmp ks k)) l → Contains (told_all (x ∷ ks)) l ⊎ (l ≡ lead_told k)
+        among (inl e) = inl (subst (λ (z : held.Lead). Contains (told_all (x ∷ ks)) z) e (Contains-here (lead_told x) (told_all ks)))
+        among (inr g) = behind (rest g)
+
+-- ---- The first one
+
+pub is_first : TurnsAreOrdered → (found : Option Lead) (old new : List Lead) → IfSome found (λ k. old ≡ k ∷ new) → IfSome found (λ k. All (IsLtBy lead_cmp k) new) →
+    IfSome found (λ k. (other : held.Lead) → Contains (told_all old) other → IsSooner other.turn (lead_told k).turn → ⊥)
+is_first order None old new is all = tt
+is_first order (Some k) old new is all = λ other among sooner. which other sooner (Contains-cons_cases (lead_told k) (told_all new) other (subst (λ (ks : List Lead). Contains (told_all ks) other) is among))
+  where
+    which : (other : held.Lead) → IsSooner other.turn (lead_told k).turn → (lead_told k ≡ other) ⊎ Contains (told_all new) other → ⊥
+    which other sooner (inl e) = order.0 (lead_told k).turn (subst (λ (l : held.Lead). IsSooner l.turn (lead_told k).turn) (sym e) sooner)
+    which other sooner (inr g) =
+        let w : (x : Lead) × Contains new x × (lead_told x ≡ other) = map_from lead_told new other g in
+        not_before k w.0 (All-contains (IsLtBy lead_cmp k) new w.0 all w.1) (subst (λ (l : held.Lead). IsSooner l.turn (lead_told k).turn) (sym w.2) sooner)

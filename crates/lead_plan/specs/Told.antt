@@ -1,0 +1,23 @@
+-- What a lead of the code says.
+use Rattle.std.specs.Prelude.{ℕ}
+use Rattle.hold_laws.specs.Leads as held
+use Rattle.lead_plan.specs.declared.lead.Kind.{Kind}
+use Rattle.lead_plan.specs.declared.lead.Kind.TheVariants.{DeclCut, SelCut, SelJoinUp, SelJoinDown, DeclJoinUp, DeclJoinDown, Sharing}
+use Rattle.lead_plan.specs.declared.lead.Lead.{Lead}
+use Rattle.step_laws.specs.declared.step.Step.{Step}
+use Rattle.step_laws.specs.declared.step.Step.TheVariants.{CutDecl, CutSel, JoinSelUp, JoinSelDown, JoinDeclUp, JoinDeclDown, Share}
+use Rattle.wall_laws.specs.Holding.{turn_of}
+
+-- the step of a kind, of these two items or of a part of an item
+abbrev pub step_of_kind : Kind → ℕ → ℕ → Step
+step_of_kind DeclCut n i = CutDecl n i
+step_of_kind SelCut n i = CutSel n i
+step_of_kind SelJoinUp x y = JoinSelUp x y
+step_of_kind SelJoinDown x y = JoinSelDown x y
+step_of_kind DeclJoinUp x y = JoinDeclUp x y
+step_of_kind DeclJoinDown x y = JoinDeclDown x y
+step_of_kind Sharing x y = Share x y
+
+-- a lead as the laws of what a plan holds see it
+abbrev pub lead_told : Lead → held.Lead
+lead_told l = record { turn = turn_of l.saving.0 (step_of_kind l.kind l.first l.second); owner = l.owner; alone = l.alone }

@@ -1,0 +1,8 @@
+//! The plan of merging by turns that lead: one for all steps of an item, in place of a look at each step.
+#![tactic(auto)]
+
+mod lead;
+mod waiting;
+
+pub use lead::{Kind, Lead};
+pub use waiting::Waiting;
