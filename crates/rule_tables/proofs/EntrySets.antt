@@ -252,6 +252,12 @@ module _ {S X : Type 0} (f : S → X) where
   pub takes_end : (rest : List S) → rest ≡ [] → (a : List X) → Takes a (map f rest) a
   takes_end rest is a = subst (λ (s : List S). Takes a (map f s) a) (sym is) (takes_none a)
 
+pub show_digest : (keys shown : List Entry) (digest : ℕ) → shown ≡ filter (range_contains entry_cmp (Included (entry digest 0)) (Excluded (entry (digest + 1) 0))) keys → (label : ℕ) →
+    Contains keys (entry digest label) → Contains shown (entry digest label)
+show_digest keys shown digest is label h =
+    subst (λ (es : List Entry). Contains es (entry digest label)) (sym is)
+    (Contains-filtered (range_contains entry_cmp (Included (entry digest 0)) (Excluded (entry (digest + 1) 0))) keys (entry digest label) h (digest_in_range digest label))
+
 pub put_under : (keys shown : List Entry) (digest : ℕ) → shown ≡ filter (range_contains entry_cmp (Included (entry digest 0)) (Excluded (entry (digest + 1) 0))) keys → (old new : List ℕ) →
     Puts old (map (λ (e : Entry). e.label) shown) new → PutsUnder keys digest old new
 put_under keys shown digest is old new puts label = (λ h. there ((puts label).0 h), λ h. (puts label).1 (back h))

@@ -1,3 +1,5 @@
 mod EntrySets
+mod OtherRules
 mod Sharing
 mod Standing
+mod StepRules

@@ -1,3 +1,5 @@
 pub mod Digests
 pub mod Entries
+pub mod Pairs
+pub mod StepPartners
 pub mod Tables

@@ -11,6 +11,7 @@ use Rattle.css_model.specs.Sheets.RuleParts.{RuleParts}
 use Rattle.css_model.specs.Sheets.StyleRule.{HaveSameSelectors, selectors_of}
 use Rattle.rule_tables.specs.declared.entries.Entry.{Entry}
 use Rattle.rule_tables.specs.Digests.{selector_digest, decl_digest}
+use Rattle.step_laws.specs.Steps.{decls_of}
 use Rattle.rule_tables.specs.Entries.{Puts, PutsSome, Takes, decl_entries, entry, selector_entries}
 
 -- the entries of both tables, in order
@@ -52,10 +53,6 @@ pub record StandFor (tables : TableParts) (rules : List Labelled) : Type 0 where
   pub decls : (e : Entry) → Contains tables.decls e ↔ Contains (flat_map entries_by_decl rules) e
 
 -- ---- Partners
-
--- the declarations of a rule, in order
-abbrev pub decls_of : RuleParts → List Decl
-decls_of r = map (λ d. d.decl) r.decls
 
 -- Two rules can be partners in a step: they have the same selectors, some at least, or a declaration in common.
 pub data CanBePartners (r q : RuleParts) : Type 0 where

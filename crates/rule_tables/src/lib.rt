@@ -3,7 +3,10 @@
 
 mod digests;
 mod entries;
+mod laws;
+mod pairs;
 mod partners;
 mod tables;
 
+pub use laws::{rules_are_labelled, steps_have_partners};
 pub use tables::Tables;

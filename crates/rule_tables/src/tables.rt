@@ -1,14 +1,16 @@
 //! Tables of the rules of a sheet by their parts.
 
-ghost use Rattle.std.specs.Prelude.{◌≡◌, ◌∷◌, [], ℕ, IfOk, List, OnErr, OnOk};
+ghost use Rattle.std.specs.Prelude.{◌≡◌, ◌↔◌, ◌∷◌, [], ℕ, IfOk, IsTrue, List, OnErr, OnOk};
 ghost use Rattle.std.specs.List.{Contains};
 ghost use Rattle.std.specs.List.Sorted.{IsStrictlyIncreasing};
 ghost use Rattle.rule_tables.specs.Entries as entries;
+ghost use Rattle.rule_tables.specs.Pairs as pairs;
 ghost use Rattle.rule_tables.specs.Tables as spec;
 
 use crate::entries::{Entry, put_decls, put_selectors, take_decls, take_selectors};
+use crate::pairs::is_pair_elsewhere;
 use crate::partners::{list_labels, put_shared, put_under_decls};
-use css_model::{Item, Rule};
+use css_model::{Decl, Item, Rule, Selector};
 use std::alloc::{AllocError, Global};
 use std::collections::BTreeSet;
 use std::marker::Model;
@@ -119,5 +121,23 @@ impl Tables {
         put_shared(&mut found, &self.selectors, &rule.selectors)?;
         put_under_decls(&mut found, &self.decls, &rule.decls)?;
         list_labels(alloc, found)
+    }
+
+    /// Whether a selector and a declaration stand together in a rule among these items that has another label than
+    /// `own`, where the labels ascend and the tables are of these rules. Takes no memory. The time is that of the rules
+    /// with a declaration of the same digest, each with a logarithm.
+    pub fn is_elsewhere(
+        &self,
+        items: &[Item],
+        labels: &[u64],
+        own: u64,
+        selector: &Selector,
+        decl: &Decl,
+    ) -> bool
+        requires ascends { IsStrictlyIncreasing labels.now }
+        requires stand { spec.StandFor self.now (spec.labelled items.now labels.now) }
+        ensures { IsTrue result ↔ pairs.AnotherHasBoth (spec.labelled items.now labels.now) own selector.now decl.now }
+    {
+        is_pair_elsewhere(&self.decls, items, labels, own, selector, decl)
     }
 }

@@ -1,0 +1,21 @@
+-- Pairs of a selector and a declaration that stand in other rules too (own).
+use Rattle.std.specs.Prelude.{ℕ, ◌≢◌, List}
+use Rattle.std.specs.List.{Contains}
+use Rattle.css_model.specs.declared.sheet.Decl.{Decl}
+use Rattle.css_model.specs.Documents.SelectorParts.{SelectorParts}
+use Rattle.css_model.specs.Sheets.RuleParts.{RuleParts}
+use Rattle.css_model.specs.Sheets.StyleRule.{selectors_of}
+use Rattle.rule_tables.specs.Tables.{Labelled, with_label}
+use Rattle.step_laws.specs.Steps.{decls_of}
+
+-- a rule has a selector and a declaration
+abbrev pub HasBoth : RuleParts → SelectorParts → Decl → Type 0
+HasBoth r s d = Contains (selectors_of r) s × Contains (decls_of r) d
+
+-- the rule with this label has both
+abbrev pub LabelHasBoth : List Labelled → ℕ → SelectorParts → Decl → Type 0
+LabelHasBoth rules label s d = (r : RuleParts) × Contains rules (with_label r label) × HasBoth r s d
+
+-- a rule with another label has both
+abbrev pub AnotherHasBoth : List Labelled → ℕ → SelectorParts → Decl → Type 0
+AnotherHasBoth rules own s d = (label : ℕ) × (label ≢ own) × LabelHasBoth rules label s d

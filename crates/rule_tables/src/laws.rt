@@ -1,0 +1,13 @@
+//! That tables find both rules of a step. The functions do nothing.
+
+ghost use Rattle.rule_tables.specs.StepPartners.{RulesAreLabelled, StepsHavePartners};
+
+/// The rules of a step of two rules can be partners, each of the other one.
+pub fn steps_have_partners()
+    ensures { StepsHavePartners }
+{}
+
+/// A rule among items is one of the labelled rules, with the label of its item.
+pub fn rules_are_labelled()
+    ensures { RulesAreLabelled }
+{}
