@@ -9,7 +9,3 @@ EndsLine text = (front : List ℕ) × (text ≡ front ++ 10 ∷ [])
 -- the name of the program and its version
 abbrev pub version_text : List ℕ
 version_text = codes "cssmin " ++ VERSION.now ++ 10 ∷ []
-
--- where the parser of words has no text for them
-abbrev pub usage_text : List ℕ
-usage_text = codes "usage: cssmin COMMAND" ++ 10 ∷ []
