@@ -1,0 +1,20 @@
+use Rattle.std.proofs.Common.{◌≡◌, ◌<◌, List, length, ap, sym, subst, ◌∙◌}
+use Rattle.css_model.specs.declared.sheet.Item.{Item}
+use Rattle.css_model.specs.Sheets.SheetParts.{SheetParts}
+use Rattle.plan_board.specs.declared.marks.Mark.{Mark}
+use Rattle.plan_board.specs.BoardParts.{BoardParts}
+use Rattle.plan_board.specs.Marking.{HasLabelBefore}
+use Rattle.plan_board.specs.Putting.{items_in}
+use Rattle.plan_board.proofs.Puts.{put_length}
+use Rattle.plan_board.proofs.board.Board.put.Goals as goal
+
+pub put-requires-clause-room : goal.put-requires-clause-room
+put-requires-clause-room c = λ more.
+    ((c.requires.room more).0, subst (λ (marks : List Mark). HasLabelBefore marks c.args.number) (sym (ap (λ (b : BoardParts). b.marks) c.self.view_is)) (c.requires.room more).1)
+
+pub invariant_of-result : goal.invariant_of-result
+invariant_of-result c =
+    let same : length c.self.inside.marks.list ≡ length c.sheet.inside.items.items = c.self.invariant ∙ ap (λ (s : SheetParts). length s.items) (sym c.sheet.view_is) in
+    ap (λ (marks : List Mark). length marks) c.in_ok-marks.ensures.marks.is
+    ∙ put_length c.args.number (items_in c.args.left) c.in_ok-marks.ensures.marks.made c.sheet.inside.items.items c.self.inside.marks.list c.in_ok-marks.ensures.marks.count_is same
+    ∙ sym (ap (λ (items : List Item). length items) c.in_ok-items.ensures)

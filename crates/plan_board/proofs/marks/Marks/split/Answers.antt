@@ -1,0 +1,17 @@
+use Rattle.std.proofs.Common.{◌≡◌, ◌<◌, List, length, subst, sym}
+use Rattle.std.specs.List.{insert}
+use Rattle.plan_board.specs.MarkList.{AreMarks}
+use Rattle.plan_board.proofs.MarkLists.{split_marks, split_is, within_is}
+use Rattle.plan_board.proofs.marks.Marks.split.Goals as goal
+
+pub invariant_of-result : goal.invariant_of-result
+invariant_of-result c =
+    let within : c.args.number < length c.self.inside.list.items = within_is c.args.self c.self.inside.list.items c.self.inside.next c.args.number c.self.view_is c.requires.at in
+    rw c.in_ok-insert.ensures.items
+    (split_marks c.self.inside.list.items c.self.inside.next c.args.number c.index.result.now c.index-2.result.now c.middle-label.result within c.requires.behind
+    c.index.ensures c.index-2.ensures c.middle-label.ensures.more c.middle-label.ensures.less c.self.invariant)
+
+pub returns-clause-marks : goal.returns-clause-marks
+returns-clause-marks c =
+    rw c.in_ok-insert.ensures.items
+    (split_is c.args.self c.self.inside.list.items c.self.inside.next c.args.number c.index-2.result.now.label c.middle-label.result c.self.view_is c.requires.at)

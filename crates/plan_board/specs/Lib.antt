@@ -1,0 +1,4 @@
+pub mod BoardParts
+pub mod MarkList
+pub mod Marking
+pub mod Putting

@@ -1,0 +1,95 @@
+//! A sheet with the marks of its items.
+
+ghost use Rattle.std.specs.Prelude.{◌≡◌, ◌≤◌, ◌<◌, IfOk, IfSome, IfNone, OnErr, Some, length, slice_get};
+ghost use Rattle.css_model.specs.Sheets.Limits.{max_items};
+ghost use Rattle.plan_board.specs.MarkList.{AreMarks, Ascends, IsLabelAt, LacksLabel};
+
+use crate::marks::{Mark, Marks};
+use css_model::Sheet;
+use std::alloc::{AllocError, Global};
+use std::marker::Model;
+
+/// A sheet while it is planned, with a mark of each item.
+#[derive(Debug, Drop)]
+pub struct Board {
+    pub(crate) sheet: Sheet,
+    pub(crate) marks: Marks,
+}
+
+impl Model for Board {
+    ghost use Rattle.std.specs.Prelude.{◌≡◌, length};
+    ghost use Rattle.plan_board.specs.BoardParts.{BoardParts};
+
+    ghost Value = { BoardParts };
+
+    ghost view = { λ b. record { items = b.sheet.items; marks = b.marks.list; next = b.marks.next } };
+
+    ghost invariant = { λ b. length b.marks.list ≡ length b.sheet.items };
+}
+
+/// The number of the mark with this label, if there is one.
+fn find_label(marks: &[Mark], label: u64) -> Result<usize, usize>
+    requires { Ascends marks.now }
+    ensures within { IfOk result (λ n. n < length marks.now) }
+    ensures found { IfOk result (IsLabelAt marks.now label) }
+    ensures absent { OnErr result (LacksLabel marks.now label) }
+{
+    marks.binary_search_by_key(&label, |mark| mark.label)
+}
+
+impl Board {
+    /// The sheet with new marks, born in the order of the items.
+    pub fn new(alloc: Global, sheet: Sheet) -> Result<Board, AllocError>
+        requires { length sheet.items ≤ max_items }
+        ensures items { IfOk result (λ b. b.items ≡ sheet.items) }
+        ensures next { IfOk result (λ b. b.next ≡ length sheet.items) }
+    {
+        let marks = Marks::new(alloc, sheet.items.len() as u32)?;
+        Ok(Board { sheet, marks })
+    }
+
+    /// The sheet.
+    pub fn sheet(&self) -> &Sheet
+        ensures { result.now.items ≡ self.now.items }
+    {
+        &self.sheet
+    }
+
+    /// The sheet, without its marks.
+    pub fn into_sheet(self) -> Sheet
+        ensures { result.items ≡ self.items }
+    {
+        let Board { sheet, marks } = self;
+        drop(marks);
+        sheet
+    }
+
+    /// The marks of its items, in their order: labels ascend, and births differ and are past.
+    pub fn marks(&self) -> &[Mark]
+        ensures marks { result.now ≡ self.now.marks }
+        ensures are_marks { AreMarks self.now.marks self.now.next }
+        ensures as_many { length self.now.marks ≡ length self.now.items }
+    {
+        self.marks.list()
+    }
+
+    /// The mark of the item of this number.
+    pub fn mark(&self, number: u32) -> Mark
+        requires { number < length self.now.items }
+        ensures { slice_get self.now.marks number ≡ Some result }
+    {
+        self.marks.list()[number as usize]
+    }
+
+    /// The number of the item with this label, if there is one.
+    pub fn number_of(&self, label: u64) -> Option<u32>
+        requires { length self.now.items ≤ max_items }
+        ensures some { IfSome result (IsLabelAt self.now.marks label) }
+        ensures none { IfNone result (LacksLabel self.now.marks label) }
+    {
+        match find_label(self.marks(), label) {
+            Ok(number) => Some(number as u32),
+            Err(_) => None,
+        }
+    }
+}

@@ -1,0 +1,147 @@
+//! What tells the items of a board.
+
+ghost use Rattle.std.specs.Prelude.{◌≡◌, ◌≤◌, ◌<◌, ◌+◌, ◌^◌, ℕ, IfOk, Some, length, slice_get};
+ghost use Rattle.css_model.specs.Sheets.Limits.{max_items};
+ghost use Rattle.plan_board.specs.MarkList.{AreMarks};
+ghost use Rattle.plan_board.specs.Marking.{AreRenewed, HasLabelBefore};
+ghost use Rattle.plan_board.specs.Putting.{items_in};
+
+use crate::parts::Left;
+use std::alloc::{AllocError, Global};
+use std::marker::Model;
+
+/// How far the labels of neighbours are apart at first.
+const GAP: u64 = 0x1_0000_0000_0000;
+
+/// The mark of an item. Labels ascend with the items' numbers, and a label stays while its item does. A
+/// birth tells the item from each other one that ever stood in the board.
+#[derive(Clone, Copy, Debug, PartialEq, Eq)]
+pub struct Mark {
+    /// Where the item stands among the others.
+    pub label: u64,
+    /// When the item was put in: the later, the more.
+    pub birth: u32,
+}
+
+/// The marks of some items, in their order.
+#[derive(Debug, Drop)]
+pub(crate) struct Marks {
+    list: Vec<Mark>,
+    next: u32,
+}
+
+impl Model for Marks {
+    ghost use Rattle.plan_board.specs.MarkList.{MarkList, AreMarks};
+
+    ghost Value = { MarkList };
+
+    ghost view = { λ m. record { list = m.list.items; next = m.next } };
+
+    ghost invariant = { λ m. AreMarks m.list.items m.next };
+}
+
+impl Marks {
+    /// Marks of so many items, born in their order.
+    pub(crate) fn new(alloc: Global, count: u32) -> Result<Marks, AllocError>
+        requires { count ≤ max_items }
+        ensures length { IfOk result (λ marks. length marks.list ≡ count) }
+        ensures next { IfOk result (λ marks. marks.next ≡ count) }
+    {
+        let mut list = Vec::with_capacity(alloc, count as usize)?;
+        for birth in 0..count {
+            let label = u64::from(birth) * GAP;
+            list.push(Mark { label, birth })?;
+        }
+        Ok(Marks { list, next: count })
+    }
+
+    /// The marks.
+    pub(crate) fn list(&self) -> &[Mark]
+        ensures list { result.now ≡ self.now.list }
+        ensures are_marks { AreMarks self.now.list self.now.next }
+    {
+        &self.list
+    }
+
+    /// The marks without the one of this number.
+    fn without(self, number: u32) -> Marks
+        requires { number < length self.list }
+        ensures marks { AreRenewed self.list result.list self.next number 0 }
+        ensures next { result.next ≡ self.next }
+    {
+        let Marks { mut list, next } = self;
+        list.remove(number as usize);
+        Marks { list, next }
+    }
+
+    /// The marks with a new one in the place of the one of this number, with its label.
+    fn renewed(self, number: u32) -> Marks
+        requires at { number < length self.list }
+        requires births { self.next + 1 < 2 ^ 32 }
+        ensures marks { AreRenewed self.list result.list self.next number 1 }
+        ensures next { result.next ≡ self.next + 1 }
+    {
+        let Marks { mut list, next } = self;
+        let label = list[number as usize].label;
+        list[number as usize] = Mark { label, birth: next };
+        Marks {
+            list,
+            next: next + 1,
+        }
+    }
+
+    /// The marks with two new ones in the place of the one of this number, the second one with its label.
+    fn split(self, number: u32) -> Result<Marks, AllocError>
+        requires at { number < length self.list }
+        requires behind { 0 < number }
+        requires room { HasLabelBefore self.list number }
+        requires births { self.next + 2 < 2 ^ 32 }
+        ensures marks { IfOk result (λ marks. AreRenewed self.list marks.list self.next number 2) }
+        ensures next { IfOk result (λ marks. marks.next ≡ self.next + 2) }
+    {
+        let Marks { mut list, next } = self;
+        let number = number as usize;
+        let above = list[number - 1].label;
+        let below = list[number].label;
+        let label = middle(above, below);
+        list[number] = Mark {
+            label: below,
+            birth: next,
+        };
+        list.insert(
+            number,
+            Mark {
+                label,
+                birth: next + 1,
+            },
+        )?;
+        Ok(Marks {
+            list,
+            next: next + 2,
+        })
+    }
+
+    /// The marks with new ones for what a step leaves in the place of the item of this number.
+    pub(crate) fn put(self, number: u32, left: &Left) -> Result<Marks, AllocError>
+        requires at { number < length self.list }
+        requires room { 1 < length (items_in left.now) → (0 < number) × HasLabelBefore self.list number }
+        requires births { self.next + 2 < 2 ^ 32 }
+        ensures marks { IfOk result (λ marks. AreRenewed self.list marks.list self.next number (length (items_in left.now))) }
+        ensures next { IfOk result (λ marks. marks.next ≡ self.next + length (items_in left.now)) }
+    {
+        match left {
+            Left::Nothing => Ok(self.without(number)),
+            Left::One(_) => Ok(self.renewed(number)),
+            Left::Two(_, _) => self.split(number),
+        }
+    }
+}
+
+/// A label between two others.
+fn middle(above: u64, below: u64) -> u64
+    requires { above + 1 < below }
+    ensures more { above < result }
+    ensures less { result < below }
+{
+    above + (below - above) / 2
+}

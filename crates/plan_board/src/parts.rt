@@ -1,0 +1,292 @@
+//! What a step leaves of its rules: their parts are moved, and copied only where they stand twice behind it.
+
+ghost use Rattle.std.specs.Prelude.{◌≡◌, ◌++◌, ◌<◌, ◌∷◌, [], IfOk, OnOk, not, length};
+ghost use Rattle.std.specs.List.{filter, remove};
+ghost use Rattle.css_model.specs.declared.sheet.Item.TheVariants as item;
+ghost use Rattle.css_model.specs.Sheets.StyleRule as style;
+ghost use Rattle.order_laws.specs.Members as members;
+ghost use Rattle.step_laws.specs.RuleParting as parting;
+ghost use Rattle.step_laws.specs.StepEdits as edits;
+ghost use Rattle.plan_board.specs.Putting.{items_in};
+
+use css_model::{DeclItem, Rule, SelItem};
+use std::alloc::{AllocError, Global};
+use step_savings::{has_decl, has_selector};
+
+/// The rules that a step leaves in the place of one.
+#[derive(Debug, Drop)]
+pub(crate) enum Left {
+    /// None.
+    Nothing,
+    /// One.
+    One(Rule),
+    /// Two, the first one above the second.
+    Two(Rule, Rule),
+}
+
+/// A rule, if it has a selector and a declaration.
+pub(crate) fn left_of(rule: Rule) -> Left
+    ensures { items_in result ≡ parting.rule_or_none rule }
+{
+    if rule.selectors.is_empty() || rule.decls.is_empty() {
+        Left::Nothing
+    } else {
+        Left::One(rule)
+    }
+}
+
+/// A rule above what is left of another one.
+pub(crate) fn above_left(made: Rule, rest: Rule) -> Left
+    ensures { items_in result ≡ item.Rule made ∷ parting.rule_or_none rest }
+{
+    if rest.selectors.is_empty() || rest.decls.is_empty() {
+        Left::One(made)
+    } else {
+        Left::Two(made, rest)
+    }
+}
+
+/// What is left of a rule without its declaration of this number.
+pub(crate) fn without_decl(rule: Rule, decl: u32) -> Left
+    requires { decl < length rule.decls }
+    ensures { items_in result ≡ parting.rule_or_none (record { selectors = rule.selectors; decls = remove rule.decls decl }) }
+{
+    let Rule {
+        selectors,
+        mut decls,
+    } = rule;
+    decls.remove(decl as usize);
+    left_of(Rule { selectors, decls })
+}
+
+/// What is left of a rule without its selector of this number.
+pub(crate) fn without_selector(rule: Rule, sel: u32) -> Left
+    requires { sel < length rule.selectors }
+    ensures { items_in result ≡ parting.rule_or_none (record { selectors = remove rule.selectors sel; decls = rule.decls }) }
+{
+    let Rule {
+        mut selectors,
+        decls,
+    } = rule;
+    selectors.remove(sel as usize);
+    left_of(Rule { selectors, decls })
+}
+
+/// The upper rule with the declarations of the lower one behind its own.
+pub(crate) fn joined_up(upper: Rule, lower: Rule) -> Result<Rule, AllocError>
+    ensures { IfOk result (λ r. r ≡ style.joined upper lower) }
+{
+    let Rule {
+        selectors,
+        mut decls,
+    } = upper;
+    let Rule {
+        selectors: gone,
+        decls: mut more,
+    } = lower;
+    drop(gone);
+    decls.append(&mut more)?;
+    Ok(Rule { selectors, decls })
+}
+
+/// The lower rule with the declarations of the upper one before its own.
+pub(crate) fn joined_down(upper: Rule, lower: Rule) -> Result<Rule, AllocError>
+    ensures { IfOk result (λ r. r ≡ record { selectors = lower.selectors; decls = upper.decls ++ lower.decls }) }
+{
+    let Rule {
+        selectors: gone,
+        mut decls,
+    } = upper;
+    let Rule {
+        selectors,
+        decls: mut more,
+    } = lower;
+    drop(gone);
+    decls.append(&mut more)?;
+    Ok(Rule { selectors, decls })
+}
+
+/// Those of the selectors that are not among the others.
+fn new_selectors(
+    alloc: Global,
+    items: Vec<SelItem>,
+    others: &[SelItem],
+) -> Result<Vec<SelItem>, AllocError>
+    ensures { IfOk result (λ kept. kept.items ≡ filter (λ s. not (members.has_selector others.now s.selector)) items.items) }
+{
+    let mut kept = Vec::new(alloc);
+    for item in items {
+        if !has_selector(others, &item.selector) {
+            kept.push(item)?;
+        }
+    }
+    Ok(kept)
+}
+
+/// The selectors of the upper rule, then those of the lower one that the upper one lacks.
+fn all_selectors(
+    alloc: Global,
+    upper: Vec<SelItem>,
+    lower: Vec<SelItem>,
+) -> Result<Vec<SelItem>, AllocError>
+    ensures { IfOk result (λ all. all.items ≡ upper.items ++ filter (λ s. not (members.has_selector upper.items s.selector)) lower.items) }
+{
+    let mut more = new_selectors(alloc, lower, &upper)?;
+    let mut all = upper;
+    all.append(&mut more)?;
+    Ok(all)
+}
+
+/// The selectors of both rules with the declarations of the upper one.
+pub(crate) fn widened_up(alloc: Global, upper: Rule, lower: Rule) -> Result<Rule, AllocError>
+    ensures { IfOk result (λ r. r ≡ record { selectors = parting.both_selectors upper lower; decls = upper.decls }) }
+{
+    let Rule {
+        selectors: above,
+        decls,
+    } = upper;
+    let Rule {
+        selectors: below,
+        decls: gone,
+    } = lower;
+    drop(gone);
+    let selectors = all_selectors(alloc, above, below)?;
+    Ok(Rule { selectors, decls })
+}
+
+/// The selectors of both rules with the declarations of the lower one.
+pub(crate) fn widened_down(alloc: Global, upper: Rule, lower: Rule) -> Result<Rule, AllocError>
+    ensures { IfOk result (λ r. r ≡ record { selectors = parting.both_selectors upper lower; decls = lower.decls }) }
+{
+    let Rule {
+        selectors: above,
+        decls: gone,
+    } = upper;
+    let Rule {
+        selectors: below,
+        decls,
+    } = lower;
+    drop(gone);
+    let selectors = all_selectors(alloc, above, below)?;
+    Ok(Rule { selectors, decls })
+}
+
+/// Copies of the selectors.
+fn selectors(alloc: Global, items: &[SelItem]) -> Result<Vec<SelItem>, AllocError>
+    ensures { IfOk result (λ copies. copies.items ≡ items.now) }
+{
+    let mut copies = Vec::new(alloc);
+    for item in items {
+        copies.push(item.copy()?)?;
+    }
+    Ok(copies)
+}
+
+/// Puts copies of those of the selectors that are not among the others behind what is there.
+fn push_new_selectors(
+    into: Vec<SelItem>,
+    items: &[SelItem],
+    others: &[SelItem],
+) -> Result<Vec<SelItem>, AllocError>
+    ensures { IfOk result (λ kept. kept.items ≡ into.items ++ filter (λ s. not (members.has_selector others.now s.selector)) items.now) }
+{
+    let mut kept = into;
+    let mut rest = items;
+    'rest: while let Some((first, behind)) = rest.split_first() {
+        if !has_selector(others, &first.selector) {
+            kept.push(first.copy()?)?;
+        }
+        rest = behind;
+    }
+    Ok(kept)
+}
+
+/// Copies of the selectors of the upper rule, then of those of the lower one that the upper one lacks.
+fn both_selectors(alloc: Global, upper: &Rule, lower: &Rule) -> Result<Vec<SelItem>, AllocError>
+    ensures { IfOk result (λ both. both.items ≡ parting.both_selectors upper.now lower.now) }
+{
+    let first = selectors(alloc, &upper.selectors)?;
+    push_new_selectors(first, &lower.selectors, &upper.selectors)
+}
+
+/// Copies of those of the declarations that are among the others.
+fn decls_among(
+    alloc: Global,
+    items: &[DeclItem],
+    others: &[DeclItem],
+) -> Result<Vec<DeclItem>, AllocError>
+    ensures { IfOk result (λ kept. kept.items ≡ filter (λ d. members.has_decl others.now d.decl) items.now) }
+{
+    let mut kept = Vec::new(alloc);
+    let mut rest = items;
+    'rest: while let Some((first, behind)) = rest.split_first() {
+        if has_decl(others, &first.decl) {
+            kept.push(first.copy()?)?;
+        }
+        rest = behind;
+    }
+    Ok(kept)
+}
+
+/// Copies of the declarations, each once, of where it stands last.
+fn each_last(alloc: Global, items: &[DeclItem]) -> Result<Vec<DeclItem>, AllocError>
+    ensures { IfOk result (λ last. last.items ≡ parting.each_last items.now) }
+{
+    let mut last = Vec::new(alloc);
+    let mut rest = items;
+    'rest: while let Some((first, behind)) = rest.split_first() {
+        if !has_decl(behind, &first.decl) {
+            last.push(first.copy()?)?;
+        }
+        rest = behind;
+    }
+    Ok(last)
+}
+
+/// Copies of the declarations of the lower rule that stand in the upper one, each once, of where it stands
+/// last.
+fn common_decls(alloc: Global, upper: &Rule, lower: &Rule) -> Result<Vec<DeclItem>, AllocError>
+    ensures { IfOk result (λ common. common.items ≡ parting.common_decls upper.now lower.now) }
+{
+    let common = decls_among(alloc, &lower.decls, &upper.decls)?;
+    each_last(alloc, &common)
+}
+
+/// The common declarations of two rules, with the selectors of both.
+pub(crate) fn shared(alloc: Global, upper: &Rule, lower: &Rule) -> Result<Rule, AllocError>
+    ensures { IfOk result (λ r. r ≡ edits.shared upper.now lower.now) }
+{
+    let selectors = both_selectors(alloc, upper, lower)?;
+    let decls = common_decls(alloc, upper, lower)?;
+    Ok(Rule { selectors, decls })
+}
+
+/// Those of the declarations that are not among the others.
+fn other_decls(
+    alloc: Global,
+    items: Vec<DeclItem>,
+    others: &[DeclItem],
+) -> Result<Vec<DeclItem>, AllocError>
+    ensures { IfOk result (λ kept. kept.items ≡ filter (λ d. not (members.has_decl others.now d.decl)) items.items) }
+{
+    let mut kept = Vec::new(alloc);
+    for item in items {
+        if !has_decl(others, &item.decl) {
+            kept.push(item)?;
+        }
+    }
+    Ok(kept)
+}
+
+/// A rule without these declarations.
+pub(crate) fn without_decls(
+    alloc: Global,
+    gone: &[DeclItem],
+    rule: Rule,
+) -> Result<Rule, AllocError>
+    ensures { IfOk result (λ rest. rest ≡ parting.without_decls gone.now rule) }
+{
+    let Rule { selectors, decls } = rule;
+    let decls = other_decls(alloc, decls, gone)?;
+    Ok(Rule { selectors, decls })
+}

@@ -1,0 +1,84 @@
+//! An item taken out of a board, and what is put in its place.
+
+ghost use Rattle.std.specs.Prelude.{◌≡◌, ◌<◌, ◌+◌, ◌^◌, IfOk, Some, length, slice_get, slice_set};
+ghost use Rattle.css_model.specs.declared.sheet.Item.TheVariants as item;
+ghost use Rattle.css_model.specs.Sheets.RuleParts.{RuleParts};
+ghost use Rattle.plan_board.specs.Marking.{AreRenewed, HasLabelBefore};
+ghost use Rattle.plan_board.specs.Putting.{put_at, items_in, placeholder};
+
+use crate::board::Board;
+use crate::parts::Left;
+use css_model::{Item, Piece, Rule, Sheet};
+use std::alloc::AllocError;
+use std::mem;
+
+/// The rule of this number, with an empty piece left in its place.
+fn lift_rule(items: &mut Vec<Item>, number: u32) -> Rule
+    requires { (r : RuleParts) × (slice_get items.old.items number ≡ Some (item.Rule r)) }
+    ensures rule { slice_get items.old.items number ≡ Some (item.Rule result) }
+    ensures items { items.new.items ≡ slice_set items.old.items number placeholder }
+{
+    let empty = Item::KeptBlock(Piece { start: 0, end: 0 });
+    match mem::replace(&mut items[number as usize], empty) {
+        Item::Rule(rule) => rule,
+        _ => unreachable!(),
+    }
+}
+
+/// Puts what a step leaves in the place of the item of this number.
+fn put_items(mut items: Vec<Item>, number: u32, left: Left) -> Result<Vec<Item>, AllocError>
+    requires { number < length items.items }
+    ensures { IfOk result (λ new. new.items ≡ put_at number (items_in left) items.items) }
+{
+    let number = number as usize;
+    match left {
+        Left::Nothing => {
+            items.remove(number);
+            Ok(items)
+        }
+        Left::One(rule) => {
+            items[number] = Item::Rule(rule);
+            Ok(items)
+        }
+        Left::Two(above, below) => {
+            items[number] = Item::Rule(below);
+            items.insert(number, Item::Rule(above))?;
+            Ok(items)
+        }
+    }
+}
+
+impl Board {
+    /// The rule of this number, and the board with an empty piece in its place.
+    pub(crate) fn lift(self, number: u32) -> (Board, Rule)
+        requires { (r : RuleParts) × (slice_get self.items number ≡ Some (item.Rule r)) }
+        ensures rule { slice_get self.items number ≡ Some (item.Rule result.1) }
+        ensures items { result.0.items ≡ slice_set self.items number placeholder }
+        ensures marks { result.0.marks ≡ self.marks }
+        ensures next { result.0.next ≡ self.next }
+        ensures as_many { length self.marks ≡ length self.items }
+    {
+        let Board { sheet, marks } = self;
+        let Sheet { mut items } = sheet;
+        let rule = lift_rule(&mut items, number);
+        let sheet = Sheet { items };
+        (Board { sheet, marks }, rule)
+    }
+
+    /// The board with what a step leaves in the place of the item of this number.
+    pub(crate) fn put(self, number: u32, left: Left) -> Result<Board, AllocError>
+        requires at { number < length self.items }
+        requires room { 1 < length (items_in left) → (0 < number) × HasLabelBefore self.marks number }
+        requires births { self.next + 2 < 2 ^ 32 }
+        ensures items { IfOk result (λ b. b.items ≡ put_at number (items_in left) self.items) }
+        ensures marks { IfOk result (λ b. AreRenewed self.marks b.marks self.next number (length (items_in left))) }
+        ensures next { IfOk result (λ b. b.next ≡ self.next + length (items_in left)) }
+    {
+        let Board { sheet, marks } = self;
+        let Sheet { items } = sheet;
+        let marks = marks.put(number, &left)?;
+        let items = put_items(items, number, left)?;
+        let sheet = Sheet { items };
+        Ok(Board { sheet, marks })
+    }
+}

@@ -1,0 +1,156 @@
+//! A step taken in a board.
+
+ghost use Rattle.std.specs.Prelude.{◌≡◌, ◌≤◌, ◌<◌, ◌+◌, ◌^◌, ◌∷◌, [], IfOk, length};
+ghost use Rattle.merge_steps.specs.StepParts.{IsCutKind, IsJoinKind};
+ghost use Rattle.order_laws.specs.Edits.{Edit, edited};
+ghost use Rattle.plan_board.specs.Marking.{AreKept, HasLabelFor};
+ghost use Rattle.plan_board.specs.Putting.{items_in};
+ghost use Rattle.step_laws.specs.Steps.{HasStep, IsStep, edit_of, first_item, last_item};
+ghost use Rattle.css_model.specs.declared.sheet.Item.TheVariants as item;
+ghost use Rattle.step_laws.specs.StepEdits as kinds;
+ghost use Rattle.step_savings.specs.CutParts.{HasPart};
+
+use crate::board::Board;
+use crate::parts::{
+    Left, above_left, joined_down, joined_up, left_of, shared, widened_down, widened_up,
+    without_decl, without_decls, without_selector,
+};
+use css_model::Rule;
+use std::alloc::{AllocError, Global};
+use step_laws::Step;
+use step_savings::items_of;
+
+/// What a step leaves in the places of its two rules.
+#[derive(Debug, Drop)]
+struct Halves {
+    above: Left,
+    below: Left,
+}
+
+/// What a cut leaves of its rule.
+fn cut(step: &Step, rule: Rule) -> Left
+    requires cut { IsCutKind step.now }
+    requires part { HasPart step.now rule }
+    ensures { (edit_of step.now rule rule).changes ≡ record { at = first_item step.now; by = items_in result } ∷ [] }
+{
+    match *step {
+        Step::CutDecl { decl, .. } => without_decl(rule, decl),
+        Step::CutSel { sel, .. } => without_selector(rule, sel),
+        _ => unreachable!(),
+    }
+}
+
+/// What a share leaves of its rules.
+fn share(alloc: Global, x: u32, upper: Rule, y: u32, lower: Rule) -> Result<Halves, AllocError>
+    ensures changes { IfOk result (λ h. (kinds.share x y upper lower).changes ≡ record { at = x; by = items_in h.above } ∷ record { at = y; by = items_in h.below } ∷ []) }
+{
+    let made = shared(alloc, &upper, &lower)?;
+    let above = left_of(without_decls(alloc, &made.decls, upper)?);
+    let rest = without_decls(alloc, &made.decls, lower)?;
+    Ok(Halves {
+        above,
+        below: above_left(made, rest),
+    })
+}
+
+/// What a step of two rules leaves of them.
+fn both_left(alloc: Global, step: &Step, upper: Rule, lower: Rule) -> Result<Halves, AllocError>
+    requires { IsJoinKind step.now }
+    ensures changes { IfOk result (λ h. (edit_of step.now upper lower).changes ≡ record { at = first_item step.now; by = items_in h.above } ∷ record { at = last_item step.now; by = items_in h.below } ∷ []) }
+{
+    match *step {
+        Step::JoinSelUp { .. } => Ok(up(joined_up(upper, lower)?)),
+        Step::JoinSelDown { .. } => Ok(down(joined_down(upper, lower)?)),
+        Step::JoinDeclUp { .. } => Ok(up(widened_up(alloc, upper, lower)?)),
+        Step::JoinDeclDown { .. } => Ok(down(widened_down(alloc, upper, lower)?)),
+        Step::Share { upper: x, lower: y } => share(alloc, x, upper, y, lower),
+        _ => unreachable!(),
+    }
+}
+
+/// A rule in the upper place.
+fn up(rule: Rule) -> Halves
+    ensures above { items_in result.above ≡ item.Rule rule ∷ [] }
+    ensures below { items_in result.below ≡ [] }
+{
+    Halves {
+        above: Left::One(rule),
+        below: Left::Nothing,
+    }
+}
+
+/// A rule in the lower place.
+fn down(rule: Rule) -> Halves
+    ensures above { items_in result.above ≡ [] }
+    ensures below { items_in result.below ≡ item.Rule rule ∷ [] }
+{
+    Halves {
+        above: Left::Nothing,
+        below: Left::One(rule),
+    }
+}
+
+impl Board {
+    /// The board after a cut.
+    fn take_cut(self, step: &Step, number: u32) -> Result<Board, AllocError>
+        requires is_step { HasStep self.items step.now }
+        requires cut { IsCutKind step.now }
+        requires number { number ≡ first_item step.now }
+        requires births { self.next + 4 < 2 ^ 32 }
+        ensures items { IfOk result (λ b. (e : Edit) → IsStep self.items step.now e → b.items ≡ edited e self.items) }
+        ensures marks { IfOk result (λ b. (e : Edit) → IsStep self.items step.now e → AreKept self b e) }
+        ensures more { IfOk result (λ b. self.next ≤ b.next) }
+        ensures few { IfOk result (λ b. b.next ≤ self.next + 4) }
+    {
+        let (board, rule) = self.lift(number);
+        let left = cut(step, rule);
+        let after = board.put(number, left)?;
+        Ok(after)
+    }
+
+    /// The board after a step of two rules.
+    fn take_two(
+        self,
+        alloc: Global,
+        step: &Step,
+        upper: u32,
+        lower: u32,
+    ) -> Result<Board, AllocError>
+        requires is_step { HasStep self.items step.now }
+        requires join { IsJoinKind step.now }
+        requires first { upper ≡ first_item step.now }
+        requires last { lower ≡ last_item step.now }
+        requires label { HasLabelFor self.marks step.now }
+        requires births { self.next + 4 < 2 ^ 32 }
+        ensures items { IfOk result (λ b. (e : Edit) → IsStep self.items step.now e → b.items ≡ edited e self.items) }
+        ensures marks { IfOk result (λ b. (e : Edit) → IsStep self.items step.now e → AreKept self b e) }
+        ensures more { IfOk result (λ b. self.next ≤ b.next) }
+        ensures few { IfOk result (λ b. b.next ≤ self.next + 4) }
+    {
+        let (lifted, above) = self.lift(upper);
+        let (again, below) = lifted.lift(lower);
+        let left = both_left(alloc, step, above, below)?;
+        let Halves { above, below } = left;
+        let between = again.put(lower, below)?;
+        let after = between.put(upper, above)?;
+        Ok(after)
+    }
+
+    /// The board after one of its steps, which is taken in place: the items that it does not take keep their
+    /// marks, and the others are born later than all before. After an error nothing is left.
+    pub fn take(self, alloc: Global, step: &Step) -> Result<Board, AllocError>
+        requires is_step { HasStep self.items step.now }
+        requires label { HasLabelFor self.marks step.now }
+        requires births { self.next + 4 < 2 ^ 32 }
+        ensures items { IfOk result (λ b. (e : Edit) → IsStep self.items step.now e → b.items ≡ edited e self.items) }
+        ensures marks { IfOk result (λ b. (e : Edit) → IsStep self.items step.now e → AreKept self b e) }
+        ensures more { IfOk result (λ b. self.next ≤ b.next) }
+        ensures few { IfOk result (λ b. b.next ≤ self.next + 4) }
+    {
+        let (first, last) = items_of(step);
+        match step {
+            Step::CutDecl { .. } | Step::CutSel { .. } => self.take_cut(step, first),
+            _ => self.take_two(alloc, step, first, last),
+        }
+    }
+}
