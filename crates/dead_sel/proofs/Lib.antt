@@ -1,0 +1,2 @@
+mod Star
+mod Known

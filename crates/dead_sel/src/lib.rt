@@ -1,0 +1,12 @@
+//! Whether a selector matches anything in any document, with evidence where it does.
+#![tactic(auto)]
+
+mod asking;
+mod every;
+mod living;
+
+pub use asking::life;
+pub use living::Life;
+
+#[cfg(test)]
+mod tests;
