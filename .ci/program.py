@@ -10,12 +10,19 @@ that are stored beside them. Prints each difference, and ends with 1 where there
 
 import glob
 import os
+import re
 import resource
 import subprocess
 import sys
 import tempfile
 
-USAGE = b"usage: cssmin min\n"
+MORE = b"\nFor more information, try '--help'.\n"
+NO_WORD = b"""error: 'cssmin' requires a subcommand but one was not provided
+  [subcommands: min, cmp, help]
+
+Usage: cssmin <COMMAND>
+""" + MORE
+USAGE = b"usage: cssmin COMMAND\n"
 READ_FAULT = b"read fault\n"
 WRITE_FAULT = b"write fault\n"
 NO_MEMORY = b"out of memory\n"
@@ -77,16 +84,61 @@ def limit_memory(kibibytes):
     return lambda: resource.setrlimit(resource.RLIMIT_DATA, (size, size))
 
 
+def unknown(word, tip=b""):
+    """What is told of a word that is no command."""
+    return b"error: unrecognized subcommand '%s'\n\n%sUsage: cssmin <COMMAND>\n%s" % (word, tip, MORE)
+
+
+def unexpected(word):
+    """What is told of a word behind `min` that it does not take."""
+    return b"error: unexpected argument '%s' found\n\nUsage: cssmin min\n%s" % (word, MORE)
+
+
 def try_words(tries):
-    for name, words in [
-        ("no word", []),
-        ("another word", ["mim"]),
-        ("a word too much", ["min", "min"]),
-        ("a word that is no UTF-8", [b"\xff"]),
-        ("a word that is no UTF-8 behind min", ["min", b"\xff"]),
-        ("a word that is no UTF-8 before min", [b"\xff", "min"]),
+    for name, words, told in [
+        ("no word", [], NO_WORD),
+        ("another word", ["mim"], unknown(b"mim", b"  tip: a similar subcommand exists: 'min'\n\n")),
+        ("a word too much", ["min", "min"], unexpected(b"min")),
+        ("a budget too great", ["cmp", "a", "b", "--budget", "20001"],
+            b"error: invalid value '20001' for '--budget <N>': 20001 is not in 0..=20000\n" + MORE),
+        ("a leading zero", ["cmp", "a", "b", "--budget", "07"], USAGE),
+        ("help and more", ["min", "--help", "--report"], USAGE),
+        ("a word that is no UTF-8", [b"\xff"], NO_WORD),
+        ("a word that is no UTF-8 behind min", ["min", b"\xff"], NO_WORD),
+        ("a word that is no UTF-8 before min", [b"\xff", "min"], NO_WORD),
     ]:
-        tries.check_read(name, words, SHEET, 2, b"", USAGE, 0)
+        tries.check_read(name, words, SHEET, 2, b"", told, 0)
+
+
+def try_itself(tries):
+    """Help and the version, which is that of README."""
+    with open("README.md", encoding="utf-8") as file:
+        version = re.search(r"^Version (\S+)\.", file.read(), re.MULTILINE)[1]
+    for word in ["--version", "-V"]:
+        tries.check_read(word, [word], SHEET, 0, f"cssmin {version}\n".encode(), b"", 0)
+    for words in [["--help"], ["-h"], ["help"], ["min", "--help"], ["min", "-h"], ["cmp", "--help"], ["cmp", "-h"]]:
+        ran = tries.run(words, SHEET)
+        name = " ".join(words)
+        tries.is_same(name, "the exit status", ran.returncode, 0)
+        tries.is_same(name, "standard error", ran.stderr, b"")
+        tries.is_same(name, "whether it fits on a screen", 5 < ran.stdout.count(b"\n") < 30, True)
+    with open("/dev/full", "wb") as full:
+        tries.check("help for a full output", ["--help"], SHEET, 5, b"", WRITE_FAULT, stdout=full)
+
+
+def try_pairs(tries):
+    overlap = b"overlap\nchild 0 pseudo none\n0 1 - x\n1 1 * x class=icon-a%20b%20a\n"
+    for words, text in [
+        (["#a #a", "b"], b"disjoint\n"),
+        ([":nth-child(2n)+p", ":nth-child(2n)"], b"disjoint\n"),
+        (["ul > li + li", "li:first-child"], b"disjoint\n"),
+        (['[class^="icon-"]', ".b"], overlap),
+        (["a:is(b)", "c"], b"outside 1\n"),
+        (["", "a"], b"outside 10\n"),
+    ]:
+        tries.check_read(" ".join(words), ["cmp", *words], SHEET, 0, text, b"", 0)
+    with open("/dev/full", "wb") as full:
+        tries.check("a pair for a full output", ["cmp", "a", "b"], SHEET, 5, b"", WRITE_FAULT, stdout=full)
 
 
 def try_sheets(tries):
@@ -112,7 +164,7 @@ def try_streams(tries):
     with open("/dev/full", "wb") as full:
         tries.check("a full output", ["min"], SHEET, 5, b"", WRITE_FAULT, stdout=full)
         tries.check("nothing for a full output", ["min"], b"", 0, b"", b"", stdout=full)
-        tries.check("a full standard error", [], SHEET, 2, b"", USAGE, stderr=full)
+        tries.check("a full standard error", [], SHEET, 2, b"", NO_WORD, stderr=full)
         tries.check("a full standard error, a sheet", ["min"], SHEET, 0, PRINTED, b"", stderr=full)
     tries.check("a closed standard error", [], SHEET, 2, b"", b"", before=close(2))
     tries.check("a closed standard error, a sheet", ["min"], SHEET, 0, PRINTED, b"", before=close(2))
@@ -124,7 +176,7 @@ def try_memory(tries, sheet, printed):
     tries.check("no room for the input", ["min"], SHEET, 6, b"", NO_MEMORY, before=short)
     many = ["x" * 100_000] * 10
     tries.check("no room for the words", many, SHEET, 6, b"", NO_MEMORY, before=short)
-    tries.check("room for the words", many, SHEET, 2, b"", USAGE)
+    tries.check("room for the words", many, SHEET, 2, b"", unknown(many[0].encode()))
     ends = {(0, printed, b""), (6, b"", NO_MEMORY)}
     seen = set()
     for kibibytes in range(512, 8192, 64):
@@ -155,6 +207,8 @@ def main():
     os.chdir(os.path.join(os.path.dirname(os.path.abspath(__file__)), ".."))
     tries = Tries(program)
     try_words(tries)
+    try_itself(tries)
+    try_pairs(tries)
     try_sheets(tries)
     try_streams(tries)
     # A sheet that joins, so that each kind of memory is taken.

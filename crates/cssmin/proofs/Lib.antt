@@ -1,5 +1,6 @@
 mod Faults
+mod Forms
 mod Outcomes
 mod Reading
 mod Told
-mod OneWord
+mod Wrote

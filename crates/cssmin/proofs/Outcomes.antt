@@ -1,18 +1,10 @@
 -- What a status says, as the laws of a run state it.
 use Rattle.std.proofs.Common.{◌≡◌, ◌⊎◌, ◌↔◌, inl, inr, ℕ, ◌<◌, List, [], ◌∷◌, Bool, true, false, cond, Option, Some, None, IsSomeAnd, length, take, refl, sym, ◌∙◌, ap, subst}
-use Rattle.std.proofs.lemmas.Bool.{false≢true}
-use Rattle.std.specs.Cmp.Lexicographic.{bytes_decides}
-use Rattle.std.specs.Prelude.{codes, IfSome, IsNone}
-use Rattle.css_model.specs.Lists.{same_text}
+use Rattle.std.specs.Prelude.{IfSome}
 use Rattle.css_model.specs.declared.fault.SheetFault.{SheetFault}
 use Rattle.minify.specs.Minified.{HasFault, HasNoFault, IsMinified}
 use Rattle.cssmin.specs.Change.{Change, HasFailed, IsAllRead, Adds}
 use Rattle.cssmin.specs.Commands.Min.{IsRefused, Began, MinDoes}
-use Rattle.cssmin.specs.Laws.{IsMin}
-use Rattle.cssmin.specs.Run.{Outcome, Ran}
-use Rattle.cssmin.specs.Words.{command_of}
-use Rattle.cssmin.specs.declared.words.Command.{Command}
-use Rattle.cssmin.specs.declared.words.Command.TheVariants.{Min}
 use Rattle.cssmin.specs.declared.status.Status.{Status}
 use Rattle.cssmin.specs.declared.status.Status.TheVariants.{Done, Usage, SheetRefused, ReadFault, WriteFault, NoMemory}
 use Rattle.cssmin.proofs.Faults.{one_fault, fault_or_none, minified_no_fault}
@@ -54,49 +46,3 @@ completes_of NoMemory (Some bytes) left' n n' output does has sure safe = inr re
 pub completes : (status : Status) (input output : Change) → MinDoes status input output
     → IsSomeAnd input.old HasNoFault → (HasFailed input → ⊥) → (HasFailed output → ⊥) → (status ≡ Done) ⊎ (status ≡ NoMemory)
 completes status input output does has sure safe = completes_of status input.old input.new input.old_faults input.new_faults output does has sure safe
-
--- the words of the command are the one word `min`
-min_is : (words : List (List ℕ)) → command_of words ≡ Some Min → IsMin words
-min_is [] is = absurd cc
-min_is (word ∷ []) is = by_test (same_text word (codes "min")) refl is
-  where
-    by_test : (same : Bool) → same_text word (codes "min") ≡ same → cond same (Some Min) None ≡ Some Min → IsMin (word ∷ [])
-    by_test true test is = ap (λ (w : List ℕ). w ∷ []) ((bytes_decides word (codes "min")).0 test)
-    by_test false test is = absurd cc
-min_is (word ∷ next ∷ words) is = absurd cc
-
-command_is_min : (words : List (List ℕ)) → IsMin words → command_of words ≡ Some Min
-command_is_min words is = subst (λ (ws : List (List ℕ)). command_of ws ≡ Some Min) (sym is) refl
-
--- a command did what its word says, where the words are those of one
-by_command : (status : Status) (input output : Change) (command : Option Command) → (IsNone command → status ≡ Usage) → IfSome command (λ c. Outcome c status input output) → (status ≡ Usage → ⊥)
-    → (command ≡ Some Min) × MinDoes status input output
-by_command status input output None usage outcome other = absurd (other (usage refl))
-by_command status input output (Some Min) usage outcome other = (refl, outcome)
-
-pub of_min : (words : List (List ℕ)) (status : Status) (input output err : Change) → Ran words status input output err → (status ≡ Usage → ⊥) → IsMin words × MinDoes status input output
-of_min words status input output err ran other = let did = by_command status input output (command_of words) ran.usage.1 ran.outcome other in (min_is words did.0, did.1)
-
--- the word `min` did what it says
-pub min_does : (words : List (List ℕ)) (status : Status) (input output err : Change) → Ran words status input output err → IsMin words → MinDoes status input output
-min_does words status input output err ran min = subst (λ (command : Option Command). IfSome command (λ c. Outcome c status input output)) (command_is_min words min) ran.outcome
-
-some_is : IsNone (Some Min) → ⊥
-some_is none = absurd cc
-
-other_words : (status : Status) (command : Option Command) → (IsNone command → status ≡ Usage) → (command ≡ Some Min → ⊥) → status ≡ Usage
-other_words status None usage other = usage refl
-other_words status (Some Min) usage other = absurd (other refl)
-
-pub usage_is : (words : List (List ℕ)) (status : Status) (input output err : Change) → Ran words status input output err → (status ≡ Usage) ↔ (IsMin words → ⊥)
-usage_is words status input output err ran = (
-  λ usage min. some_is (subst (λ (command : Option Command). IsNone command) (command_is_min words min) (ran.usage.0 usage)),
-  λ other. other_words status (command_of words) ran.usage.1 (λ is. other (min_is words is)),
-)
-
-write_fault_apart : (status : Status) → status ≡ WriteFault → status ≡ Usage → ⊥
-write_fault_apart status is usage = absurd (let apart : WriteFault ≡ Usage = sym is ∙ usage in cc)
-
-pub write_fault_is : (words : List (List ℕ)) (status : Status) (input output err : Change) → Ran words status input output err → status ≡ WriteFault → HasFailed output × Began input output
-write_fault_is words status input output err ran is =
-    subst (λ (s : Status). MinDoes s input output) is (of_min words status input output err ran (write_fault_apart status is)).1

@@ -1,2 +1,3 @@
 -- What each command does, one module a command.
+pub mod Cmp
 pub mod Min

@@ -5,3 +5,4 @@ pub mod Run
 pub mod Status
 pub mod Telling
 pub mod Words
+pub mod Writing

@@ -1,21 +1,38 @@
--- What a run of the program did, by its command and its status.
-use Rattle.std.specs.Prelude.{◌≡◌, ◌↔◌, ℕ, List, Option, Some, IfSome, IsNone}
+-- What a run of the program did, by what its words ask for and its status.
+use Rattle.std.specs.Prelude.{◌≡◌, ℕ, Bool, true, false, List, Option, Some, None}
+use Rattle.command_texts.specs.Texts.{EndsLine, version_text}
+use Rattle.command_words.specs.Forms.{Form, Min, Cmp, Help, Version, form_of}
+use Rattle.overlap.specs.PairsParts.{PairsParts}
 use Rattle.cssmin.specs.Change.{Change}
+use Rattle.cssmin.specs.Commands.Cmp.{CmpDoes}
 use Rattle.cssmin.specs.Commands.Min.{MinDoes}
 use Rattle.cssmin.specs.Telling.{Tells}
-use Rattle.cssmin.specs.Words.{command_of}
+use Rattle.cssmin.specs.Writing.{WritesSome}
 use Rattle.cssmin.specs.declared.status.Status.{Status}
 use Rattle.cssmin.specs.declared.status.Status.TheVariants.{Usage}
-use Rattle.cssmin.specs.declared.words.Command.{Command}
-use Rattle.cssmin.specs.declared.words.Command.TheVariants.{Min}
 
--- what a command that ended with this status did to the input and the output
-abbrev pub Outcome : Command → Status → (input output : Change) → Type 0
-Outcome Min status input output = MinDoes status input output
+-- What a run that ended with this status did to the input and the output, and which answers it holds, by
+-- what its words ask for. Each case says that the status is not `Usage`.
+abbrev pub Outcome : Form → Status → (input output : Change) → (held : Option PairsParts) → Type 0
+Outcome Min status input output held = MinDoes status input output × (held ≡ None)
+Outcome (Cmp left right budget) status input output held = CmpDoes left right budget status output held
+Outcome (Help about) status input output held = WritesSome EndsLine status output × (held ≡ None)
+Outcome Version status input output held = WritesSome (λ text. text ≡ version_text) status output × (held ≡ None)
 
--- A run on these words ended with this status: exactly words of no command are refused, and else the
--- command did what its word says. The line of the status was told.
-pub record Ran (words : List (List ℕ)) (status : Status) (input output err : Change) : Type 0 where
-  pub usage : (status ≡ Usage) ↔ IsNone (command_of words)
-  pub outcome : IfSome (command_of words) (λ command. Outcome command status input output)
+-- The same of any words: those that have no form are refused.
+abbrev pub Answers : Option Form → Status → (input output : Change) → (held : Option PairsParts) → Type 0
+Answers None status input output held = (status ≡ Usage) × (held ≡ None)
+Answers (Some form) status input output held = Outcome form status input output held
+
+-- whether the input is needed
+abbrev pub needs_input : Option Form → Bool
+needs_input None = false
+needs_input (Some Min) = true
+needs_input (Some (Cmp left right budget)) = false
+needs_input (Some (Help about)) = false
+needs_input (Some Version) = false
+
+-- A run on these words ended with this status: it did what the words ask for, and told the status's message.
+pub record Ran (words : List (List ℕ)) (status : Status) (input output err : Change) (held : Option PairsParts) : Type 0 where
+  pub answers : Answers (form_of words) status input output held
   pub told : Tells status err

@@ -1,5 +1,6 @@
 -- What a run tells on standard error, and the exit status that it ends with.
-use Rattle.std.specs.Prelude.{ℕ, List, [], ◌∷◌, ◌++◌, codes}
+use Rattle.std.specs.Prelude.{◌≡◌, ℕ, List, [], ◌∷◌, ◌++◌, codes}
+use Rattle.command_texts.specs.Texts.{EndsLine}
 use Rattle.css_model.specs.Sheets.Fault.{fault_text}
 use Rattle.cssmin.specs.declared.status.Status.{Status}
 use Rattle.cssmin.specs.declared.status.Status.TheVariants.{Done, Usage, SheetRefused, ReadFault, WriteFault, NoMemory}
@@ -12,11 +13,12 @@ number_of ReadFault = 4
 number_of WriteFault = 5
 number_of NoMemory = 6
 
--- one line, but for a run that is done, which tells nothing
-abbrev pub message : Status → List ℕ
-message Done = []
-message Usage = codes "usage: cssmin min" ++ 10 ∷ []
-message (SheetRefused fault) = codes "refused: " ++ fault_text fault ++ 10 ∷ []
-message ReadFault = codes "read fault" ++ 10 ∷ []
-message WriteFault = codes "write fault" ++ 10 ∷ []
-message NoMemory = codes "out of memory" ++ 10 ∷ []
+-- One line, but for a run that is done, which tells nothing, and for words that are refused, of which some
+-- lines tell why.
+abbrev pub IsMessage : Status → List ℕ → Type 0
+IsMessage Done text = text ≡ []
+IsMessage Usage text = EndsLine text
+IsMessage (SheetRefused fault) text = text ≡ codes "refused: " ++ fault_text fault ++ 10 ∷ []
+IsMessage ReadFault text = text ≡ codes "read fault" ++ 10 ∷ []
+IsMessage WriteFault text = text ≡ codes "write fault" ++ 10 ∷ []
+IsMessage NoMemory text = text ≡ codes "out of memory" ++ 10 ∷ []

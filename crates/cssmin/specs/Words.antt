@@ -1,19 +1,11 @@
 -- The words of the command line.
-use Rattle.std.specs.Prelude.{◌≡◌, ◌≢◌, ℕ, List, [], ◌∷◌, Option, Some, None, Result, Ok, Err, Vec, if◌then◌else◌, codes, drop}
+use Rattle.std.specs.Prelude.{◌≡◌, ◌≢◌, [], Result, Ok, Err, Vec, drop}
 use Rattle.std.specs.Global.{Global}
 use Rattle.std.specs.IoError.{error_kind}
 use Rattle.std.specs.Vec.Iter.{into_iter_items}
 use Rattle.std.specs.declared.io.Error.{Error}
 use Rattle.std.specs.declared.io.ErrorKind.TheVariants.{InvalidData}
 use Rattle.std.specs.declared.vec.IntoIter.{IntoIter}
-use Rattle.css_model.specs.Lists.{same_text}
-use Rattle.cssmin.specs.declared.words.Command.{Command}
-use Rattle.cssmin.specs.declared.words.Command.TheVariants.{Min}
-
--- the command that the words after the program's name are, if they are one
-abbrev pub command_of : List (List ℕ) → Option Command
-command_of (word ∷ []) = if same_text word (codes "min") then Some Min else None
-command_of words = None
 
 -- Which words are handed in of all the program's words, of which the first is its name: those after it,
 -- and none where they are no UTF-8. An error says that there is no room for them.

@@ -1,3 +1,5 @@
 //! What the program can do, one module a command.
 
+pub(crate) mod about;
+pub(crate) mod cmp;
 pub(crate) mod min;

@@ -1,30 +1,32 @@
 //! What follows from the contract of a run, as functions that do nothing.
 
-ghost use Rattle.cssmin.specs.Laws.{MinIsOneWord, OtherWordsAreUsage, OtherStatusIsOfMin, DoneIsMinified, RefusedHasTheFault, ReadFaultHasFailed, WriteFaultHasFailed, FaultIsRefused, FaultlessIsDone, ConstantCountHasNoReadFault, ConstantCountHasNoWriteFault};
+ghost use Rattle.cssmin.specs.Laws as laws;
 
-/// The words of `min` are this one word, and exactly other words are refused.
+/// Exactly words without a form are refused, and what other words ask for was done.
 pub(crate) fn words_decide_usage()
-    ensures one_word { MinIsOneWord }
-    ensures usage { OtherWordsAreUsage }
-    ensures of_min { OtherStatusIsOfMin }
+    ensures usage { laws.OtherWordsAreUsage }
+    ensures min { laws.MinDoesItsWord }
+    ensures cmp { laws.CmpDoesItsWord }
 {}
 
 /// What each status says of the input and the output.
 pub(crate) fn each_status_has_its_cause()
-    ensures done { DoneIsMinified }
-    ensures refused { RefusedHasTheFault }
-    ensures read_fault { ReadFaultHasFailed }
-    ensures write_fault { WriteFaultHasFailed }
+    ensures done { laws.DoneIsMinified }
+    ensures refused { laws.RefusedHasTheFault }
+    ensures read_fault { laws.ReadFaultHasFailed }
+    ensures write_fault { laws.WriteFaultHasFailed }
+    ensures front { laws.WriteFaultLeavesAFront }
 {}
 
 /// Which status comes, but for want of memory, where no stream failed.
 pub(crate) fn each_sheet_has_its_status()
-    ensures refuses { FaultIsRefused }
-    ensures complete { FaultlessIsDone }
+    ensures refuses { laws.FaultIsRefused }
+    ensures complete { laws.FaultlessIsDone }
+    ensures others { laws.OthersAreDone }
 {}
 
 /// Over streams whose counts of faults stay, no fault of reading or writing is answered.
 pub(crate) fn constant_counts_answer_no_fault()
-    ensures no_read_fault { ConstantCountHasNoReadFault }
-    ensures no_write_fault { ConstantCountHasNoWriteFault }
+    ensures no_read_fault { laws.ConstantCountHasNoReadFault }
+    ensures no_write_fault { laws.ConstantCountHasNoWriteFault }
 {}

@@ -7,6 +7,7 @@ mod run;
 mod status;
 mod telling;
 mod words;
+mod writing;
 
 use css_io::{StdSink, StdSource};
 use run::run_words;
@@ -19,7 +20,8 @@ fn main(rt: HostRuntime) -> ExitCode {
     let mut input = StdSource::new(rt.stdin());
     let mut out = StdSink::new(rt.stdout());
     let mut err = StdSink::new(rt.stderr());
-    run_words(rt.alloc(), words, &mut input, &mut out, &mut err).exit_code()
+    let mut held = None;
+    run_words(rt.alloc(), words, &mut input, &mut out, &mut err, &mut held).exit_code()
 }
 
 #[cfg(test)]

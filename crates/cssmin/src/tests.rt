@@ -5,6 +5,7 @@ use crate::run::run;
 use crate::status::Status;
 use css_io::{MemSink, MemSource};
 use css_model::{FaultKind, SheetFault};
+use overlap::Pairs;
 use std::alloc::{AllocError, Global};
 use std::io;
 use std::io::ErrorKind;
@@ -60,6 +61,7 @@ struct Ran {
     input: MemSource,
     out: MemSink,
     err: MemSink,
+    held: Option<Pairs>,
 }
 
 impl Ran {
@@ -67,6 +69,11 @@ impl Ran {
         assert!(rt; self.status == status);
         assert_eq!(rt; self.out.bytes(), out);
         assert_eq!(rt; self.err.bytes(), err);
+    }
+
+    fn assert_wrote(&self, rt: &impl Abort, out: &str) {
+        self.assert_is(rt, Status::Done, out.as_bytes(), b"");
+        assert_eq!(rt; self.input.rest(), SHEET);
     }
 }
 
@@ -91,13 +98,24 @@ fn run_words(
     let sink_fails = calls_of(alloc, outside.sink_fails)?;
     let mut out = MemSink::new(alloc, outside.room, outside.sink_piece, sink_fails)?;
     let mut err = MemSink::new(alloc, outside.err_room, 4096, Vec::new(alloc))?;
-    let status = run(alloc, words, &mut input, &mut out, &mut err);
+    let mut held = None;
+    let status = run(alloc, words, &mut input, &mut out, &mut err, &mut held);
     Ok(Ran {
         status,
         input,
         out,
         err,
+        held,
     })
+}
+
+// Runs the words of a line over a sheet that is not to be read.
+fn run_line(alloc: Global, line: &str, outside: Outside) -> Result<Ran, AllocError> {
+    let mut words = Vec::new(alloc);
+    for word in line.split(' ') {
+        words.push(String::from_str(alloc, word)?)?;
+    }
+    run_words(alloc, &words, SHEET.to_vec(alloc)?, outside)
 }
 
 fn run_min(alloc: Global, text: &[u8], outside: Outside) -> Result<Ran, AllocError> {
@@ -110,6 +128,7 @@ fn minifies(rt: HostRuntime) -> Result<(), Fail> {
     for (text, printed) in [(&b""[..], &b""[..]), (SHEET, PRINTED)] {
         let ran = run_min(rt.alloc(), text, Outside::faultless())?;
         ran.assert_is(&rt, Status::Done, printed, b"");
+        assert!(rt; ran.held.is_none());
     }
     Ok(())
 }
@@ -165,15 +184,107 @@ fn refuses_what_is_too_long(rt: HostRuntime) -> Result<(), Fail> {
 
 #[test]
 fn other_words_read_nothing(rt: HostRuntime) -> Result<(), Fail> {
-    for line in ["", "min min", "mim", "--report", "Min", "minn"] {
-        let mut words = Vec::new(rt.alloc());
-        for word in line.split_ascii_whitespace() {
-            words.push(String::from_str(rt.alloc(), word)?)?;
-        }
-        let text = SHEET.to_vec(rt.alloc())?;
-        let ran = run_words(rt.alloc(), &words, text, Outside::faultless())?;
-        ran.assert_is(&rt, Status::Usage, b"", b"usage: cssmin min\n");
+    for line in [
+        "",
+        "min min",
+        "mim",
+        "--report",
+        "cmp a",
+        "min --help --report",
+    ] {
+        let mut outside = Outside::faultless();
+        outside.err_room = 1000;
+        let ran = run_line(rt.alloc(), line, outside)?;
+        assert!(rt; ran.status == Status::Usage, "{line}");
+        assert!(rt; ran.out.bytes().is_empty(), "{line}");
+        assert!(rt; ran.err.bytes().ends_with(b"\n"), "{line}");
         assert_eq!(rt; ran.input.rest(), SHEET, "after {line}");
+    }
+    Ok(())
+}
+
+#[test]
+fn tells_of_itself(rt: HostRuntime) -> Result<(), Fail> {
+    let ran = run_line(rt.alloc(), "--version", Outside::faultless())?;
+    ran.assert_wrote(&rt, "cssmin 0.3.0\n");
+    let mut roomy = Outside::faultless();
+    roomy.room = 2000;
+    for line in [
+        "--help",
+        "-h",
+        "help",
+        "min --help",
+        "min -h",
+        "cmp --help",
+        "cmp -h",
+    ] {
+        let ran = run_line(rt.alloc(), line, roomy)?;
+        assert!(rt; ran.status == Status::Done, "{line}");
+        assert!(rt; ran.out.bytes().len() > 100, "{line}");
+        assert!(rt; ran.err.bytes().is_empty(), "{line}");
+        assert_eq!(rt; ran.input.rest(), SHEET, "after {line}");
+    }
+    Ok(())
+}
+
+// Pairs with their answers, worked by hand.
+const COMPARED: [(&str, &str); 14] = [
+    ("cmp a:link a:visited --budget 0", "disjoint\n"),
+    ("cmp a:link a:visited --budget=0", "disjoint\n"),
+    (
+        "cmp :nth-child(32n+1) :nth-last-child(31n+5)",
+        "overlap\nchild 0 pseudo none\n0 1 - x\n1 1 * x\n1 4 - x\n",
+    ),
+    (
+        "cmp [class^=\"icon-\"] .b",
+        "overlap\nchild 0 pseudo none\n0 1 - x\n1 1 * x class=icon-a%20b%20a\n",
+    ),
+    (
+        "cmp [lang|=en]:not([lang^=\"en-\"]) [lang=en-GB]",
+        "disjoint\n",
+    ),
+    (
+        "cmp a:hover:link:not(:empty) [id]",
+        "overlap\nchild 0 pseudo none\n0 1 - x\n1 1 * a +text :link :hover id=\n",
+    ),
+    (
+        "cmp :root:first-child html",
+        "overlap\nchild 1 pseudo none\n0 1 * html\n",
+    ),
+    ("cmp a:is(b) c", "outside 1\n"),
+    ("cmp c a:is(b)", "outside 1\n"),
+    ("cmp a x|y", "outside 3\n"),
+    ("cmp li:nth-child(33n) a", "outside 8\n"),
+    ("cmp a|b li:nth-child(33n)", "outside 3\n"),
+    (
+        "cmp p:nth-child(2n):nth-child(3n):nth-child(5n) p:nth-child(7n):nth-child(11n)",
+        "outside 11\n",
+    ),
+    ("cmp  ", "outside 10\n"),
+];
+
+#[test]
+fn compares(rt: HostRuntime) -> Result<(), Fail> {
+    for (line, text) in COMPARED {
+        let ran = run_line(rt.alloc(), line, Outside::faultless())?;
+        ran.assert_wrote(&rt, text);
+        assert!(rt; ran.held.is_some(), "{line}");
+    }
+    Ok(())
+}
+
+#[test]
+fn each_write_of_an_answer_may_fail(rt: HostRuntime) -> Result<(), Fail> {
+    for call in 0..9 {
+        let outside = Outside::written_by_bytes(Some(call as u64));
+        let ran = run_line(rt.alloc(), "cmp a:link a:visited", outside)?;
+        ran.assert_is(
+            &rt,
+            Status::WriteFault,
+            &b"disjoint\n"[..call],
+            b"write fault\n",
+        );
+        assert!(rt; ran.held.is_some());
     }
     Ok(())
 }

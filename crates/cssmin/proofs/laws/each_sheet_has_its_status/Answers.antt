@@ -1,8 +1,11 @@
-use Rattle.cssmin.proofs.Outcomes.{completes, min_does, refuses}
+use Rattle.cssmin.proofs.Forms.{completed, others_done, refused_for}
 use Rattle.cssmin.proofs.laws.each_sheet_has_its_status.Goals as goal
 
 pub returns-clause-refuses : goal.returns-clause-refuses
-returns-clause-refuses c = λ words status input output err fault ran min has sure. refuses status input output fault (min_does words status input output err ran min) has sure
+returns-clause-refuses c = refused_for
 
 pub returns-clause-complete : goal.returns-clause-complete
-returns-clause-complete c = λ words status input output err ran min has sure safe. completes status input output (min_does words status input output err ran min) has sure safe
+returns-clause-complete c = completed
+
+pub returns-clause-others : goal.returns-clause-others
+returns-clause-others c = others_done

@@ -1,5 +1,17 @@
-use Rattle.cssmin.proofs.Outcomes.{write_fault_is}
+use Rattle.cssmin.proofs.Forms.{done_is, front_is, read_fault_is, refused_is, write_fault_is}
 use Rattle.cssmin.proofs.laws.each_status_has_its_cause.Goals as goal
+
+pub returns-clause-done : goal.returns-clause-done
+returns-clause-done c = done_is
+
+pub returns-clause-refused : goal.returns-clause-refused
+returns-clause-refused c = refused_is
+
+pub returns-clause-read_fault : goal.returns-clause-read_fault
+returns-clause-read_fault c = read_fault_is
 
 pub returns-clause-write_fault : goal.returns-clause-write_fault
 returns-clause-write_fault c = write_fault_is
+
+pub returns-clause-front : goal.returns-clause-front
+returns-clause-front c = front_is

@@ -1,8 +1,11 @@
-use Rattle.cssmin.proofs.Outcomes.{of_min, usage_is}
+use Rattle.cssmin.proofs.Forms.{cmp_did, min_did, usage_is}
 use Rattle.cssmin.proofs.laws.words_decide_usage.Goals as goal
 
 pub returns-clause-usage : goal.returns-clause-usage
 returns-clause-usage c = usage_is
 
-pub returns-clause-of_min : goal.returns-clause-of_min
-returns-clause-of_min c = of_min
+pub returns-clause-min : goal.returns-clause-min
+returns-clause-min c = min_did
+
+pub returns-clause-cmp : goal.returns-clause-cmp
+returns-clause-cmp c = cmp_did

@@ -1,0 +1,4 @@
+mod Asked
+mod Held
+mod Texts
+mod Truth

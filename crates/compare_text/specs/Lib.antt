@@ -1,0 +1,3 @@
+pub mod ComparedTexts
+pub mod Laws
+pub mod Reading

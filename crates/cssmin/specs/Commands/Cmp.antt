@@ -1,0 +1,31 @@
+-- What `cmp` does: two selectors compared, and the text of the answer on the output.
+use Rattle.std.specs.Prelude.{◌≡◌, ℕ, List, [], Option, Some, None}
+use Rattle.cnf.specs.Budgets.{no_limit}
+use Rattle.compare_text.specs.ComparedTexts.{selector_or_reason, AsksFor, IsCompared}
+use Rattle.overlap.specs.PairsParts.{PairsParts}
+use Rattle.cssmin.specs.Change.{Change, Adds}
+use Rattle.cssmin.specs.Writing.{AddsFront}
+use Rattle.cssmin.specs.declared.status.Status.{Status}
+use Rattle.cssmin.specs.declared.status.Status.TheVariants.{Done, Usage, SheetRefused, ReadFault, WriteFault, NoMemory}
+
+-- no answers yet, with the budget of the words, or with none
+abbrev pub unasked : Option ℕ → PairsParts
+unasked None = record { budget = no_limit; answers = [] }
+unasked (Some budget) = record { budget = budget; answers = [] }
+
+-- What the run asked for is held, and the text is that of the answer that is held for the two texts, or of
+-- the reason why they are not compared.
+pub record IsAnswer (left right : List ℕ) (budget : Option ℕ) (held : Option PairsParts) (text : List ℕ) : Type 0 where
+  pub pairs : PairsParts
+  pub held_is : held ≡ Some pairs
+  pub asked : AsksFor (selector_or_reason left) (selector_or_reason right) (unasked budget) pairs
+  pub compared : IsCompared (selector_or_reason left) (selector_or_reason right) pairs text
+
+-- What `cmp` did, by its status. Want of memory is told before the first byte is written.
+abbrev pub CmpDoes : (left right : List ℕ) (budget : Option ℕ) → Status → (output : Change) → (held : Option PairsParts) → Type 0
+CmpDoes left right budget Done output held = (text : List ℕ) × IsAnswer left right budget held text × Adds text output
+CmpDoes left right budget Usage output held = ⊥
+CmpDoes left right budget (SheetRefused fault) output held = ⊥
+CmpDoes left right budget ReadFault output held = ⊥
+CmpDoes left right budget WriteFault output held = (text : List ℕ) × IsAnswer left right budget held text × AddsFront text output
+CmpDoes left right budget NoMemory output held = held ≡ None
