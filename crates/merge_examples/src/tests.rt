@@ -1,0 +1,153 @@
+//! What sheets become, worked by hand, with how many items they have before and after, and how many steps are taken.
+
+use cnf::NO_LIMIT;
+use merge_text::{MergedText, merge_text};
+use overlap::Pairs;
+use pair_judge::PairJudge;
+use sheet_read::SheetError;
+use std::alloc::Global;
+use std::process::Abort;
+use std::test::Fail;
+
+/// The usual sheet of a page.
+const PAGE: &[u8] = b"/* base */
+@font-face { font-family: \"Icon\"; src: url(icon.woff) }
+html { font-size: 16px; -webkit-text-size-adjust: 100% }
+body { margin: 0; color: #222 }
+h1, h2 { margin: 0 }
+a { color: #06c; text-decoration: none }
+a:hover { color: #048 }
+img { border: 0 }
+.row { margin: 0 -8px }
+.row::before { content: \"\"; display: table }
+.row::after { content: \"\"; display: table }
+.row::after { clear: both }
+.col { float: left; padding: 0 8px }
+.half { width: 50% }
+.third { width: 33% }
+.col { box-sizing: border-box }
+.note { color: #555 }
+.btn { color: #fff; background: #06c }
+.btn:hover { background: #048 }
+.btn:focus-visible { outline: 2px solid }
+.link { color: #06c; text-decoration: none }
+.hide { display: none }
+ul { margin: 0 }
+@media print { .hide { display: block } }
+.note { padding: 4px }
+@media (max-width: 600px) { .half { width: 100% } }
+";
+
+/// What the page's sheet becomes, an item on each line here.
+const MERGED_PAGE: &[u8] = b"@font-face { font-family: \"Icon\"; src: url(icon.woff) }\
+html{font-size:16px;-webkit-text-size-adjust:100%}\
+body{color:#222}\
+body,h1,h2,ul{margin:0}\
+a:hover{color:#048}\
+img{border:0}\
+.row{margin:0 -8px}\
+.row::before,.row::after{content:\"\";display:table}\
+.row::after{clear:both}\
+.col{float:left;padding:0 8px;box-sizing:border-box}\
+.half{width:50%}\
+.third{width:33%}\
+.note{color:#555}\
+.btn{color:#fff;background:#06c}\
+.btn:hover{background:#048}\
+.btn:focus-visible { outline: 2px solid }\
+a,.link{color:#06c;text-decoration:none}\
+.hide{display:none}\
+@media print { .hide { display: block } }\
+.note{padding:4px}\
+@media (max-width: 600px) { .half { width: 100% } }";
+
+/// Merges a source, with no answers at first.
+fn merged(alloc: Global, source: &[u8]) -> Result<MergedText, SheetError> {
+    let mut judge = PairJudge::new(alloc, Pairs::new(alloc, NO_LIMIT));
+    merge_text(alloc, &mut judge, source)
+}
+
+/// A source becomes this text, of so many items in place of those that it has, by so many steps.
+fn becomes(
+    rt: &impl Abort,
+    alloc: Global,
+    source: &[u8],
+    text: &[u8],
+    numbers: (u32, u32, u32),
+) -> Result<(), Fail> {
+    let merged = merged(alloc, source)?;
+    assert_eq!(rt; merged.text.as_slice(), text);
+    let found = (merged.read_items, merged.written_items, merged.taken);
+    assert_eq!(rt; found, numbers);
+    Ok(())
+}
+
+#[test]
+fn what_a_page_becomes(rt: HostRuntime) -> Result<(), Fail> {
+    assert_eq!(rt; MERGED_PAGE.len(), 639);
+    becomes(&rt, rt.alloc(), PAGE, MERGED_PAGE, (25, 21, 5))
+}
+
+#[test]
+fn what_small_sheets_become(rt: HostRuntime) -> Result<(), Fail> {
+    for (source, text, numbers) in [
+        // Up is blocked, since both properties are of one family; down is free.
+        (
+            &b".a{color:red}.b{top:0}.a{left:0}"[..],
+            &b".b{top:0}.a{color:red;left:0}"[..],
+            (3, 2, 1),
+        ),
+        // Up and down are free and save the same; up is first.
+        (
+            b"div{color:red}span{color:blue}div{color:green}",
+            b"div{color:red;color:green}span{color:blue}",
+            (3, 2, 1),
+        ),
+        (b"a{top:0}b{top:0}", b"a,b{top:0}", (2, 1, 1)),
+        (b".a{color:red;color:red}", b".a{color:red}", (1, 1, 1)),
+        (
+            b".a{color:red}.c:focus-visible{top:0}.a{color:green}",
+            b".a{color:red;color:green}.c:focus-visible{top:0}",
+            (3, 2, 1),
+        ),
+        // Both cuts save the same; the first is taken.
+        (b"a,b,a{top:0}", b"b,a{top:0}", (1, 1, 1)),
+        (b".a,.b{top:0}.a{top:0}", b".a,.b{top:0}", (2, 1, 1)),
+        (
+            b".a{top:0;color:red;clear:both}.b{color:red;clear:both;width:1px}",
+            b".a{top:0}.a,.b{color:red;clear:both}.b{width:1px}",
+            (2, 3, 1),
+        ),
+        // The root has no parent, so the two selectors do not meet.
+        (
+            b".a>.b{top:0}.c:root{top:1px}.a>.b{top:2px}",
+            b".a>.b{top:0;top:2px}.c:root{top:1px}",
+            (3, 2, 1),
+        ),
+    ] {
+        becomes(&rt, rt.alloc(), source, text, numbers)?;
+    }
+    Ok(())
+}
+
+#[test]
+fn what_stays_as_it_stands(rt: HostRuntime) -> Result<(), Fail> {
+    for (source, items) in [
+        (&b""[..], 0),
+        (b".a{top:0}.b{top:1px}.a{top:2px}", 3),
+        (
+            b".a{background:red;background:linear-gradient(red,blue)}",
+            1,
+        ),
+        (
+            b".a{color:red}.c:focus-visible{color:blue}.a{color:green}",
+            3,
+        ),
+        (b".a{top:0}@media print{.b{top:1px}}.a{top:2px}", 3),
+        (b".a>.b{top:0}.c.d{top:1px}.a>.b{top:2px}", 3),
+        (b".a{margin:0;margin-left:1px}.b{margin:0}", 2),
+    ] {
+        becomes(&rt, rt.alloc(), source, source, (items, items, 0))?;
+    }
+    Ok(())
+}
