@@ -1,8 +1,10 @@
 //! The plan of merging by turns that lead: one for all steps of an item, in place of a look at each step.
 #![tactic(auto)]
 
+mod aside;
 mod lead;
 mod waiting;
 
+pub use aside::{Aside, Entry};
 pub use lead::{Kind, Lead};
 pub use waiting::Waiting;

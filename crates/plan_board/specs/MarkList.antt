@@ -1,5 +1,5 @@
 -- The marks of some items, and what always holds of them.
-use Rattle.std.specs.Prelude.{◌≡◌, ◌≢◌, ℕ, ◌<◌, List, Some, slice_get}
+use Rattle.std.specs.Prelude.{◌≡◌, ◌≢◌, ℕ, ◌<◌, List, Some, map, slice_get}
 use Rattle.std.specs.List.{All, AllPairs}
 use Rattle.plan_board.specs.declared.marks.Mark.{Mark}
 
@@ -7,6 +7,13 @@ use Rattle.plan_board.specs.declared.marks.Mark.{Mark}
 pub record MarkList : Type 0 where
   pub list : List Mark
   pub next : ℕ
+
+-- the label of each, and the birth of each
+abbrev pub labels_of : List Mark → List ℕ
+labels_of list = map (λ m. m.label) list
+
+abbrev pub births_of : List Mark → List ℕ
+births_of list = map (λ m. m.birth) list
 
 -- labels ascend
 abbrev pub Ascends : List Mark → Type 0

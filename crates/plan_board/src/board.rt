@@ -73,6 +73,13 @@ impl Board {
         self.marks.list()
     }
 
+    /// The birth of the next item that is put in. All births are below it.
+    pub fn next(&self) -> u32
+        ensures { result ≡ self.now.next }
+    {
+        self.marks.next()
+    }
+
     /// The mark of the item of this number.
     pub fn mark(&self, number: u32) -> Mark
         requires { number < length self.now.items }

@@ -63,6 +63,13 @@ impl Marks {
         &self.list
     }
 
+    /// The birth of the next mark.
+    pub(crate) fn next(&self) -> u32
+        ensures { result ≡ self.now.next }
+    {
+        self.next
+    }
+
     /// The marks without the one of this number.
     fn without(self, number: u32) -> Marks
         requires { number < length self.list }

@@ -1,9 +1,9 @@
 //! A step taken in a board.
 
-ghost use Rattle.std.specs.Prelude.{◌≡◌, ◌≤◌, ◌<◌, ◌+◌, ◌^◌, ◌∷◌, [], IfOk, length};
+ghost use Rattle.std.specs.Prelude.{◌≡◌, ◌↔◌, ◌≤◌, ◌<◌, ◌+◌, ◌^◌, ◌∷◌, [], IfOk, IsTrue, length};
 ghost use Rattle.merge_steps.specs.StepParts.{IsCutKind, IsJoinKind};
 ghost use Rattle.order_laws.specs.Edits.{Edit, edited};
-ghost use Rattle.plan_board.specs.Marking.{AreKept, HasLabelFor};
+ghost use Rattle.plan_board.specs.Marking.{AreKept, HasLabelBefore, HasLabelFor};
 ghost use Rattle.plan_board.specs.Putting.{items_in};
 ghost use Rattle.step_laws.specs.Steps.{HasStep, IsStep, edit_of, first_item, last_item};
 ghost use Rattle.css_model.specs.declared.sheet.Item.TheVariants as item;
@@ -11,6 +11,7 @@ ghost use Rattle.step_laws.specs.StepEdits as kinds;
 ghost use Rattle.step_savings.specs.CutParts.{HasPart};
 
 use crate::board::Board;
+use crate::marks::Mark;
 use crate::parts::{
     Left, above_left, joined_down, joined_up, left_of, shared, widened_down, widened_up,
     without_decl, without_decls, without_selector,
@@ -19,6 +20,19 @@ use css_model::Rule;
 use std::alloc::{AllocError, Global};
 use step_laws::Step;
 use step_savings::items_of;
+
+/// Whether a label is left before the mark of this number, if it is not the first one.
+fn has_label_before(marks: &[Mark], number: u32) -> bool
+    ensures { IsTrue result ↔ HasLabelBefore marks.now number }
+{
+    let number = number as usize;
+    if number == 0 || number >= marks.len() {
+        return true;
+    }
+    let above = marks[number - 1].label;
+    let below = marks[number].label;
+    above < below && below - above > 1
+}
 
 /// What a step leaves in the places of its two rules.
 #[derive(Debug, Drop)]
@@ -91,6 +105,16 @@ fn down(rule: Rule) -> Halves
 }
 
 impl Board {
+    /// Whether the new rule of a share finds a label between its neighbours. Each other step needs none.
+    pub fn has_label_for(&self, step: &Step) -> bool
+        ensures { IsTrue result ↔ HasLabelFor self.now.marks step.now }
+    {
+        match *step {
+            Step::Share { lower, .. } => has_label_before(self.marks(), lower),
+            _ => true,
+        }
+    }
+
     /// The board after a cut.
     fn take_cut(self, step: &Step, number: u32) -> Result<Board, AllocError>
         requires is_step { HasStep self.items step.now }
