@@ -1,11 +1,16 @@
 -- What is set aside under the digests of pairs.
-use Rattle.std.specs.Prelude.{◌≡◌, ℕ}
+use Rattle.std.specs.Prelude.{ℕ, ◌==◌, ◌&&◌, Bool, List, map}
+use Rattle.std.specs.List.{filter}
 use Rattle.lead_plan.specs.declared.aside.Entry.{Entry}
 use Rattle.lead_plan.specs.declared.lead.Lead.{Lead}
 
 abbrev pub entry : (selector decl : ℕ) → Lead → Entry
 entry selector decl lead = record { selector = selector; decl = decl; lead = lead }
 
--- an entry stands under these digests
-abbrev pub IsUnder : (selector decl : ℕ) → Entry → Type 0
-IsUnder selector decl e = (e.selector ≡ selector) × (e.decl ≡ decl)
+-- whether an entry stands under these digests
+abbrev pub is_under : (selector decl : ℕ) → Entry → Bool
+is_under selector decl e = (e.selector == selector) && (e.decl == decl)
+
+-- the leads of those that do, in their order
+abbrev pub leads_under : (selector decl : ℕ) → List Entry → List Lead
+leads_under selector decl entries = map (λ e. e.lead) (filter (is_under selector decl) entries)
