@@ -11,7 +11,7 @@ use Rattle.std.proofs.lemmas.Bool.{cases_lt}
 use Rattle.std.proofs.lemmas.Map.Lookups.{exact_unsigned}
 use Rattle.list_facts.proofs.Members.{Contains-cons_cases, Contains-filter, Contains-filtered, Contains-here, Contains-nil, Contains-there}
 use Rattle.rule_tables.specs.declared.entries.Entry.{Entry}
-use Rattle.rule_tables.specs.Entries.{Puts, PutsSome, PutsUnder, Takes, entry}
+use Rattle.rule_tables.specs.Entries.{Puts, PutsSome, PutsUnder, entry}
 
 -- ---- By tests
 
@@ -62,17 +62,6 @@ module _ {K : Type 0} (test : K → K → Bool) (itself : (k : K) → test k k �
       back false e (inl h) = tested old q h
       back false e (inr h) = absurd (not_one x q e h)
 
-  pub takes_by_test : (old new : List K) (x : K) → ((q : K) → list_any (test q) new ≡ cond (test x q) false (list_any (test q) old)) → Takes old (x ∷ []) new
-  takes_by_test old new x is q = (λ h. there (test x q) refl (sym (is q) ∙ tested new q h), λ h. listed new q (is q ∙ back (test x q) refl h))
-    where
-      there : (b : Bool) → test x q ≡ b → cond b false (list_any (test q) old) ≡ true → Contains old q × (Contains (x ∷ []) q → ⊥)
-      there true e h = absurd (true≢false (sym h))
-      there false e h = (listed old q h, not_one x q e)
-
-      back : (b : Bool) → test x q ≡ b → Contains old q × (Contains (x ∷ []) q → ⊥) → cond b false (list_any (test q) old) ≡ true
-      back true e h = absurd (h.1 (one x q e))
-      back false e h = tested old q h.0
-
 -- ---- The order of entries
 
 abbrev entry_cmp : Entry → Entry → Ordering
@@ -108,10 +97,6 @@ nat_same a b h = by (nat_cmp a b) refl h
 pub put_entry : (old new : List Entry) (x : Entry) →
     ((q : Entry) → list_any (λ k. is_eq (entry_cmp q k)) new ≡ cond (is_eq (entry_cmp x q)) true (list_any (λ k. is_eq (entry_cmp q k)) old)) → Puts old (x ∷ []) new
 put_entry old new x is = puts_by_test (λ (q k : Entry). is_eq (entry_cmp q k)) entry_itself entry_same old new x is
-
-pub take_entry : (old new : List Entry) (x : Entry) →
-    ((q : Entry) → list_any (λ k. is_eq (entry_cmp q k)) new ≡ cond (is_eq (entry_cmp x q)) false (list_any (λ k. is_eq (entry_cmp q k)) old)) → Takes old (x ∷ []) new
-take_entry old new x is = takes_by_test (λ (q k : Entry). is_eq (entry_cmp q k)) entry_itself entry_same old new x is
 
 pub put_number : (old new : List ℕ) (x : ℕ) →
     ((q : ℕ) → list_any (λ k. is_eq (nat_cmp q k)) new ≡ cond (is_eq (nat_cmp x q)) true (list_any (λ k. is_eq (nat_cmp q k)) old)) → Puts old (x ∷ []) new
@@ -149,21 +134,6 @@ module _ {X : Type 0} where
       back : Contains a x ⊎ Contains (y ∷ ys) x → Contains b x ⊎ Contains ys x
       back (inl h) = inl ((f x).1 (inl h))
       back (inr h) = elim (cons_cases y ys x h) [ inl k ↦ inl ((f x).1 (inr k)) | inr k ↦ inr k ]
-
-  pub takes_none : (a : List X) → Takes a [] a
-  takes_none a x = (λ h. (h, Contains-nil x), λ h. h.0)
-
-  pub takes_more : (a b c : List X) (y : X) (ys : List X) → Takes a (y ∷ []) b → Takes b ys c → Takes a (y ∷ ys) c
-  takes_more a b c y ys f g x = (there, back)
-    where
-      there : Contains c x → Contains a x × (Contains (y ∷ ys) x → ⊥)
-      there h =
-          let k : Contains b x × (Contains ys x → ⊥) = (g x).0 h in
-          let l : Contains a x × (Contains (y ∷ []) x → ⊥) = (f x).0 k.0 in
-          (l.0, λ m. elim (cons_cases y ys x m) [ inl n ↦ l.1 n | inr n ↦ k.1 n ])
-
-      back : Contains a x × (Contains (y ∷ ys) x → ⊥) → Contains c x
-      back h = (g x).1 ((f x).1 (h.0, λ m. h.1 (first_in y ys x m)), λ m. h.1 (Contains-there y ys x m))
 
   pub some_put : (a b : List X) (ys : List X) → b ≡ a → PutsSome a ys b
   some_put a b ys e x = (λ h. subst (λ (zs : List X). Contains zs x) (sym e) h, λ h. inl (subst (λ (zs : List X). Contains zs x) e h))
@@ -242,15 +212,8 @@ module _ {S X : Type 0} (f : S → X) where
   some_step rest behind first is a b c y same g h =
       subst (λ (s : List S). PutsSome a (map f s) c) (sym is) (some_more a b c (f first) (map f behind) (subst (λ (z : X). Puts a (z ∷ []) b) same g) h)
 
-  pub takes_step : (rest behind : List S) (first : S) → rest ≡ first ∷ behind → (a b c : List X) (y : X) → y ≡ f first → Takes a (y ∷ []) b → Takes b (map f behind) c → Takes a (map f rest) c
-  takes_step rest behind first is a b c y same g h =
-      subst (λ (s : List S). Takes a (map f s) c) (sym is) (takes_more a b c (f first) (map f behind) (subst (λ (z : X). Takes a (z ∷ []) b) same g) h)
-
   pub puts_end : (rest : List S) → rest ≡ [] → (a : List X) → Puts a (map f rest) a
   puts_end rest is a = subst (λ (s : List S). Puts a (map f s) a) (sym is) (puts_none a)
-
-  pub takes_end : (rest : List S) → rest ≡ [] → (a : List X) → Takes a (map f rest) a
-  takes_end rest is a = subst (λ (s : List S). Takes a (map f s) a) (sym is) (takes_none a)
 
 pub show_digest : (keys shown : List Entry) (digest : ℕ) → shown ≡ filter (range_contains entry_cmp (Included (entry digest 0)) (Excluded (entry (digest + 1) 0))) keys → (label : ℕ) →
     Contains keys (entry digest label) → Contains shown (entry digest label)

@@ -9,10 +9,10 @@ use Rattle.list_facts.proofs.Members.{Contains-cons_cases, Contains-here, Contai
 use Rattle.rule_tables.specs.declared.entries.Entry.{Entry}
 use Rattle.rule_tables.specs.Digests.{selector_digest, decl_digest}
 use Rattle.rule_tables.specs.Entries.{PutsUnder, entry}
-use Rattle.rule_tables.specs.Tables.{CanBePartners, HaveDigestInCommon, IsUnderOne, Labelled, PutsShared, PutsUnderOne, StandFor, TableParts, decl_digests, entries_by_decl, entries_by_selector, selector_digests}
+use Rattle.rule_tables.specs.Tables.{CanBePartners, Cover, IsUnderOne, IsUnderPart, Labelled, PutsShared, PutsUnderOne, TableParts, decl_digests, entries_by_decl, entries_by_selector, selector_digests}
 use Rattle.rule_tables.specs.Tables.{by_selectors, by_decl}
 use Rattle.rule_tables.proofs.EntrySets.{mapped, unmapped}
-use Rattle.rule_tables.proofs.Standing.{in_flat, of_flat}
+use Rattle.rule_tables.proofs.Standing.{in_flat}
 
 -- ---- By one selector, and by declarations
 
@@ -62,9 +62,9 @@ none_under entries a label = (λ h. inl h, back)
 pub decls_end : (entries : List Entry) (rest : List DeclItem) → rest ≡ [] → (a : List ℕ) → PutsUnderOne entries (decl_digests rest) a a
 decls_end entries rest is a = subst (λ (ds : List DeclItem). PutsUnderOne entries (decl_digests ds) a a) (sym is) (none_under entries a)
 
--- ---- All partners are found, and none but rules that have a digest in common
+-- ---- All partners are found, and no label that stands under no digest of a part
 
-by_each : (t : TableParts) (rules : List Labelled) (r : RuleParts) (x : Labelled) → StandFor t rules → Contains rules x → HaveSameSelectors r x.rule →
+by_each : (t : TableParts) (rules : List Labelled) (r : RuleParts) (x : Labelled) → Cover t rules → Contains rules x → HaveSameSelectors r x.rule →
     (digest : ℕ) → Contains (selector_digests r.selectors) digest → Contains t.selectors (entry digest x.label)
 by_each t rules r x stand in_list same digest h =
     let i : (s : SelItem) × Contains r.selectors s × (selector_digest s.selector ≡ digest) = unmapped (λ (s : SelItem). selector_digest s.selector) r.selectors digest h in
@@ -72,10 +72,10 @@ by_each t rules r x stand in_list same digest h =
     let j : (s : SelItem) × Contains x.rule.selectors s × (s.selector ≡ i.0.selector) = unmapped (λ (s : SelItem). s.selector) x.rule.selectors i.0.selector there in
     let e : Contains (entries_by_selector x) (entry (selector_digest j.0.selector) x.label) = mapped (λ (s : SelItem). entry (selector_digest s.selector) x.label) x.rule.selectors j.0 j.1 in
     subst (λ (d : ℕ). Contains t.selectors (entry d x.label)) (ap selector_digest j.2 ∙ i.2)
-    ((stand.selectors (entry (selector_digest j.0.selector) x.label)).1 (in_flat entries_by_selector rules x (entry (selector_digest j.0.selector) x.label) in_list e))
+    (stand.selectors (entry (selector_digest j.0.selector) x.label) (in_flat entries_by_selector rules x (entry (selector_digest j.0.selector) x.label) in_list e))
 
 pub partners_found : (t : TableParts) (r : RuleParts) (none some found : List ℕ) → PutsShared t.selectors (selector_digests r.selectors) none some → PutsUnderOne t.decls (decl_digests r.decls) some found →
-    (rules : List Labelled) (x : Labelled) → StandFor t rules → Contains rules x → CanBePartners r x.rule → Contains found x.label
+    (rules : List Labelled) (x : Labelled) → Cover t rules → Contains rules x → CanBePartners r x.rule → Contains found x.label
 partners_found t r none some found shared under rules x stand in_list (by_selectors s has same) =
     let i : (y : SelItem) × Contains r.selectors y × (y.selector ≡ s) = unmapped (λ (y : SelItem). y.selector) r.selectors s has in
     (under x.label).1 (inl (shared.shared x.label ((selector_digest i.0.selector, mapped (λ (y : SelItem). selector_digest y.selector) r.selectors i.0 i.1), by_each t rules r x stand in_list same)))
@@ -83,48 +83,16 @@ partners_found t r none some found shared under rules x stand in_list (by_decl d
     let i : (y : DeclItem) × Contains r.decls y × (y.decl ≡ d) = unmapped (λ (y : DeclItem). y.decl) r.decls d has_r in
     let j : (y : DeclItem) × Contains x.rule.decls y × (y.decl ≡ d) = unmapped (λ (y : DeclItem). y.decl) x.rule.decls d has_x in
     let e : Contains (entries_by_decl x) (entry (decl_digest j.0.decl) x.label) = mapped (λ (y : DeclItem). entry (decl_digest y.decl) x.label) x.rule.decls j.0 j.1 in
-    let k : Contains t.decls (entry (decl_digest j.0.decl) x.label) = (stand.decls (entry (decl_digest j.0.decl) x.label)).1 (in_flat entries_by_decl rules x (entry (decl_digest j.0.decl) x.label) in_list e) in
+    let k : Contains t.decls (entry (decl_digest j.0.decl) x.label) = stand.decls (entry (decl_digest j.0.decl) x.label) (in_flat entries_by_decl rules x (entry (decl_digest j.0.decl) x.label) in_list e) in
     (under x.label).1 (inr (decl_digest i.0.decl, mapped (λ (y : DeclItem). decl_digest y.decl) r.decls i.0 i.1, subst (λ (n : ℕ). Contains t.decls (entry n x.label)) (ap decl_digest (j.2 ∙ sym i.2)) k))
 
 pub only_such : (t : TableParts) (r : RuleParts) (none some found : List ℕ) → none ≡ [] → PutsShared t.selectors (selector_digests r.selectors) none some → PutsUnderOne t.decls (decl_digests r.decls) some found →
-    (rules : List Labelled) (label : ℕ) → StandFor t rules → Contains found label → (x : Labelled) × Contains rules x × (x.label ≡ label) × HaveDigestInCommon r x.rule
-only_such t r none some found empty shared under rules label stand h = by ((under label).0 h)
+    (label : ℕ) → Contains found label → IsUnderPart t r label
+only_such t r none some found empty shared under label h = by ((under label).0 h)
   where
-    selectors_case : IsUnderOne t.selectors (selector_digests r.selectors) label → (x : Labelled) × Contains rules x × (x.label ≡ label) × HaveDigestInCommon r x.rule
-    selectors_case u =
-        let x : (y : Labelled) × Contains rules y × Contains (entries_by_selector y) (entry u.0 label) = of_flat entries_by_selector rules (entry u.0 label) ((stand.selectors (entry u.0 label)).0 u.2) in
-        let s : (y : SelItem) × Contains x.0.rule.selectors y × (entry (selector_digest y.selector) x.0.label ≡ entry u.0 label) =
-        unmapped (λ (y : SelItem). entry (selector_digest y.selector) x.0.label) x.0.rule.selectors (entry u.0 label) x.2 in (
-          x.0,
-          x.1,
-          ap (λ (e : Entry). e.label) s.2,
-          inl (
-            u.0,
-            u.1,
-            subst (Contains (selector_digests x.0.rule.selectors)) (ap (λ (e : Entry). e.digest) s.2)
-                (mapped (λ (y : SelItem). selector_digest y.selector) x.0.rule.selectors s.0 s.1),
-          ),
-        )
-
-    decls_case : IsUnderOne t.decls (decl_digests r.decls) label → (x : Labelled) × Contains rules x × (x.label ≡ label) × HaveDigestInCommon r x.rule
-    decls_case u =
-        let x : (y : Labelled) × Contains rules y × Contains (entries_by_decl y) (entry u.0 label) = of_flat entries_by_decl rules (entry u.0 label) ((stand.decls (entry u.0 label)).0 u.2) in
-        let s : (y : DeclItem) × Contains x.0.rule.decls y × (entry (decl_digest y.decl) x.0.label ≡ entry u.0 label) =
-        unmapped (λ (y : DeclItem). entry (decl_digest y.decl) x.0.label) x.0.rule.decls (entry u.0 label) x.2 in (
-          x.0,
-          x.1,
-          ap (λ (e : Entry). e.label) s.2,
-          inr (
-            u.0,
-            u.1,
-            subst (Contains (decl_digests x.0.rule.decls)) (ap (λ (e : Entry). e.digest) s.2)
-                (mapped (λ (y : DeclItem). decl_digest y.decl) x.0.rule.decls s.0 s.1),
-          ),
-        )
-
-    by : Contains some label ⊎ IsUnderOne t.decls (decl_digests r.decls) label → (x : Labelled) × Contains rules x × (x.label ≡ label) × HaveDigestInCommon r x.rule
-    by (inl k) = elim (shared.only label k) [ inl m ↦ absurd (Contains-nil label (subst (λ (ls : List ℕ). Contains ls label) empty m)) | inr m ↦ selectors_case m ]
-    by (inr k) = decls_case k
+    by : Contains some label ⊎ IsUnderOne t.decls (decl_digests r.decls) label → IsUnderPart t r label
+    by (inl k) = elim (shared.only label k) [ inl m ↦ absurd (Contains-nil label (subst (λ (ls : List ℕ). Contains ls label) empty m)) | inr m ↦ inl m ]
+    by (inr k) = inr k
 
 -- ---- As the code has the parts
 
@@ -137,11 +105,9 @@ module _ (t : TableParts) (r : RuleParts) (a b : List Entry) (ss : List SelItem)
   under_there h = subst (λ (o : List Entry). PutsUnderOne o (decl_digests r.decls) some found) is_b (subst (λ (zs : List DeclItem). PutsUnderOne b (decl_digests zs) some found) is_ds h)
 
   pub all_listed : PutsShared a (selector_digests ss) none some → PutsUnderOne b (decl_digests ds) some found →
-      (rules : List Labelled) (x : Labelled) → StandFor t rules → Contains rules x → CanBePartners r x.rule → Contains list x.label
+      (rules : List Labelled) (x : Labelled) → Cover t rules → Contains rules x → CanBePartners r x.rule → Contains list x.label
   all_listed shared under rules x stand in_list can =
       subst (λ (ls : List ℕ). Contains ls x.label) (sym is_list) (partners_found t r none some found (shared_there shared) (under_there under) rules x stand in_list can)
 
-  pub only_listed : none ≡ [] → PutsShared a (selector_digests ss) none some → PutsUnderOne b (decl_digests ds) some found →
-      (rules : List Labelled) (label : ℕ) → StandFor t rules → Contains list label → (x : Labelled) × Contains rules x × (x.label ≡ label) × HaveDigestInCommon r x.rule
-  only_listed empty shared under rules label stand h =
-      only_such t r none some found empty (shared_there shared) (under_there under) rules label stand (subst (λ (ls : List ℕ). Contains ls label) is_list h)
+  pub only_listed : none ≡ [] → PutsShared a (selector_digests ss) none some → PutsUnderOne b (decl_digests ds) some found → (label : ℕ) → Contains list label → IsUnderPart t r label
+  only_listed empty shared under label h = only_such t r none some found empty (shared_there shared) (under_there under) label (subst (λ (ls : List ℕ). Contains ls label) is_list h)

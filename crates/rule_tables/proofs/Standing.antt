@@ -1,5 +1,5 @@
--- Tables while rules come and go.
-use Rattle.std.proofs.Common.{◌≡◌, ◌↔◌, ◌⊎◌, inl, inr, ℕ, List, [], ◌∷◌, ◌++◌, refl, sym, ap, subst, ◌∙◌}
+-- Tables while rules come.
+use Rattle.std.proofs.Common.{◌≡◌, ◌↔◌, ◌⊎◌, inl, inr, ℕ, List, [], ◌∷◌, ◌++◌, refl, sym, ap, subst, ◌∙◌, Result, Ok, Err, OnErr, OnOk}
 use Rattle.std.specs.List.{Contains, flat_map}
 use Rattle.std.proofs.lemmas.List.Elements.{Contains-append_cases, Contains-append_left, Contains-append_right}
 use Rattle.css_model.specs.declared.sheet.DeclItem.{DeclItem}
@@ -9,9 +9,8 @@ use Rattle.css_model.specs.declared.sheet.SelItem.{SelItem}
 use Rattle.css_model.specs.Sheets.RuleParts.{RuleParts}
 use Rattle.list_facts.proofs.Members.{Contains-cons_cases, Contains-here, Contains-nil, Contains-there}
 use Rattle.rule_tables.specs.declared.entries.Entry.{Entry}
-use Rattle.rule_tables.specs.Entries.{Puts, PutsSome, Takes, decl_entries, selector_entries}
-use Rattle.rule_tables.specs.Tables.{IsUnused, Labelled, PutsRule, PutsRules, PutsSomeOf, StandFor, TableParts, TakesRule, entries_by_decl, entries_by_selector, labelled, with_label}
-use Rattle.rule_tables.proofs.EntrySets.{unmapped}
+use Rattle.rule_tables.specs.Entries.{Puts, PutsSome, decl_entries, selector_entries}
+use Rattle.rule_tables.specs.Tables.{Cover, Labelled, PutsRule, PutsRules, PutsSomeOf, StandFor, TableParts, entries_by_decl, entries_by_selector, labelled, with_label}
 
 -- ---- Lists of entries, by the rules that they come from
 
@@ -30,71 +29,37 @@ module _ {S X : Type 0} (f : S → List X) where
     | inr r ↦ (let k : (x : S) × Contains ys x × Contains (f x) e = of_flat ys e r in (k.0, Contains-there y ys k.0 k.1, k.2))
   ]
 
--- one of two kinds of entries: all that holds of both
-module _ (f : Labelled → List Entry) (labels : (x : Labelled) (e : Entry) → Contains (f x) e → e.label ≡ x.label) where
-  apart : (label : ℕ) (rules : List Labelled) → IsUnused label rules → (e : Entry) → Contains (flat_map f rules) e → e.label ≡ label → ⊥
-  apart label [] unused e h is = Contains-nil e h
-  apart label (x ∷ rules) unused e h is = elim (Contains-append_cases (f x) (flat_map f rules) e h) [
-    | inl l ↦ unused.0 (sym (labels x e l) ∙ is)
-    | inr r ↦ apart label rules unused.1 e r is
-  ]
+-- one of two kinds of entries
+module _ (f : Labelled → List Entry) where
+  more : (old new : List Entry) (x : Labelled) (rules : List Labelled) → Puts old (f x) new → ((e : Entry) → Contains (flat_map f rules) e → Contains old e) →
+      (e : Entry) → Contains (flat_map f (x ∷ rules)) e → Contains new e
+  more old new x rules puts covers e h = elim (Contains-append_cases (f x) (flat_map f rules) e h) [ inl l ↦ (puts e).1 (inr l) | inr r ↦ (puts e).1 (inl (covers e r)) ]
 
-  came : (old new : List Entry) (x : Labelled) (rules : List Labelled) → Puts old (f x) new → ((e : Entry) → Contains old e ↔ Contains (flat_map f rules) e) →
-      (e : Entry) → Contains new e ↔ Contains (flat_map f (x ∷ rules)) e
-  came old new x rules puts stands e = (λ h. there ((puts e).0 h), λ h. (puts e).1 (back (Contains-append_cases (f x) (flat_map f rules) e h)))
-    where
-      there : Contains old e ⊎ Contains (f x) e → Contains (flat_map f (x ∷ rules)) e
-      there (inl h) = Contains-append_right (f x) (flat_map f rules) e ((stands e).0 h)
-      there (inr h) = Contains-append_left (f x) (flat_map f rules) e h
+  kept : (old new : List Entry) (rules : List Labelled) → ((e : Entry) → Contains old e → Contains new e) → ((e : Entry) → Contains (flat_map f rules) e → Contains old e) →
+      (e : Entry) → Contains (flat_map f rules) e → Contains new e
+  kept old new rules stay covers e h = stay e (covers e h)
 
-      back : Contains (f x) e ⊎ Contains (flat_map f rules) e → Contains old e ⊎ Contains (f x) e
-      back (inl h) = inr h
-      back (inr h) = inl ((stands e).1 h)
-
-  went : (old new : List Entry) (x : Labelled) (rules : List Labelled) → IsUnused x.label rules → Takes old (f x) new → ((e : Entry) → Contains old e → Contains (f x) e ⊎ Contains (flat_map f rules) e) →
-      ((e : Entry) → Contains (flat_map f rules) e → Contains old e) → (e : Entry) → Contains new e ↔ Contains (flat_map f rules) e
-  went old new x rules unused takes only all e = (there, back)
-    where
-      there : Contains new e → Contains (flat_map f rules) e
-      there h = elim (only e ((takes e).0 h).0) [ inl l ↦ absurd (((takes e).0 h).1 l) | inr r ↦ r ]
-
-      back : Contains (flat_map f rules) e → Contains new e
-      back h = (takes e).1 (all e h, λ k. apart x.label rules unused e h (labels x e k))
-
-selector_labels : (x : Labelled) (e : Entry) → Contains (entries_by_selector x) e → e.label ≡ x.label
-selector_labels x e h = ap (λ (z : Entry). z.label) (sym (unmapped _ x.rule.selectors e h).2)
-
-decl_labels : (x : Labelled) (e : Entry) → Contains (entries_by_decl x) e → e.label ≡ x.label
-decl_labels x e h = ap (λ (z : Entry). z.label) (sym (unmapped _ x.rule.decls e h).2)
-
-pub inserted : (old new : TableParts) (r : RuleParts) (label : ℕ) → PutsRule old r label new → (rules : List Labelled) → StandFor old rules → StandFor new (with_label r label ∷ rules)
-inserted old new r label puts rules stand = record {
-  selectors = came entries_by_selector selector_labels old.selectors new.selectors (with_label r label) rules puts.selectors stand.selectors;
-  decls = came entries_by_decl decl_labels old.decls new.decls (with_label r label) rules puts.decls stand.decls;
+pub inserted : (old new : TableParts) (r : RuleParts) (label : ℕ) → PutsRule old r label new → (rules : List Labelled) → Cover old rules → Cover new (with_label r label ∷ rules)
+inserted old new r label puts rules cover = record {
+  selectors = more entries_by_selector old.selectors new.selectors (with_label r label) rules puts.selectors cover.selectors;
+  decls = more entries_by_decl old.decls new.decls (with_label r label) rules puts.decls cover.decls;
 }
 
-pub removed : (old new : TableParts) (r : RuleParts) (label : ℕ) → TakesRule old r label new → (rules : List Labelled) → StandFor old (with_label r label ∷ rules) → IsUnused label rules → StandFor new rules
-removed old new r label takes rules stand unused = record {
-  selectors = went entries_by_selector selector_labels old.selectors new.selectors (with_label r label) rules unused takes.selectors
-      (λ e h. Contains-append_cases (entries_by_selector (with_label r label)) (flat_map entries_by_selector rules) e ((stand.selectors e).0 h))
-      (λ e h. (stand.selectors e).1 (Contains-append_right (entries_by_selector (with_label r label)) (flat_map entries_by_selector rules) e h));
-  decls = went entries_by_decl decl_labels old.decls new.decls (with_label r label) rules unused takes.decls
-      (λ e h. Contains-append_cases (entries_by_decl (with_label r label)) (flat_map entries_by_decl rules) e ((stand.decls e).0 h))
-      (λ e h. (stand.decls e).1 (Contains-append_right (entries_by_decl (with_label r label)) (flat_map entries_by_decl rules) e h));
+pub still_all : (old new : TableParts) (r : RuleParts) (label : ℕ) → PutsRule old r label new → (rules : List Labelled) → Cover old rules → Cover new rules
+still_all old new r label puts rules cover = record {
+  selectors = kept entries_by_selector old.selectors new.selectors rules (λ e h. (puts.selectors e).1 (inl h)) cover.selectors;
+  decls = kept entries_by_decl old.decls new.decls rules (λ e h. (puts.decls e).1 (inl h)) cover.decls;
 }
 
-other_way : {A B C : Type 0} → (A → B) → A ⊎ C → C ⊎ B
-other_way f (inl a) = inr (f a)
-other_way f (inr c) = inl c
-
-pub undone : (old between new : TableParts) (r : RuleParts) (label : ℕ) → PutsSomeOf old r label between → TakesRule between r label new →
-    (rules : List Labelled) → StandFor old rules → IsUnused label rules → StandFor new rules
-undone old between new r label puts takes rules stand unused = record {
-  selectors = went entries_by_selector selector_labels between.selectors new.selectors (with_label r label) rules unused takes.selectors
-      (λ e h. other_way (stand.selectors e).0 ((puts.selectors e).1 h)) (λ e h. (puts.selectors e).0 ((stand.selectors e).1 h));
-  decls = went entries_by_decl decl_labels between.decls new.decls (with_label r label) rules unused takes.decls
-      (λ e h. other_way (stand.decls e).0 ((puts.decls e).1 h)) (λ e h. (puts.decls e).0 ((stand.decls e).1 h));
+pub still_some : (old new : TableParts) (r : RuleParts) (label : ℕ) → PutsSomeOf old r label new → (rules : List Labelled) → Cover old rules → Cover new rules
+still_some old new r label puts rules cover = record {
+  selectors = kept entries_by_selector old.selectors new.selectors rules (λ e h. (puts.selectors e).0 h) cover.selectors;
+  decls = kept entries_by_decl old.decls new.decls rules (λ e h. (puts.decls e).0 h) cover.decls;
 }
+
+pub by_result : {A E P Q X : Type 0} (r : Result A E) → OnOk r P → OnErr r Q → (P → X) → (Q → X) → X
+by_result (Ok a) p q f g = f p
+by_result (Err e) p q f g = g q
 
 -- ---- Rule by rule
 
@@ -167,6 +132,9 @@ no_labels a items labels is = no_rules a (labelled items labels) (ap (labelled i
 from_nothing : (f : Labelled → List Entry) (new : List Entry) (rules : List Labelled) → Puts [] (flat_map f rules) new → (e : Entry) → Contains new e ↔ Contains (flat_map f rules) e
 from_nothing f new rules puts e = (λ h. elim ((puts e).0 h) [ inl k ↦ absurd (Contains-nil e k) | inr k ↦ k ], λ h. (puts e).1 (inr h))
 
+pub covers_made : (new : TableParts) (rules : List Labelled) → StandFor new rules → Cover new rules
+covers_made new rules stand = record { selectors = λ e h. (stand.selectors e).1 h; decls = λ e h. (stand.decls e).1 h }
+
 pub made : (old new : TableParts) (rules : List Labelled) → old.selectors ≡ [] → old.decls ≡ [] → PutsRules old rules new → StandFor new rules
 made old new rules no_selectors no_decls puts = record {
   selectors = from_nothing entries_by_selector new.selectors rules (subst (λ (es : List Entry). Puts es (flat_map entries_by_selector rules) new.selectors) no_selectors puts.selectors);
@@ -209,10 +177,4 @@ module _ (old new : TableParts) (r : RuleParts) (label : ℕ) (a b : List Entry)
   rule_partly_put g h = record {
     selectors = along PutsSome (selector_entries label) a old.selectors new.selectors ss r.selectors is_a is_ss g;
     decls = along PutsSome (decl_entries label) b old.decls new.decls ds r.decls is_b is_ds h;
-  }
-
-  pub rule_taken : Takes a (selector_entries label ss) new.selectors → Takes b (decl_entries label ds) new.decls → TakesRule old r label new
-  rule_taken g h = record {
-    selectors = along Takes (selector_entries label) a old.selectors new.selectors ss r.selectors is_a is_ss g;
-    decls = along Takes (decl_entries label) b old.decls new.decls ds r.decls is_b is_ds h;
   }

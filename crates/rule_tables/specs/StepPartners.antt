@@ -23,3 +23,8 @@ StepsHavePartners = (items : List Item) (k : Step) (e : Edit) (upper lower : Rul
 abbrev pub RulesAreLabelled : Type 0
 RulesAreLabelled = (items : List Item) (labels : List ℕ) (n : ℕ) (r : RuleParts) (label : ℕ) → slice_get items n ≡ Some (Rule r) → slice_get labels n ≡ Some label →
     Contains (labelled items labels) (with_label r label)
+
+-- And each labelled rule is one of them.
+abbrev pub LabelledRulesStand : Type 0
+LabelledRulesStand = (items : List Item) (labels : List ℕ) (r : RuleParts) (label : ℕ) → Contains (labelled items labels) (with_label r label) →
+    (n : ℕ) × (slice_get items n ≡ Some (Rule r)) × (slice_get labels n ≡ Some label)

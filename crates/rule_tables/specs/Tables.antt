@@ -1,6 +1,6 @@
 -- Tables of the rules of a sheet by their parts (own).
-use Rattle.std.specs.Prelude.{◌≢◌, ◌↔◌, ◌⊎◌, ℕ, List, [], ◌∷◌, map}
-use Rattle.std.specs.List.{AllByRecursion, Contains, flat_map}
+use Rattle.std.specs.Prelude.{◌↔◌, ◌⊎◌, ℕ, List, [], ◌∷◌, map}
+use Rattle.std.specs.List.{Contains, flat_map}
 use Rattle.css_model.specs.declared.sheet.Decl.{Decl}
 use Rattle.css_model.specs.declared.sheet.DeclItem.{DeclItem}
 use Rattle.css_model.specs.declared.sheet.Item.{Item}
@@ -12,7 +12,7 @@ use Rattle.css_model.specs.Sheets.StyleRule.{HaveSameSelectors, selectors_of}
 use Rattle.rule_tables.specs.declared.entries.Entry.{Entry}
 use Rattle.rule_tables.specs.Digests.{selector_digest, decl_digest}
 use Rattle.step_laws.specs.Steps.{decls_of}
-use Rattle.rule_tables.specs.Entries.{Puts, PutsSome, Takes, decl_entries, entry, selector_entries}
+use Rattle.rule_tables.specs.Entries.{Puts, PutsSome, decl_entries, entry, selector_entries}
 
 -- the entries of both tables, in order
 pub record TableParts : Type 0 where
@@ -35,10 +35,6 @@ labelled (Rule r ∷ items) (label ∷ labels) = with_label r label ∷ labelled
 labelled (KeptRule k ∷ items) (label ∷ labels) = labelled items labels
 labelled (KeptBlock piece ∷ items) (label ∷ labels) = labelled items labels
 
--- no rule has this label
-abbrev pub IsUnused : ℕ → List Labelled → Type 0
-IsUnused label rules = AllByRecursion (λ x. x.label ≢ label) rules
-
 -- the entries of a rule by its selectors, and by its declarations
 abbrev pub entries_by_selector : Labelled → List Entry
 entries_by_selector x = selector_entries x.label x.rule.selectors
@@ -51,6 +47,11 @@ entries_by_decl x = decl_entries x.label x.rule.decls
 pub record StandFor (tables : TableParts) (rules : List Labelled) : Type 0 where
   pub selectors : (e : Entry) → Contains tables.selectors e ↔ Contains (flat_map entries_by_selector rules) e
   pub decls : (e : Entry) → Contains tables.decls e ↔ Contains (flat_map entries_by_decl rules) e
+
+-- The tables cover rules: they have the entries of each, and may have others.
+pub record Cover (tables : TableParts) (rules : List Labelled) : Type 0 where
+  pub selectors : (e : Entry) → Contains (flat_map entries_by_selector rules) e → Contains tables.selectors e
+  pub decls : (e : Entry) → Contains (flat_map entries_by_decl rules) e → Contains tables.decls e
 
 -- ---- Partners
 
@@ -69,11 +70,9 @@ decl_digests decls = map (λ d. decl_digest d.decl) decls
 abbrev pub IsUnderOne : List Entry → List ℕ → ℕ → Type 0
 IsUnderOne entries digests label = (digest : ℕ) × Contains digests digest × Contains entries (entry digest label)
 
--- two rules have a part of the same digest
-abbrev pub HaveDigestInCommon : RuleParts → RuleParts → Type 0
-HaveDigestInCommon r q =
-    ((digest : ℕ) × Contains (selector_digests r.selectors) digest × Contains (selector_digests q.selectors) digest)
-    ⊎ ((digest : ℕ) × Contains (decl_digests r.decls) digest × Contains (decl_digests q.decls) digest)
+-- a label stands under the digest of a part of a rule
+abbrev pub IsUnderPart : TableParts → RuleParts → ℕ → Type 0
+IsUnderPart tables r label = IsUnderOne tables.selectors (selector_digests r.selectors) label ⊎ IsUnderOne tables.decls (decl_digests r.decls) label
 
 -- ---- While partners are found
 
@@ -107,8 +106,3 @@ pub record PutsRule (old : TableParts) (r : RuleParts) (label : ℕ) (new : Tabl
 pub record PutsSomeOf (old : TableParts) (r : RuleParts) (label : ℕ) (new : TableParts) : Type 0 where
   pub selectors : PutsSome old.selectors (selector_entries label r.selectors) new.selectors
   pub decls : PutsSome old.decls (decl_entries label r.decls) new.decls
-
--- all but those of one rule
-pub record TakesRule (old : TableParts) (r : RuleParts) (label : ℕ) (new : TableParts) : Type 0 where
-  pub selectors : Takes old.selectors (selector_entries label r.selectors) new.selectors
-  pub decls : Takes old.decls (decl_entries label r.decls) new.decls

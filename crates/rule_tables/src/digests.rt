@@ -14,9 +14,10 @@ fn finish(state: &DefaultHasher) -> u32
     (state.finish() >> 32) as u32
 }
 
-/// The digest of a selector.
+/// The digest of a selector: the upper half of what SipHash-1-3 gives. Equal selectors have equal digests. Takes no
+/// memory.
 #[tactic(auto, unfolding(crate::specs::Digests::selector_digest))]
-pub(crate) fn selector_digest(selector: &Selector) -> u32
+pub fn selector_digest(selector: &Selector) -> u32
     ensures { result ≡ spec.selector_digest selector.now }
 {
     let mut state = DefaultHasher::new();
@@ -24,9 +25,10 @@ pub(crate) fn selector_digest(selector: &Selector) -> u32
     finish(&state)
 }
 
-/// The digest of a declaration: of its property, its value and its importance.
+/// The digest of a declaration: of its property, its value and its importance. Equal declarations have equal digests.
+/// Takes no memory.
 #[tactic(auto, unfolding(crate::specs::Digests::decl_digest))]
-pub(crate) fn decl_digest(decl: &Decl) -> u32
+pub fn decl_digest(decl: &Decl) -> u32
     ensures { result ≡ spec.decl_digest decl.now }
 {
     let mut state = DefaultHasher::new();

@@ -27,13 +27,6 @@ fn put(entries: &mut BTreeSet<Entry>, entry: Entry) -> Result<(), AllocError>
     Ok(())
 }
 
-/// Takes an entry out, if it is there.
-fn take(entries: &mut BTreeSet<Entry>, entry: Entry)
-    ensures { spec.Takes entries.old.keys (entry ∷ []) entries.new.keys }
-{
-    let _was_there = entries.remove(&entry);
-}
-
 /// Puts the entries of selectors in. After an error some may be there.
 pub(crate) fn put_selectors(
     entries: &mut BTreeSet<Entry>,
@@ -52,18 +45,6 @@ pub(crate) fn put_selectors(
     Ok(())
 }
 
-/// Takes the entries of selectors out.
-pub(crate) fn take_selectors(entries: &mut BTreeSet<Entry>, selectors: &[SelItem], label: u64)
-    ensures { spec.Takes entries.old.keys (spec.selector_entries label selectors.now) entries.new.keys }
-{
-    let mut rest = selectors;
-    'rest: while let Some((first, behind)) = rest.split_first() {
-        let digest = u64::from(selector_digest(&first.selector));
-        take(entries, Entry { digest, label });
-        rest = behind;
-    }
-}
-
 /// Puts the entries of declarations in. After an error some may be there.
 pub(crate) fn put_decls(
     entries: &mut BTreeSet<Entry>,
@@ -80,18 +61,6 @@ pub(crate) fn put_decls(
         rest = behind;
     }
     Ok(())
-}
-
-/// Takes the entries of declarations out.
-pub(crate) fn take_decls(entries: &mut BTreeSet<Entry>, decls: &[DeclItem], label: u64)
-    ensures { spec.Takes entries.old.keys (spec.decl_entries label decls.now) entries.new.keys }
-{
-    let mut rest = decls;
-    'rest: while let Some((first, behind)) = rest.split_first() {
-        let digest = u64::from(decl_digest(&first.decl));
-        take(entries, Entry { digest, label });
-        rest = behind;
-    }
 }
 
 /// Puts a label in, if it is not there.

@@ -1,6 +1,6 @@
 //! That tables find both rules of a step. The functions do nothing.
 
-ghost use Rattle.rule_tables.specs.StepPartners.{RulesAreLabelled, StepsHavePartners};
+ghost use Rattle.rule_tables.specs.StepPartners.{LabelledRulesStand, RulesAreLabelled, StepsHavePartners};
 
 /// The rules of a step of two rules can be partners, each of the other one.
 pub fn steps_have_partners()
@@ -10,4 +10,9 @@ pub fn steps_have_partners()
 /// A rule among items is one of the labelled rules, with the label of its item.
 pub fn rules_are_labelled()
     ensures { RulesAreLabelled }
+{}
+
+/// And each labelled rule stands among the items, where its label does.
+pub fn labelled_rules_stand()
+    ensures { LabelledRulesStand }
 {}

@@ -8,5 +8,7 @@ mod pairs;
 mod partners;
 mod tables;
 
-pub use laws::{rules_are_labelled, steps_have_partners};
+pub use digests::{decl_digest, selector_digest};
+pub use laws::{labelled_rules_stand, rules_are_labelled, steps_have_partners};
+pub use pairs::LabelledRules;
 pub use tables::Tables;

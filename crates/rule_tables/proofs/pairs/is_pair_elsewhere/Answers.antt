@@ -4,29 +4,28 @@ use Rattle.list_facts.proofs.Members.{Contains-nil}
 use Rattle.rule_tables.specs.declared.entries.Entry.{Entry}
 use Rattle.rule_tables.specs.Digests.{decl_digest}
 use Rattle.rule_tables.specs.Entries.{entry}
-use Rattle.rule_tables.specs.Tables.{labelled}
 use Rattle.rule_tables.proofs.EntrySets.{show_digest}
 use Rattle.rule_tables.proofs.OtherRules.{in_range, is_another, passed}
 use Rattle.rule_tables.proofs.pairs.is_pair_elsewhere.Goals as goal
 
 pub returns-then-is_pair_of_other : goal.returns-then-is_pair_of_other
-returns-then-is_pair_of_other c = (
-  λ h. is_another (labelled c.args.items.now c.args.labels.now) c.args.own c.args.selector.now c.args.decl.now c.in-Some.entry.now (c.is_pair_of_other.ensures.0 c.if-is_pair_of_other.true),
+returns-then-is_pair_of_other g c = (
+  λ h. is_another (g.R.LabelledRules.rules c.args.rules.now) c.args.own c.args.selector.now c.args.decl.now c.in-Some.entry.now (c.is_pair_of_other.ensures.0 c.if-is_pair_of_other.true),
   λ a. refl,
 )
 
 pub rest-preserved : goal.rest-preserved
-rest-preserved c = λ e h other.
-    passed (labelled c.args.items.now c.args.labels.now) c.args.own c.args.selector.now c.args.decl.now c.in-Some.entry.now c.next.new.self c.rest.rest c.is_pair_of_other.result
+rest-preserved g c = λ e h other.
+    passed (g.R.LabelledRules.rules c.args.rules.now) c.args.own c.args.selector.now c.args.decl.now c.in-Some.entry.now c.next.new.self c.rest.rest c.is_pair_of_other.result
     c.in-Some.ensures.steps c.is_pair_of_other.ensures c.if-is_pair_of_other.false e (c.rest.invariant e h other) other
 
 pub returns : goal.returns
-returns c = (
+returns g c = (
   λ h. absurd (true≢false (sym h)),
   λ a.
       let digest : c.from-digest.result ≡ decl_digest c.args.decl.now = cc in
       let there : Contains c.range-rest.result (entry (decl_digest c.args.decl.now) a.0) =
-      in_range (labelled c.args.items.now c.args.labels.now) c.args.own c.args.selector.now c.args.decl.now c.args.entries.now.keys c.range-rest.result c.requires.entries
+      in_range (g.R.LabelledRules.rules c.args.rules.now) c.args.own c.args.selector.now c.args.decl.now c.args.entries.now.keys c.range-rest.result c.requires
       (subst (λ (n : ℕ). (label : ℕ) → Contains c.args.entries.now.keys (entry n label) → Contains c.range-rest.result (entry n label)) digest
       (show_digest c.args.entries.now.keys c.range-rest.result c.from-digest.result (c.range-rest.ensures.between (search rules)))) a in
       let left : Contains c.rest.rest (entry (decl_digest c.args.decl.now) a.0) = c.rest.invariant (entry (decl_digest c.args.decl.now) a.0) there (a.1, a.2) in

@@ -1,8 +1,11 @@
-use Rattle.rule_tables.proofs.Standing.{inserted, undone}
+use Rattle.rule_tables.proofs.EntrySets.{then_ok}
+use Rattle.rule_tables.proofs.Standing.{by_result, inserted, still_all, still_some}
 use Rattle.rule_tables.proofs.tables.Tables.insert.Goals as goal
 
-pub returns-in-Ok-clause-ok : goal.returns-in-Ok-clause-ok
-returns-in-Ok-clause-ok c = inserted c.args.self.now c.put_rule.new.self c.args.rule.now c.args.label c.in-Ok.ensures.ok
+pub returns-clause-still : goal.returns-clause-still
+returns-clause-still c =
+    by_result c.put_rule.result c.put_rule.ensures.ok c.put_rule.ensures.err (still_all c.args.self.now c.put_rule.new.self c.args.rule.now c.args.label)
+    (still_some c.args.self.now c.put_rule.new.self c.args.rule.now c.args.label)
 
-pub returns-in-Err-clause-err : goal.returns-in-Err-clause-err
-returns-in-Err-clause-err c = undone c.args.self.now c.put_rule.new.self c.take_rule.new.self c.args.rule.now c.args.label c.in-Err.ensures.err c.take_rule.ensures
+pub returns-clause-covers : goal.returns-clause-covers
+returns-clause-covers c = then_ok c.put_rule.result (inserted c.args.self.now c.put_rule.new.self c.args.rule.now c.args.label) c.put_rule.ensures.ok
