@@ -1,0 +1,6 @@
+mod Kept
+mod Mending
+mod Moves
+mod Passing
+mod StepNames
+mod Woken

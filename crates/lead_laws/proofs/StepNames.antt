@@ -1,0 +1,78 @@
+-- The items of a step, and their names.
+use Rattle.std.proofs.Common.{◌≡◌, ◌≢◌, ℕ, ◌<◌, List, length, get_or, Some, refl, ap, ap₂, arith}
+use Rattle.std.specs.Prelude.{nat_lt, slice_get, slice_index}
+use Rattle.std.specs.List.{AllPairs}
+use Rattle.std.proofs.lemmas.Bool.{cond_both}
+use Rattle.std.proofs.lemmas.Option.{get_or_from_slice_get, slice_get-get_or, slice_get_within}
+use Rattle.css_model.specs.declared.sheet.Item.{Item}
+use Rattle.css_model.specs.declared.sheet.Item.TheVariants.{Rule}
+use Rattle.hold_laws.specs.Births.{later_born, owner}
+use Rattle.hold_laws.specs.Turns.{named}
+use Rattle.order_laws.specs.Edits.{Edit}
+use Rattle.step_laws.specs.declared.step.Step.{Step}
+use Rattle.step_laws.specs.declared.step.Step.TheVariants.{CutDecl, CutSel, JoinSelUp, JoinSelDown, JoinDeclUp, JoinDeclDown, Share}
+use Rattle.step_laws.specs.Steps.{IsStep, first_item, last_item}
+use Rattle.wall_laws.specs.Holding.{turn_of}
+use Rattle.wall_laws.specs.Renumbering.{Leaves, new_number, renumbered, IsOfOthers}
+
+-- ---- The items of a step
+
+pub within : (items : List Item) (k : Step) (e : Edit) → IsStep items k e → (first_item k < length items) × (last_item k < length items)
+within items (CutDecl n i) e c = let h = slice_get_within items n (Rule c.rule) c.rule_at in (h, h)
+within items (CutSel n i) e c = let h = slice_get_within items n (Rule c.rule) c.rule_at in (h, h)
+within items (JoinSelUp x y) e j = (slice_get_within items x (Rule j.upper) j.rules.upper_at, slice_get_within items y (Rule j.lower) j.rules.lower_at)
+within items (JoinSelDown x y) e j = (slice_get_within items x (Rule j.upper) j.rules.upper_at, slice_get_within items y (Rule j.lower) j.rules.lower_at)
+within items (JoinDeclUp x y) e j = (slice_get_within items x (Rule j.upper) j.rules.upper_at, slice_get_within items y (Rule j.lower) j.rules.lower_at)
+within items (JoinDeclDown x y) e j = (slice_get_within items x (Rule j.upper) j.rules.upper_at, slice_get_within items y (Rule j.lower) j.rules.lower_at)
+within items (Share x y) e j = (slice_get_within items x (Rule j.upper) j.rules.upper_at, slice_get_within items y (Rule j.lower) j.rules.lower_at)
+
+-- its owner is one of them
+pub owner_within : (items : List Item) (births : List ℕ) (k : Step) (e : Edit) → IsStep items k e → owner births k < length items
+owner_within items births k e is =
+    let w : (first_item k < length items) × (last_item k < length items) = within items k e is in
+    cond_both (nat_lt (slice_index births (first_item k)) (slice_index births (last_item k))) (last_item k) (first_item k) (λ n. n < length items) (λ _. w.1) (λ _. w.0)
+
+pub new_first : (f : ℕ → ℕ) (k : Step) → first_item (renumbered f k) ≡ f (first_item k)
+new_first f (CutDecl n i) = refl
+new_first f (CutSel n i) = refl
+new_first f (JoinSelUp x y) = refl
+new_first f (JoinSelDown x y) = refl
+new_first f (JoinDeclUp x y) = refl
+new_first f (JoinDeclDown x y) = refl
+new_first f (Share x y) = refl
+
+pub new_last : (f : ℕ → ℕ) (k : Step) → last_item (renumbered f k) ≡ f (last_item k)
+new_last f (CutDecl n i) = refl
+new_last f (CutSel n i) = refl
+new_last f (JoinSelUp x y) = refl
+new_last f (JoinSelDown x y) = refl
+new_last f (JoinDeclUp x y) = refl
+new_last f (JoinDeclDown x y) = refl
+new_last f (Share x y) = refl
+
+-- ---- Their names
+
+-- names that ascend differ
+pub ascending_differ : (names : List ℕ) → AllPairs (λ l m. l < m) names → AllPairs (λ l m. l ≢ m) names
+ascending_differ names ascend i j d before inside = λ same. absurd (let less : get_or names i d < get_or names j d = ascend i j d before inside in omega (arith, less, same))
+
+-- one numbering after the other
+again : (f g h : ℕ → ℕ) (k : Step) → g (f (first_item k)) ≡ h (first_item k) → g (f (last_item k)) ≡ h (last_item k) → renumbered g (renumbered f k) ≡ renumbered h k
+again f g h (CutDecl n i) first last = ap (λ m. CutDecl m i) first
+again f g h (CutSel n i) first last = ap (λ m. CutSel m i) first
+again f g h (JoinSelUp x y) first last = ap₂ (λ m n. JoinSelUp m n) first last
+again f g h (JoinSelDown x y) first last = ap₂ (λ m n. JoinSelDown m n) first last
+again f g h (JoinDeclUp x y) first last = ap₂ (λ m n. JoinDeclUp m n) first last
+again f g h (JoinDeclDown x y) first last = ap₂ (λ m n. JoinDeclDown m n) first last
+again f g h (Share x y) first last = ap₂ (λ m n. Share m n) first last
+
+-- a step of items that an edit leaves is named alike behind it
+pub named_on : (items : List Item) (d : Edit) (names names' : List ℕ) → length names ≡ length items → ((n b : ℕ) → Leaves d n → slice_get names n ≡ Some b → slice_get names' (new_number d items n) ≡ Some b) →
+    (k : Step) (e : Edit) → IsStep items k e → IsOfOthers d k → (n : ℕ) → named names' n (renumbered (new_number d items) k) ≡ named names n k
+named_on items d names names' beside kept k e is others n =
+    let w : (first_item k < length items) × (last_item k < length items) = within items k e is in
+    ap (turn_of n) (again (new_number d items) (λ m. slice_index names' m) (λ m. slice_index names m) k (same (first_item k) others.0 w.0) (same (last_item k) others.1 w.1))
+  where
+    same : (m : ℕ) → Leaves d m → m < length items → slice_index names' (new_number d items m) ≡ slice_index names m
+    same m leaves less =
+        get_or_from_slice_get names' (new_number d items m) (slice_index names m) 0 (kept m (slice_index names m) leaves (slice_get-get_or names m 0 (omega (arith, beside, less))))

@@ -1,0 +1,5 @@
+pub mod Known
+pub mod MarkNames
+pub mod Mended
+pub mod Passed
+pub mod Remembering

@@ -1,0 +1,57 @@
+//! What a plan by turns that lead always knows of its board.
+
+ghost use Rattle.lead_laws.specs.Known.{AnswersMayCome, BlockedIsKnown, NoneIsKnown, StartIsKnown, TakenIsKnown};
+
+use crate::mark_names::{kept_are_renamed, marks_are_names};
+use crate::mended::taken_goes_over;
+use crate::passed::{blocked_is_passed, none_is_passed, passed_is_change};
+use crate::remembering::{
+    one_more_is_remembered, remembered_goes_over, remembered_is_woken, untouched_is_kept,
+};
+use hold_laws::{held_goes_over, held_may_change, start_is_held};
+
+/// All is known where a turn before all steps leads for each item, and nothing is set aside.
+pub fn start_is_known()
+    ensures { StartIsKnown }
+{
+    marks_are_names();
+    start_is_held();
+}
+
+/// It is while answers come in.
+pub fn answers_may_come()
+    ensures { AnswersMayCome }
+{
+    held_may_change();
+}
+
+/// It is where a turn is passed that no step has.
+pub fn none_is_known()
+    ensures { NoneIsKnown }
+{
+    none_is_passed();
+    passed_is_change();
+    held_may_change();
+}
+
+/// It is where the step that has the turn is set aside with what blocks it, and remembered.
+pub fn blocked_is_known()
+    ensures { BlockedIsKnown }
+{
+    blocked_is_passed();
+    passed_is_change();
+    held_may_change();
+    one_more_is_remembered();
+}
+
+/// It is behind a step, where new items are led and entries of moved pairs lead again.
+pub fn taken_is_known()
+    ensures { TakenIsKnown }
+{
+    kept_are_renamed();
+    untouched_is_kept();
+    remembered_is_woken();
+    remembered_goes_over();
+    taken_goes_over();
+    held_goes_over();
+}

@@ -1,0 +1,20 @@
+//! Laws between the state of a plan by turns that lead and what it holds of the steps of its sheet. The functions do
+//! nothing.
+#![tactic(auto)]
+
+mod known;
+mod mark_names;
+mod mended;
+mod passed;
+mod remembering;
+
+pub use known::{
+    answers_may_come, blocked_is_known, none_is_known, start_is_known, taken_is_known,
+};
+pub use mark_names::{kept_are_renamed, marks_are_names};
+pub use mended::taken_goes_over;
+pub use passed::{blocked_is_passed, none_is_passed, passed_is_change};
+pub use remembering::{
+    entries_are_found, one_more_is_remembered, remembered_goes_over, remembered_is_woken,
+    untouched_is_kept,
+};
