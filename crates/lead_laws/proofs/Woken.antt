@@ -1,16 +1,12 @@
 -- What is set aside is remembered, and is woken where a pair is moved.
-use Rattle.std.proofs.Common.{◌≡◌, ◌↔◌, ◌⊎◌, ℕ, ◌<◌, ◌≤◌, ◌==◌, Bool, true, false, List, [], ◌∷◌, length, map, Some, refl, sym, ap, ◌∙◌, subst, inl, inr, arith}
+use Rattle.std.proofs.Common.{◌≡◌, ◌↔◌, ◌⊎◌, ℕ, ◌<◌, ◌≤◌, ◌==◌, Bool, true, false, List, [], ◌∷◌, length, Some, refl, sym, ap, ◌∙◌, subst, inl, inr, arith}
 use Rattle.std.specs.Prelude.{not, slice_get, slice_index}
 use Rattle.std.specs.List.{Contains, filter, list_any}
 use Rattle.std.proofs.lemmas.Bool.{false≢true, false_from_ne_true, not-true, not-false, not_from_false, and_from}
 use Rattle.std.proofs.lemmas.Bool.Decides.{Decides-eqb}
 use Rattle.std.proofs.lemmas.Option.{slice_get-get_or}
 use Rattle.css_model.specs.Cascade.Order.{Pair}
-use Rattle.css_model.specs.declared.sheet.Decl.{Decl}
-use Rattle.css_model.specs.declared.sheet.DeclItem.{DeclItem}
 use Rattle.css_model.specs.declared.sheet.Item.{Item}
-use Rattle.css_model.specs.declared.sheet.SelItem.{SelItem}
-use Rattle.css_model.specs.Documents.SelectorParts.{SelectorParts}
 use Rattle.css_model.specs.Sheets.Sound.{IsSound}
 use Rattle.hold_laws.specs.Before.{HasBeen, StepsHaveBeen}
 use Rattle.hold_laws.specs.Behind.{GoesOn}
@@ -27,9 +23,8 @@ use Rattle.lead_plan.specs.declared.lead.Lead.{Lead}
 use Rattle.lead_plan.specs.Told.{lead_told}
 use Rattle.list_facts.proofs.Members.{Contains-here, Contains-there, Contains-nil, Contains-cons_cases, Contains-filter, Contains-filtered}
 use Rattle.order_laws.specs.Edits.{is_moved, Edit, edited}
-use Rattle.order_laws.proofs.ForCallers.{any_from, any_of, map_has, map_from, moved_is, sels, decls}
+use Rattle.order_laws.proofs.ForCallers.{any_from, any_of, map_has}
 use Rattle.plan_laws.specs.Cover.{Turn}
-use Rattle.rule_tables.specs.Digests.{selector_digest, decl_digest}
 use Rattle.step_laws.specs.declared.step.Step.{Step}
 use Rattle.step_laws.specs.Free.{Answered}
 use Rattle.step_laws.specs.Sizes.{Saves}
@@ -120,19 +115,6 @@ kept d aside a = (
 
 -- ---- What an edit touches is woken
 
--- a pair that is moved is of a selector and a declaration that are
-of_moved : (d : Edit) (entries : List Entry) (leads : List held.Lead) → AreWoken d entries leads → (p : Pair) (c : Lead) → is_moved d.moved p ≡ true → Contains entries (entry_of p c) → TurnLeads leads (lead_told c).turn
-of_moved d entries leads woken p c moved among = which (map_from (λ (s : SelItem). s.selector) d.moved.selectors p.selector parts.0) (map_from (λ (t : DeclItem). t.decl) d.moved.decls p.decl parts.1)
-  where
-    parts : Contains (sels d.moved.selectors) p.selector × Contains (decls d.moved.decls) p.decl
-    parts = (moved_is d.moved p).0 moved
-
-    which : (s : SelItem) × Contains d.moved.selectors s × (s.selector ≡ p.selector) → (t : DeclItem) × Contains d.moved.decls t × (t.decl ≡ p.decl) → TurnLeads leads (lead_told c).turn
-    which (s, s_in, s_is) (t, t_in, t_is) =
-        woken s t c s_in t_in
-        (subst (λ (x : SelectorParts). Contains entries (entry (selector_digest x) (decl_digest t.decl) c)) (sym s_is)
-        (subst (λ (x : Decl). Contains entries (entry (selector_digest p.selector) (decl_digest x) c)) (sym t_is) among))
-
 module _ (answers : List Answered) (source : List ℕ) (items : List Item) (d : Edit) (h h' : Holding) (entries : List Entry) (held : IsHeld answers source items h) (names : AreRenamed items d h h') (old : AreRemembered source items h entries) where
   labelled_on : (k : Step) (e : Edit) → IsStep items k e → IsOfOthers d k → (n : ℕ) → named h'.labels n (renumbered (new_number d items) k) ≡ named h.labels n k
   labelled_on k e is others n = named_on items d h.labels h'.labels held.labels.beside names.labels_stay k e is others n
@@ -155,7 +137,7 @@ module _ (answers : List Answered) (source : List ℕ) (items : List Item) (d : 
           at k e n on saves some same (p, pair, moved) = under (old a among k e n on.before saves some same p pair)
             where
               under : HasEntryOf entries p (named h.labels n k) → TurnLeads h'.leads (named h'.labels n (renumbered (new_number d items) k))
-              under (c, turn, here) = leads (of_moved d entries h'.leads wakes p c moved here)
+              under (c, turn, here) = leads (wakes p c moved here)
                 where
                   leads : TurnLeads h'.leads (lead_told c).turn → TurnLeads h'.leads (named h'.labels n (renumbered (new_number d items) k))
                   leads (l, leads_now, is_turn) = (l, leads_now, is_turn ∙ turn ∙ sym (labelled_on k e on.before on.others n))

@@ -1,10 +1,8 @@
 -- How code remembers what is set aside: by digests of the pairs that block a step (own).
-use Rattle.std.specs.Prelude.{◌≡◌, ◌⊎◌, ◌↔◌, ℕ, ◌<◌, Bool, not, List, [], ◌∷◌}
+use Rattle.std.specs.Prelude.{◌≡◌, ◌⊎◌, ◌↔◌, ℕ, ◌<◌, Bool, true, not, List, [], ◌∷◌}
 use Rattle.std.specs.List.{Contains, filter, list_any}
 use Rattle.css_model.specs.Cascade.Order.{Pair}
-use Rattle.css_model.specs.declared.sheet.DeclItem.{DeclItem}
 use Rattle.css_model.specs.declared.sheet.Item.{Item}
-use Rattle.css_model.specs.declared.sheet.SelItem.{SelItem}
 use Rattle.css_model.specs.Sheets.Sound.{IsSound}
 use Rattle.hold_laws.specs.Behind.{GoesOn}
 use Rattle.hold_laws.specs.Leads as held
@@ -73,8 +71,7 @@ UntouchedIsKept = (d : Edit) (aside : List Aside) (a : Aside) → Contains (unto
 
 -- for each entry under a pair that an edit moves, the turn of its lead leads
 abbrev pub AreWoken : Edit → List Entry → List held.Lead → Type 0
-AreWoken d entries leads = (s : SelItem) (t : DeclItem) (c : Lead) → Contains d.moved.selectors s → Contains d.moved.decls t →
-    Contains entries (entry (selector_digest s.selector) (decl_digest t.decl) c) → TurnLeads leads (lead_told c).turn
+AreWoken d entries leads = (p : Pair) (c : Lead) → is_moved d.moved p ≡ true → Contains entries (entry_of p c) → TurnLeads leads (lead_told c).turn
 
 -- Of what was set aside each turn is untouched, or that of its step leads again.
 abbrev pub RememberedIsWoken : Type 0
