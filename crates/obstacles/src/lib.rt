@@ -1,0 +1,8 @@
+//! What blocks a step of merging, and what a plan asks for it: whatever holds the answers for pairs of selectors.
+#![tactic(auto)]
+
+mod obstacle;
+mod obstacles;
+
+pub use obstacle::{Obstacle, Other, PairPlace};
+pub use obstacles::Obstacles;

@@ -1,0 +1,36 @@
+//! What is asked of a step while a sheet is planned.
+
+ghost use Rattle.std.specs.Prelude.{◌≡◌, ℕ, List, IfNone, IfOk, IfSome};
+ghost use Rattle.obstacles.specs.Blocking.{IsBlockedBy};
+ghost use Rattle.order_laws.specs.Edits.{Edit};
+ghost use Rattle.plan_laws.specs.Plannable.{IsPlannable};
+ghost use Rattle.step_laws.specs.Free.{Answered, AreAmong, AreTrue, IsFree};
+ghost use Rattle.step_laws.specs.Steps.{HasStep, IsStep};
+
+use crate::obstacle::Obstacle;
+use css_model::Sheet;
+use std::alloc::AllocError;
+use step_laws::Step;
+
+/// Tells of the steps of a sheet what blocks them, by answers for pairs of selectors, which are more and more.
+pub trait Obstacles {
+    /// The answers so far.
+    ghost answers: { Self → List Answered };
+
+    /// The budget for each pair of selectors that is compared, in learned clauses.
+    ghost budget: { Self → ℕ };
+
+    /// The answers are true: selectors that are answered to be apart do not meet. It does nothing.
+    fn answers_are_true(&self)
+        ensures { AreTrue (answers self.now) };
+
+    /// What blocks a step of a sheet, and `None` exactly where it is free. All that was answered stays, and the
+    /// budget, also after `AllocError`.
+    fn obstacle(&mut self, sheet: &Sheet, step: &Step) -> Result<Option<Obstacle>, AllocError>
+        requires is_step { HasStep sheet.now.items step.now }
+        requires plannable { (source : List ℕ) × IsPlannable source sheet.now.items }
+        ensures asked { AreAmong (answers self.old) (answers self.new) }
+        ensures same_budget { budget self.new ≡ budget self.old }
+        ensures free { IfOk result (λ found. IfNone found ((e : Edit) → IsStep sheet.now.items step.now e → IsFree (answers self.new) sheet.now.items e)) }
+        ensures blocked { IfOk result (λ found. IfSome found (λ o. IsBlockedBy (answers self.new) sheet.now.items step.now o)) };
+}

@@ -1,0 +1,5 @@
+mod Both
+mod Splitting
+mod StepWindows
+mod Telling
+mod TellingKept

@@ -1,0 +1,2 @@
+pub mod StepWindows
+pub mod Windows
