@@ -1,6 +1,8 @@
+pub mod BackLemmas
 pub mod DecidedLemmas
 pub mod ForcedLemmas
 pub mod FrontLemmas
+pub mod LedgerLemmas
 pub mod LogLemmas
 pub mod RestLemmas
 pub mod RootLemmas

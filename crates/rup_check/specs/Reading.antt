@@ -2,7 +2,7 @@
 use Rattle.std.specs.Prelude.{◌≡◌, ◌≢◌, ◌+◌, ◌<◌, ◌≤◌, ◌⊎◌, ◌&&◌, ℕ, Bool, List, [], ◌++◌, length, IsTrue}
 use Rattle.std.specs.List.{list_all}
 use Rattle.cnf.specs.declared.lit.Lit.{Lit}
-use Rattle.cnf.specs.Cnf.{Cnf}
+use Rattle.cnf.specs.Cnf.{Cnf, is_in_range}
 use Rattle.cnf.specs.Lits.{are_below}
 use Rattle.cnf.specs.Propagation.{is_distinct}
 use Rattle.rup_check.specs.declared.log.LogError.{LogError}
@@ -25,11 +25,16 @@ is_plain vars clause = is_step vars clause && is_distinct clause
 abbrev pub are_plain : ℕ → List (List Lit) → Bool
 are_plain vars steps = list_all (is_plain vars) steps
 
--- a text of a formula and steps, within the limits
-pub record IsLogText (text : List ℕ) (f : Cnf) (steps : List (List Lit)) : Type 0 where
+-- a log as it is read: within the limits, over the variables of the formula, with plain steps
+pub record IsLog (f : Cnf) (steps : List (List Lit)) : Type 0 where
   pub vars_bound : f.vars ≤ max_vars
   pub count_bound : length f.clauses ≤ max_clauses
+  pub in_range : IsTrue (is_in_range f)
   pub plain : IsTrue (are_plain f.vars steps)
+
+-- a text is that of a log
+pub record IsLogText (text : List ℕ) (f : Cnf) (steps : List (List Lit)) : Type 0 where
+  pub is_log : IsLog f steps
   pub parts : text ≡ log_text f steps
 
 -- no line of a clause that passes a test stands in front
@@ -73,8 +78,7 @@ pub record IsBadStepLine (vars before : ℕ) (lines : List ℕ) (number : ℕ) :
 pub record IsBadStep (text : List ℕ) (number : ℕ) : Type 0 where
   pub formula : Cnf
   pub lines : List ℕ
-  pub vars_bound : formula.vars ≤ max_vars
-  pub count_bound : length formula.clauses ≤ max_clauses
+  pub is_log : IsLog formula []
   pub parts : text ≡ head_text formula.vars (length formula.clauses) ++ (lines_text formula.clauses ++ lines)
   pub bad_line : IsBadStepLine formula.vars (length formula.clauses + 2) lines number
 
@@ -88,7 +92,11 @@ abbrev pub StepFault : ℕ → ℕ → List ℕ → LogError → Type 0
 StepFault vars before lines (BadLine number) = IsBadStepLine vars before lines number
 StepFault vars before lines NoMemory = Unit {0}
 
+-- the line of this number is the first that is none of a log
+abbrev pub IsBadLine : List ℕ → ℕ → Type 0
+IsBadLine text number = IsBadHead text number ⊎ (IsBadClause text number ⊎ IsBadStep text number)
+
 -- and of the whole text
 abbrev pub TextFault : List ℕ → LogError → Type 0
-TextFault text (BadLine number) = IsBadHead text number ⊎ (IsBadClause text number ⊎ IsBadStep text number)
+TextFault text (BadLine number) = IsBadLine text number
 TextFault text NoMemory = Unit {0}

@@ -14,7 +14,7 @@ mod step;
 mod steps;
 
 pub use check::check_log;
-pub use laws::checked_log_refutes;
+pub use laws::{checked_log_refutes, ledgers_are_logs, printed_logs_read_back, refutations_pass};
 pub use log::{Checked, Log, LogError};
 pub use print::print_log;
 pub use read::read_log;

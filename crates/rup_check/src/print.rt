@@ -1,16 +1,18 @@
 //! The text of a log.
-ghost use Rattle.std.specs.Prelude.{◌≡◌, ◌+◌, ◌++◌, decimal, IfOk, OnOk};
-ghost use Rattle.cnf.specs.Cnf.{Cnf};
+ghost use Rattle.std.specs.Prelude.{◌≡◌, ◌+◌, ◌++◌, decimal, IfOk, IsTrue, OnOk};
+ghost use Rattle.cnf.specs.Cnf.{Cnf, is_in_range};
 ghost use Rattle.rup_check.specs.Text.{head_text, lines_text, line_text, lit_text, log_text};
 
 use cnf::{Clause, Formula, Ledger, Lit};
 use itoa::Buffer;
 use std::alloc::{AllocError, Global};
 
-/// The text of a formula and the clauses of a ledger, as the steps of a log. `AllocError` where memory
-/// runs out.
+/// The text of a formula and the clauses of a ledger, as the steps of a log. Of a formula within the limits
+/// and a ledger of it `read_log` reads both back: the variables of a formula are always in range. `AllocError`
+/// where memory runs out.
 pub fn print_log(alloc: Global, f: &Formula, ledger: &Ledger) -> Result<Vec<u8>, AllocError>
-    ensures { IfOk result (λ text. text.items ≡ log_text f.now ledger.now) }
+    ensures text { IfOk result (λ text. text.items ≡ log_text f.now ledger.now) }
+    ensures in_range { IfOk result (λ _. IsTrue (is_in_range f.now)) }
 {
     let mut text = Vec::new(alloc);
     push_head(&mut text, f.vars(), f.len())?;

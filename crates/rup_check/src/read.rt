@@ -1,5 +1,7 @@
 //! A log from its text.
 ghost use Rattle.std.specs.Prelude.{◌≡◌, ◌+◌, ◌≤◌, ◌^◌, ◌<◌, ◌++◌, length, IsTrue, IfOk, IfErr};
+ghost use Rattle.cnf.specs.Cnf.{is_in_range};
+ghost use Rattle.rup_check.specs.Checks.{are_steps};
 ghost use Rattle.rup_check.specs.Reading.{are_plain, ClauseFault, IsLogText, StepFault, TextFault, max_vars};
 ghost use Rattle.rup_check.specs.Text.{lines_text};
 
@@ -9,10 +11,11 @@ use crate::steps::is_plain;
 use cnf::{Clause, Formula};
 use std::alloc::Global;
 
-/// The formula and the steps of a text. `BadLine` comes exactly where the text is none of a log, with
-/// the number of the first line that is not; `NoMemory` where memory runs out.
+/// The formula and the steps of a text, which can be checked. `BadLine` comes exactly where the text is none
+/// of a log, with the number of the first line that is not; `NoMemory` where memory runs out.
 pub fn read_log(alloc: Global, text: &[u8]) -> Result<Log, LogError>
     ensures ok { IfOk result (λ log. IsLogText text.now log.formula log.steps.items) }
+    ensures checkable { IfOk result (λ log. IsTrue (are_steps log.formula.vars log.steps.items)) }
     ensures err { IfErr result (TextFault text.now) }
 {
     let (vars, count, lines) = match head(text) {
@@ -34,6 +37,7 @@ fn read_formula(
     requires { vars ≤ max_vars }
     ensures ok { IfOk result (λ r. (r.0.vars ≡ vars) × (length r.0.clauses ≡ count)
         × (lines.now ≡ lines_text r.0.clauses ++ r.1.now)) }
+    ensures in_range { IfOk result (λ r. IsTrue (is_in_range r.0)) }
     ensures err { IfErr result (ClauseFault vars count lines.now) }
 {
     let mut formula = Formula::new(alloc, vars);
