@@ -1,0 +1,3 @@
+pub mod CheckedTexts
+pub mod Laws
+pub mod Messages
