@@ -1,4 +1,5 @@
 mod Asked
 mod Held
+mod HeldLogs
 mod Texts
 mod Truth

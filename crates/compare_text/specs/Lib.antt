@@ -1,3 +1,4 @@
 pub mod ComparedTexts
 pub mod Laws
+pub mod LoggedTexts
 pub mod Reading

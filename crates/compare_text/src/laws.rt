@@ -1,8 +1,12 @@
 //! What follows of the printed text, as functions that do nothing.
 
-ghost use Rattle.compare_text.specs.Laws.{DisjointSelectorsDoNotMeet, OverlapShowsMeeting};
+ghost use Rattle.compare_text.specs.Laws.{DisjointSelectorsDoNotMeet, LogsPass, OverlapShowsMeeting, PassedLogsShowApartness};
 
+use log_text::{refuting_logs_pass, yes_refutes_the_formula};
 use overlap::apart_selectors_do_not_meet;
+use pair_laws::meeting_satisfies_the_formula;
+use profile_laws::profile_keeps_the_limits;
+use rup_check::ledgers_are_logs;
 
 /// Two selectors of which `disjoint` is printed do not meet: no legal document has a target that both match.
 pub fn disjoint_selectors_do_not_meet()
@@ -16,3 +20,21 @@ pub fn disjoint_selectors_do_not_meet()
 pub fn overlap_shows_meeting()
     ensures { OverlapShowsMeeting }
 {}
+
+/// Of a log that stands in the place of an answer, within the limit of bytes, `check_text` of `log_text` gives `yes`,
+/// and nothing else: only want of memory may come in its place.
+pub fn logs_pass()
+    ensures { LogsPass }
+{
+    ledgers_are_logs();
+    refuting_logs_pass();
+}
+
+/// Where `check_text` gives `yes` of a log of the formula of two selectors, whoever wrote it, the two do not meet.
+pub fn passed_logs_show_apartness()
+    ensures { PassedLogsShowApartness }
+{
+    profile_keeps_the_limits();
+    meeting_satisfies_the_formula();
+    yes_refutes_the_formula();
+}
