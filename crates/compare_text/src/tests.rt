@@ -25,7 +25,7 @@ fn prints_logs_of_refuted_pairs(rt: HostRuntime) -> Result<(), Fail> {
             "{left} {right}"
         );
         let answer = check_text(alloc, text.as_slice());
-        let yes = matches!(answer, Ok(line) if line.as_slice() == b"yes\n");
+        let yes = matches!(answer, Ok(line) if line.as_slice() == b"yes\n".as_slice());
         assert_eq!(rt; yes, passes, "{left} {right}");
     }
     Ok(())
