@@ -14,11 +14,11 @@ fn prints_the_answer(rt: HostRuntime) -> Result<(), Fail> {
     ] {
         let mut text = FOUR.as_bytes().to_vec(rt.alloc())?;
         text.extend_from_slice(steps.as_bytes())?;
-        let answer = check_text(rt.alloc(), &text);
-        assert!(rt;
-            matches!(answer, Ok(line) if line.as_slice() == wanted.as_bytes()),
-            "{steps}"
-        );
+        let right = match check_text(rt.alloc(), &text) {
+            Ok(line) => line.as_slice() == wanted.as_bytes(),
+            Err(_) => false,
+        };
+        assert!(rt; right, "{steps}");
     }
     Ok(())
 }
