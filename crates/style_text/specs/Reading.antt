@@ -1,7 +1,6 @@
 -- How the parts of an input are read.
 use Rattle.std.specs.Prelude.{◌≡◌, ℕ, List, Result, Ok, Err}
 use Rattle.css_model.specs.declared.example.Example.{Example}
-use Rattle.css_model.specs.declared.fault.SheetFault.{SheetFault}
 use Rattle.css_model.specs.Sheets.Sheet.{sheet_of}
 use Rattle.css_model.specs.Sheets.SheetParts.{SheetParts}
 use Rattle.doc_text.specs.Reading.{IsRead}
