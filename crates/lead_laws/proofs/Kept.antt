@@ -1,7 +1,7 @@
 -- The marks of a board name its items.
 use Rattle.std.proofs.Common.{◌≡◌, ◌≢◌, ◌⊎◌, ℕ, ◌<◌, ◌≤◌, List, [], ◌∷◌, length, get_or, map, Some, refl, sym, ap, ◌∙◌, subst, inl, inr, arith}
 use Rattle.std.specs.Prelude.{slice_get}
-use Rattle.std.specs.List.{All, AllPairs}
+use Rattle.std.specs.List.{AllPairs}
 use Rattle.std.specs.Option.{option_map}
 use Rattle.std.proofs.lemmas.List.{get_or-map, length-map}
 use Rattle.std.proofs.lemmas.List.Elements.{All-map}
@@ -19,7 +19,7 @@ use Rattle.plan_board.specs.BoardParts.{BoardParts}
 use Rattle.plan_board.specs.MarkList.{births_of, labels_of}
 use Rattle.plan_board.specs.Marking.{AreKept, IsLeft}
 use Rattle.wall_laws.specs.Holding.{Aside}
-use Rattle.wall_laws.specs.Renumbering.{Leaves, new_number}
+use Rattle.wall_laws.specs.Renumbering.{new_number}
 use Rattle.wall_laws.specs.SideBySide.{HasCome}
 
 -- ---- What stands beside each element
@@ -34,10 +34,10 @@ pairs_map {X} {Y} R f xs all i j e before inside = which xs refl
         subst (λ (y : Y). R y (get_or (map f xs) j e)) (sym (get_or-map f xs i x e (omega (arith, before, less))))
         (subst (λ (y : Y). R (f (get_or xs i x)) y) (sym (get_or-map f xs j x e less)) (all i j x before less))
 
-from_map : {X Y : Type 0} (f : X → Y) (xs : List X) (n : ℕ) (y : Y) → slice_get (map f xs) n ≡ Some y → (x : X) × (slice_get xs n ≡ Some x) × (f x ≡ y)
+pub from_map : {X Y : Type 0} (f : X → Y) (xs : List X) (n : ℕ) (y : Y) → slice_get (map f xs) n ≡ Some y → (x : X) × (slice_get xs n ≡ Some x) × (f x ≡ y)
 from_map f xs n y at = mapped f (slice_get xs n) y (sym (slice_get-map f xs n) ∙ at)
 
-to_map : {X Y : Type 0} (f : X → Y) (xs : List X) (n : ℕ) (x : X) → slice_get xs n ≡ Some x → slice_get (map f xs) n ≡ Some (f x)
+pub to_map : {X Y : Type 0} (f : X → Y) (xs : List X) (n : ℕ) (x : X) → slice_get xs n ≡ Some x → slice_get (map f xs) n ≡ Some (f x)
 to_map f xs n x at = slice_get-map f xs n ∙ ap (option_map f) at
 
 -- what stands beside elements that are kept is kept

@@ -1,3 +1,4 @@
+mod Covered
 mod Kept
 mod Mending
 mod Moves

@@ -1,12 +1,12 @@
 -- What is held, mended behind a step, goes over.
-use Rattle.std.proofs.Common.{◌≡◌, ◌⊎◌, ℕ, ◌<◌, ◌≤◌, false, List, length, Some, refl, inl, inr, arith}
+use Rattle.std.proofs.Common.{◌≡◌, ◌⊎◌, ℕ, ◌<◌, ◌≤◌, false, List, Some, refl, inl, inr, arith}
 use Rattle.std.specs.Prelude.{slice_get, slice_index}
 use Rattle.std.specs.List.{Contains}
 use Rattle.std.proofs.lemmas.Option.{slice_get-get_or}
 use Rattle.css_model.specs.declared.sheet.Item.{Item}
 use Rattle.hold_laws.specs.Behind.{GoesOn}
 use Rattle.hold_laws.specs.Births.{owner}
-use Rattle.hold_laws.specs.Leads.{Lead, Holding, IsLed, IsSetAside, GoesOver}
+use Rattle.hold_laws.specs.Leads.{Holding, IsLed, IsSetAside, GoesOver}
 use Rattle.hold_laws.specs.Turns.{named, first_turn, FirstTurnIsFirst}
 use Rattle.lead_laws.specs.Mended.{TurnLeads, IsMended}
 use Rattle.lead_laws.proofs.StepNames.{owner_within}

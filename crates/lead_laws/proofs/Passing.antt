@@ -1,5 +1,5 @@
 -- A turn that led is passed.
-use Rattle.std.proofs.Common.{◌≡◌, ◌⊎◌, ℕ, ◌<◌, false, List, ◌∷◌, length, refl, sym, ap, ◌∙◌, subst, inl, inr, arith}
+use Rattle.std.proofs.Common.{◌≡◌, ◌⊎◌, ℕ, ◌<◌, false, List, ◌∷◌, length, sym, ap, ◌∙◌, subst, inl, inr, arith}
 use Rattle.std.specs.Prelude.{slice_index}
 use Rattle.std.specs.List.{Contains}
 use Rattle.css_model.specs.declared.sheet.Item.{Item}
@@ -16,7 +16,6 @@ use Rattle.step_laws.specs.Free.{Answered}
 use Rattle.step_laws.specs.Sizes.{Saves}
 use Rattle.step_laws.specs.Steps.{IsStep, first_item, last_item}
 use Rattle.wall_laws.specs.Holding.{Hindrance, Hinders, Aside}
-use Rattle.wall_laws.specs.Renumbering.{renumbered}
 
 -- ---- What is held changes
 

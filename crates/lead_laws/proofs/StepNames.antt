@@ -6,7 +6,7 @@ use Rattle.std.proofs.lemmas.Bool.{cond_both}
 use Rattle.std.proofs.lemmas.Option.{get_or_from_slice_get, slice_get-get_or, slice_get_within}
 use Rattle.css_model.specs.declared.sheet.Item.{Item}
 use Rattle.css_model.specs.declared.sheet.Item.TheVariants.{Rule}
-use Rattle.hold_laws.specs.Births.{later_born, owner}
+use Rattle.hold_laws.specs.Births.{owner}
 use Rattle.hold_laws.specs.Turns.{named}
 use Rattle.order_laws.specs.Edits.{Edit}
 use Rattle.step_laws.specs.declared.step.Step.{Step}

@@ -1,6 +1,6 @@
 -- What is set aside is remembered, and is woken where a pair is moved.
-use Rattle.std.proofs.Common.{◌≡◌, ◌↔◌, ◌⊎◌, ℕ, ◌<◌, ◌≤◌, ◌==◌, Bool, true, false, List, [], ◌∷◌, length, Some, refl, sym, ap, ◌∙◌, subst, inl, inr, arith}
-use Rattle.std.specs.Prelude.{not, slice_get, slice_index}
+use Rattle.std.proofs.Common.{◌≡◌, ◌↔◌, ◌⊎◌, ℕ, ◌<◌, ◌≤◌, ◌==◌, Bool, true, false, List, [], ◌∷◌, length, refl, sym, ap, ◌∙◌, subst, inl, inr, arith}
+use Rattle.std.specs.Prelude.{slice_index}
 use Rattle.std.specs.List.{Contains, filter, list_any}
 use Rattle.std.proofs.lemmas.Bool.{false≢true, false_from_ne_true, not-true, not-false, not_from_false, and_from}
 use Rattle.std.proofs.lemmas.Bool.Decides.{Decides-eqb}
@@ -10,8 +10,6 @@ use Rattle.css_model.specs.declared.sheet.Item.{Item}
 use Rattle.css_model.specs.Sheets.Sound.{IsSound}
 use Rattle.hold_laws.specs.Before.{HasBeen, StepsHaveBeen}
 use Rattle.hold_laws.specs.Behind.{GoesOn}
-use Rattle.hold_laws.specs.Births.{AreBornBehind}
-use Rattle.hold_laws.specs.Leads as held
 use Rattle.hold_laws.specs.Leads.{Holding, IsHeld}
 use Rattle.hold_laws.specs.Turns.{NamesTellSteps, named}
 use Rattle.lead_laws.specs.Mended.{AreRenamed, TurnLeads}

@@ -1,3 +1,4 @@
+pub mod Beside
 pub mod Known
 pub mod MarkNames
 pub mod Mended

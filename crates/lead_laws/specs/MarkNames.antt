@@ -1,12 +1,10 @@
 -- The marks of a board are the names by which a plan tells its items (own).
-use Rattle.std.specs.Prelude.{◌≡◌, ℕ, ◌≤◌, List, length}
-use Rattle.css_model.specs.declared.sheet.Item.{Item}
+use Rattle.std.specs.Prelude.{◌≡◌, ◌≤◌, List, length}
 use Rattle.hold_laws.specs.Births.{AreBirths}
 use Rattle.hold_laws.specs.Leads.{Lead, Holding}
 use Rattle.hold_laws.specs.Turns.{AreLabels}
 use Rattle.lead_laws.specs.Mended.{AreRenamed}
 use Rattle.order_laws.specs.Edits.{Edit, edited}
-use Rattle.plan_board.specs.declared.marks.Mark.{Mark}
 use Rattle.plan_board.specs.BoardParts.{BoardParts}
 use Rattle.plan_board.specs.MarkList.{AreMarks, births_of, labels_of}
 use Rattle.plan_board.specs.Marking.{AreKept}

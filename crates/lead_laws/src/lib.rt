@@ -2,12 +2,14 @@
 //! nothing.
 #![tactic(auto)]
 
+mod beside;
 mod known;
 mod mark_names;
 mod mended;
 mod passed;
 mod remembering;
 
+pub use beside::{cover_goes_on, cover_is_of_each, homes_go_on};
 pub use known::{
     answers_may_come, blocked_is_known, none_is_known, start_is_known, taken_is_known,
 };

@@ -1,0 +1,34 @@
+-- What code keeps beside a board: tables that cover its rules, and the label of each birth (own).
+use Rattle.std.specs.Prelude.{◌≡◌, ℕ, ◌<◌, ◌≤◌, List, [], ◌∷◌, Some, slice_get}
+use Rattle.css_model.specs.declared.sheet.Item.TheVariants.{Rule}
+use Rattle.css_model.specs.Sheets.RuleParts.{RuleParts}
+use Rattle.lead_laws.specs.MarkNames.{IsMarked}
+use Rattle.order_laws.specs.Edits.{Edit, edited}
+use Rattle.plan_board.specs.declared.marks.Mark.{Mark}
+use Rattle.plan_board.specs.BoardParts.{BoardParts}
+use Rattle.plan_board.specs.MarkList.{labels_of}
+use Rattle.plan_board.specs.Marking.{AreKept}
+use Rattle.rule_tables.specs.Tables.{TableParts, Cover, labelled, with_label}
+
+-- Tables that cover the rules of a board cover those of the one behind an edit, where they cover each that is born now.
+abbrev pub CoverGoesOn : Type 0
+CoverGoesOn = (old new : BoardParts) (e : Edit) (tables : TableParts) → IsMarked old → AreKept old new e → new.items ≡ edited e old.items → Cover tables (labelled old.items (labels_of old.marks)) →
+    ((n : ℕ) (m : Mark) (r : RuleParts) → slice_get new.marks n ≡ Some m → slice_get new.items n ≡ Some (Rule r) → old.next ≤ m.birth → Cover tables (with_label r m.label ∷ [])) →
+    Cover tables (labelled new.items (labels_of new.marks))
+
+-- They cover the rules of any board where they cover each.
+abbrev pub CoverIsOfEach : Type 0
+CoverIsOfEach = (b : BoardParts) (tables : TableParts) →
+    ((n : ℕ) (m : Mark) (r : RuleParts) → slice_get b.marks n ≡ Some m → slice_get b.items n ≡ Some (Rule r) → Cover tables (with_label r m.label ∷ [])) →
+    Cover tables (labelled b.items (labels_of b.marks))
+
+-- under the birth of each item stands its label
+abbrev pub AreHomes : List Mark → List ℕ → Type 0
+AreHomes marks homes = (n : ℕ) (m : Mark) → slice_get marks n ≡ Some m → slice_get homes m.birth ≡ Some m.label
+
+-- So it is behind an edit, where the labels under earlier births stay, and those of the items that are born now stand under theirs.
+abbrev pub HomesGoOn : Type 0
+HomesGoOn = (old new : BoardParts) (e : Edit) (homes homes' : List ℕ) → IsMarked old → AreKept old new e → AreHomes old.marks homes →
+    ((birth label : ℕ) → birth < old.next → slice_get homes birth ≡ Some label → slice_get homes' birth ≡ Some label) →
+    ((n : ℕ) (m : Mark) → slice_get new.marks n ≡ Some m → old.next ≤ m.birth → slice_get homes' m.birth ≡ Some m.label) →
+    AreHomes new.marks homes'

@@ -1,0 +1,28 @@
+//! What code keeps beside a board.
+
+ghost use Rattle.lead_laws.specs.Beside.{CoverGoesOn, CoverIsOfEach, HomesGoOn};
+
+use rule_tables::{labelled_rules_stand, rules_are_labelled};
+use wall_laws::items_stay;
+
+/// Tables cover the rules of a board where they cover each.
+pub fn cover_is_of_each()
+    ensures { CoverIsOfEach }
+{
+    labelled_rules_stand();
+}
+
+/// Tables that cover the rules of a board cover those of the one behind an edit, where they cover each that is born
+/// now.
+pub fn cover_goes_on()
+    ensures { CoverGoesOn }
+{
+    cover_is_of_each();
+    rules_are_labelled();
+    items_stay();
+}
+
+/// Under the birth of each item stands its label, also behind an edit.
+pub fn homes_go_on()
+    ensures { HomesGoOn }
+{}
