@@ -1,0 +1,4 @@
+mod HeldAnswers
+mod Naming
+mod Telling
+mod Walking

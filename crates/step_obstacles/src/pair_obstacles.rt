@@ -1,0 +1,60 @@
+//! Answers for pairs of selectors, by which steps are told to be free or blocked.
+
+ghost use Rattle.std.specs.Prelude.{◌≡◌};
+
+use crate::held::answers_are_true;
+use crate::listing::listed_obstacle;
+use css_model::Sheet;
+use obstacles::{Obstacle, Obstacles};
+use overlap::Pairs;
+use std::alloc::{AllocError, Global};
+use std::marker::Model;
+use step_laws::Step;
+
+/// The answers for pairs of selectors; those that tell of a step whether it is free are asked for.
+#[derive(Debug, Drop)]
+pub struct PairObstacles {
+    alloc: Global,
+    pairs: Pairs,
+}
+
+impl Model for PairObstacles {
+    ghost use Rattle.overlap.specs.PairsParts.{PairsParts};
+
+    ghost Value = { PairsParts };
+
+    ghost view = { λ obstacles. obstacles.pairs };
+}
+
+impl PairObstacles {
+    /// By these answers. Takes no memory.
+    pub fn new(alloc: Global, pairs: Pairs) -> PairObstacles
+        ensures { result ≡ pairs }
+    {
+        PairObstacles { alloc, pairs }
+    }
+
+    /// The answers that it holds. Takes no memory.
+    pub fn into_pairs(self) -> Pairs
+        ensures { result ≡ self }
+    {
+        self.pairs
+    }
+}
+
+impl Obstacles for PairObstacles {
+    ghost use Rattle.std.specs.Prelude.{map};
+    ghost use Rattle.sheet_order.specs.Laws.{answer_seen};
+
+    ghost answers = { λ obstacles. map answer_seen obstacles.answers };
+
+    ghost budget = { λ obstacles. obstacles.budget };
+
+    fn answers_are_true(&self) {
+        answers_are_true(&self.pairs);
+    }
+
+    fn obstacle(&mut self, sheet: &Sheet, step: &Step) -> Result<Option<Obstacle>, AllocError> {
+        listed_obstacle(self.alloc, &mut self.pairs, sheet, step)
+    }
+}
