@@ -1,3 +1,4 @@
+mod Named
 mod Small
 mod Splitting
 mod Told
