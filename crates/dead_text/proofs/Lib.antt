@@ -1,0 +1,5 @@
+mod Asked
+mod DocLines
+mod Profile
+mod Reading
+mod Truth
