@@ -1,0 +1,27 @@
+//! What follows of what is told, as functions that do nothing.
+
+ghost use Rattle.why_text.specs.Laws.{BlockedMovesShowOrder, FreeMovesKeep};
+
+use cascade_laws::{matching_is_decided, understanding_is_decided};
+use order_laws::{each_sheet_keeps_itself, listed_is_reversed, moving_apart_keeps};
+use overlap::apart_selectors_do_not_meet;
+
+/// A move that is told to be free keeps the sheet, so that it changes no page.
+pub fn free_moves_keep()
+    ensures { FreeMovesKeep }
+{
+    apart_selectors_do_not_meet();
+    each_sheet_keeps_itself();
+    listed_is_reversed();
+    moving_apart_keeps();
+}
+
+/// The example of a move that is told to be blocked shows that the order of the two pairs counts: for its marked
+/// element the later one of the two rules wins, whichever it is (CSS Cascading 3, section 6).
+pub fn blocked_moves_show_order()
+    ensures { BlockedMovesShowOrder }
+{
+    listed_is_reversed();
+    matching_is_decided();
+    understanding_is_decided();
+}
