@@ -1,100 +1,130 @@
 -- Which words ask for what.
-use Rattle.std.proofs.Common.{◌≡◌, ◌↔◌, ℕ, List, [], ◌∷◌, Bool, true, false, cond, ◌&&◌, ◌||◌, Option, Some, None, refl, sym, ◌∙◌, ap, subst}
-use Rattle.std.proofs.lemmas.Bool.{false≢true}
+use Rattle.std.proofs.Common.{◌≡◌, ◌↔◌, ℕ, List, [], ◌∷◌, Bool, true, false, cond, not, ◌&&◌, ◌||◌, ◌==◌, Option, Some, None, refl, sym, ◌∙◌, ap, subst}
 use Rattle.std.specs.Cmp.Lexicographic.{bytes_decides}
-use Rattle.std.specs.Prelude.{codes}
-use Rattle.command_words.specs.Forms.{Form, Min, Cmp, Help, Version, alone_of, compared, compared_within, comparison_of, budget_of_one, budget_of_two, form_of, help_of, is_help, is_operand, is_word, minified_of, named_form, or_else, single_of}
+use Rattle.std.specs.Prelude.{codes, drop, take}
+use Rattle.command_words.specs.Forms.{Arguments, Form, Min, Cmp, Help, Version, alone, arguments, arguments_of, asked, asks_help, command_named, form_of, is_help, is_operand, is_word, most_budget, named, number_up_to, with_budget, with_operand, with_word, with_words}
 use Rattle.command_words.specs.declared.command.Topic.{Topic}
 use Rattle.command_words.specs.declared.command.Topic.TheVariants as topic
 
 -- ---- The word `min`
 
--- no other words minify
-compared_is_not_min : (b : Bool) (left right : List ℕ) (budget : Option ℕ) → cond b (Some (Cmp left right budget)) None ≡ Some Min → ⊥
-compared_is_not_min true left right budget is = absurd (let bad : ⊥ = cc in bad)
-compared_is_not_min false left right budget is = absurd (let bad : ⊥ = cc in bad)
+-- nothing stands behind the name of a command
+abbrev bare : Option Arguments
+bare = Some (arguments [] None)
 
-within_is_not_min : (budget : Option ℕ) (left right : List ℕ) → compared_within budget left right ≡ Some Min → ⊥
-within_is_not_min None left right is = absurd (let bad : ⊥ = cc in bad)
-within_is_not_min (Some budget) left right is = compared_is_not_min (is_operand left && is_operand right) left right (Some budget) is
+operand_is_not_bare : (word : List ℕ) (before : Option Arguments) → with_operand word before ≡ bare → ⊥
+operand_is_not_bare word None is = absurd (let bad : ⊥ = cc in bad)
+operand_is_not_bare word (Some (arguments [] budget)) is = absurd (let bad : ⊥ = cc in bad)
+operand_is_not_bare word (Some (arguments (first ∷ []) budget)) is = absurd (let bad : ⊥ = cc in bad)
+operand_is_not_bare word (Some (arguments (first ∷ second ∷ more) budget)) is = absurd (let bad : ⊥ = cc in bad)
 
-or_is_not_min : (f g : Option Form) → (f ≡ Some Min → ⊥) → (g ≡ Some Min → ⊥) → or_else f g ≡ Some Min → ⊥
-or_is_not_min None g p q is = q is
-or_is_not_min (Some f) g p q is = p is
+budget_is_not_bare : (number : Option ℕ) (before : Option Arguments) → with_budget number before ≡ bare → ⊥
+budget_is_not_bare None before is = absurd (let bad : ⊥ = cc in bad)
+budget_is_not_bare (Some number) None is = absurd (let bad : ⊥ = cc in bad)
+budget_is_not_bare (Some number) (Some (arguments operands None)) is = absurd (let bad : ⊥ = cc in bad)
+budget_is_not_bare (Some number) (Some (arguments operands (Some other))) is = absurd (let bad : ⊥ = cc in bad)
 
-help_is_not_min : (about : Topic) (words : List (List ℕ)) → help_of about words ≡ Some Min → ⊥
-help_is_not_min about [] is = absurd (let bad : ⊥ = cc in bad)
-help_is_not_min about (word ∷ []) is = by (is_help word) is
+word_is_not_bare : (word : List ℕ) (before : Option Arguments) → with_word word before ≡ bare → ⊥
+word_is_not_bare word before is = by (is_word (take 9 word) (codes "--budget=")) (is_operand word) is
   where
-    by : (b : Bool) → cond b (Some (Help about)) None ≡ Some Min → ⊥
+    by : (b c : Bool) → cond b (with_budget (number_up_to most_budget (drop 9 word)) before) (cond c (with_operand word before) None) ≡ bare → ⊥
+    by true c is = budget_is_not_bare (number_up_to most_budget (drop 9 word)) before is
+    by false true is = operand_is_not_bare word before is
+    by false false is = absurd (let bad : ⊥ = cc in bad)
+
+-- only no words stand for nothing
+words_are_bare : (before : Option Arguments) (words : List (List ℕ)) → with_words before words ≡ bare → (before ≡ bare) × (words ≡ [])
+words_are_bare before [] is = (is, refl)
+words_are_bare before (word ∷ []) is = absurd (word_is_not_bare word before is)
+words_are_bare before (word ∷ next ∷ words) is =
+    by (is_word word (codes "--budget")) (words_are_bare (with_budget (number_up_to most_budget next) before) words) (words_are_bare (with_word word before) (next ∷ words)) is
+  where
+    by : (b : Bool)
+        → (with_words (with_budget (number_up_to most_budget next) before) words ≡ bare → (with_budget (number_up_to most_budget next) before ≡ bare) × (words ≡ []))
+        → (with_words (with_word word before) (next ∷ words) ≡ bare → (with_word word before ≡ bare) × (next ∷ words ≡ []))
+        → cond b (with_words (with_budget (number_up_to most_budget next) before) words) (with_words (with_word word before) (next ∷ words)) ≡ bare → (before ≡ bare) × (word ∷ next ∷ words ≡ [])
+    by true budget other is = absurd (budget_is_not_bare (number_up_to most_budget next) before (budget is).0)
+    by false budget other is = absurd (word_is_not_bare word before (other is).0)
+
+-- only `min` minifies, and only with nothing behind it
+asked_min : (about : Topic) (words : Option Arguments) → asked about words ≡ Some Min → (about ≡ topic.Min) × (words ≡ bare)
+asked_min topic.Program words is = absurd (let bad : ⊥ = cc in bad)
+asked_min topic.Min None is = absurd (let bad : ⊥ = cc in bad)
+asked_min topic.Min (Some (arguments [] None)) is = (refl, refl)
+asked_min topic.Min (Some (arguments [] (Some budget))) is = absurd (let bad : ⊥ = cc in bad)
+asked_min topic.Min (Some (arguments (first ∷ more) budget)) is = absurd (let bad : ⊥ = cc in bad)
+asked_min topic.Cmp None is = absurd (let bad : ⊥ = cc in bad)
+asked_min topic.Cmp (Some (arguments [] budget)) is = absurd (let bad : ⊥ = cc in bad)
+asked_min topic.Cmp (Some (arguments (left ∷ []) budget)) is = absurd (let bad : ⊥ = cc in bad)
+asked_min topic.Cmp (Some (arguments (left ∷ right ∷ []) budget)) is = absurd (let bad : ⊥ = cc in bad)
+asked_min topic.Cmp (Some (arguments (left ∷ right ∷ third ∷ more) budget)) is = absurd (let bad : ⊥ = cc in bad)
+
+alone_is_not_min : (word : List ℕ) (words : List (List ℕ)) → alone word words ≡ Some Min → ⊥
+alone_is_not_min word [] is = by (is_help word || is_word word (codes "help")) (is_word word (codes "--version") || is_word word (codes "-V")) is
+  where
+    by : (b c : Bool) → cond b (Some (Help topic.Program)) (cond c (Some Version) None) ≡ Some Min → ⊥
+    by true c is = absurd (let bad : ⊥ = cc in bad)
+    by false true is = absurd (let bad : ⊥ = cc in bad)
+    by false false is = absurd (let bad : ⊥ = cc in bad)
+alone_is_not_min word (next ∷ words) is = absurd (let bad : ⊥ = cc in bad)
+
+named_min : (command : Option Topic) (name : List ℕ) (words : List (List ℕ)) → named command name words ≡ Some Min → (command ≡ Some topic.Min) × (words ≡ [])
+named_min None name words is = absurd (alone_is_not_min name words is)
+named_min (Some about) name words is = by (asks_help words) is
+  where
+    by : (b : Bool) → cond b (Some (Help about)) (asked about (arguments_of words)) ≡ Some Min → (Some about ≡ Some topic.Min) × (words ≡ [])
     by true is = absurd (let bad : ⊥ = cc in bad)
-    by false is = absurd (let bad : ⊥ = cc in bad)
-help_is_not_min about (word ∷ next ∷ words) is = absurd (let bad : ⊥ = cc in bad)
+    by false is = let parts = asked_min about (arguments_of words) is in (ap Some parts.0, (words_are_bare bare words parts.1).1)
 
-comparison_is_not_min : (words : List (List ℕ)) → comparison_of words ≡ Some Min → ⊥
-comparison_is_not_min [] is = absurd (let bad : ⊥ = cc in bad)
-comparison_is_not_min (a ∷ []) is = absurd (let bad : ⊥ = cc in bad)
-comparison_is_not_min (a ∷ b ∷ []) is = compared_is_not_min (is_operand a && is_operand b) a b None is
-comparison_is_not_min (a ∷ b ∷ c ∷ []) is =
-    or_is_not_min (compared_within (budget_of_one a) b c) (or_else (compared_within (budget_of_one b) a c) (compared_within (budget_of_one c) a b))
-    (within_is_not_min (budget_of_one a) b c)
-    (or_is_not_min (compared_within (budget_of_one b) a c) (compared_within (budget_of_one c) a b) (within_is_not_min (budget_of_one b) a c) (within_is_not_min (budget_of_one c) a b))
-    is
-comparison_is_not_min (a ∷ b ∷ c ∷ d ∷ []) is =
-    or_is_not_min (compared_within (budget_of_two a b) c d) (or_else (compared_within (budget_of_two b c) a d) (compared_within (budget_of_two c d) a b))
-    (within_is_not_min (budget_of_two a b) c d)
-    (or_is_not_min (compared_within (budget_of_two b c) a d) (compared_within (budget_of_two c d) a b) (within_is_not_min (budget_of_two b c) a d) (within_is_not_min (budget_of_two c d) a b))
-    is
-comparison_is_not_min (a ∷ b ∷ c ∷ d ∷ e ∷ words) is = absurd (let bad : ⊥ = cc in bad)
-
-single_is_not_min : (word : List ℕ) (words : List (List ℕ)) → single_of word words ≡ Some Min → ⊥
-single_is_not_min word [] is = by (is_help word) (is_word word (codes "help")) (is_word word (codes "--version")) (is_word word (codes "-V")) is
+command_min : (name : List ℕ) → command_named name ≡ Some topic.Min → name ≡ codes "min"
+unfolding command_named
+command_min name is = by (is_word name (codes "min")) (is_word name (codes "cmp")) refl is
   where
-    version : (b : Bool) → cond b (Some Version) None ≡ Some Min → ⊥
-    version true is = absurd (let bad : ⊥ = cc in bad)
-    version false is = absurd (let bad : ⊥ = cc in bad)
-
-    either : (b c : Bool) → cond b (Some (Help topic.Program)) (cond c (Some Version) None) ≡ Some Min → ⊥
-    either true c is = absurd (let bad : ⊥ = cc in bad)
-    either false c is = version c is
-
-    by : (a b c d : Bool) → cond (a || b) (Some (Help topic.Program)) (cond (c || d) (Some Version) None) ≡ Some Min → ⊥
-    by a b c d is = either (a || b) (c || d) is
-single_is_not_min word (next ∷ words) is = absurd (let bad : ⊥ = cc in bad)
-
--- the words behind `min` are none
-behind_min : (words : List (List ℕ)) → or_else (minified_of words) (help_of topic.Min words) ≡ Some Min → words ≡ []
-behind_min [] is = refl
-behind_min (word ∷ words) is = absurd (help_is_not_min topic.Min (word ∷ words) is)
-
--- exactly the one word `min` minifies
-named_min : (name : List ℕ) (words : List (List ℕ)) → named_form name words ≡ Some Min → name ∷ words ≡ codes "min" ∷ []
-unfolding named_form
-named_min name words is = by (is_word name (codes "min")) (is_word name (codes "cmp")) refl is
-  where
-    by : (b c : Bool) → is_word name (codes "min") ≡ b → cond b (or_else (minified_of words) (help_of topic.Min words)) (cond c (or_else (comparison_of words) (help_of topic.Cmp words)) (single_of name words)) ≡ Some Min
-        → name ∷ words ≡ codes "min" ∷ []
-    by true c test is = let first : name ≡ codes "min" = (bytes_decides name (codes "min")).0 test in let behind : words ≡ [] = behind_min words is in cc
-    by false true test is = absurd (or_is_not_min (comparison_of words) (help_of topic.Cmp words) (comparison_is_not_min words) (help_is_not_min topic.Cmp words) is)
-    by false false test is = absurd (single_is_not_min name words is)
+    by : (b c : Bool) → is_word name (codes "min") ≡ b → cond b (Some topic.Min) (cond c (Some topic.Cmp) None) ≡ Some topic.Min → name ≡ codes "min"
+    by true c test is = (bytes_decides name (codes "min")).0 test
+    by false true test is = absurd (let bad : ⊥ = cc in bad)
+    by false false test is = absurd (let bad : ⊥ = cc in bad)
 
 min_only : (words : List (List ℕ)) → form_of words ≡ Some Min → words ≡ codes "min" ∷ []
 min_only [] is = absurd (let bad : ⊥ = cc in bad)
-min_only (name ∷ words) is = named_min name words is
+min_only (name ∷ words) is =
+    let parts = named_min (command_named name) name words is in
+    let first : name ≡ codes "min" = command_min name parts.0 in let behind : words ≡ [] = parts.1 in cc
 
-min_alone : named_form (codes "min") [] ≡ Some Min
-unfolding named_form
+min_alone : form_of (codes "min" ∷ []) ≡ Some Min
+unfolding command_named
 min_alone = refl
 
 pub min_is_one_word : (words : List (List ℕ)) → (form_of words ≡ Some Min) ↔ (words ≡ codes "min" ∷ [])
 min_is_one_word words = (min_only words, λ is. subst (λ (ws : List (List ℕ)). form_of ws ≡ Some Min) (sym is) min_alone)
 
+-- ---- Operands and options
+
+-- a word that may be an operand is no option
+operand_is_no_option : (word : List ℕ) → is_operand word ≡ true → (is_word word (codes "--budget") ≡ false) × (is_word (take 9 word) (codes "--budget=") ≡ false)
+operand_is_no_option [] may = (refl, refl)
+operand_is_no_option (c ∷ cs) may = by (c == 45) may
+  where
+    by : (b : Bool) → not b ≡ true → ((b && is_word cs (codes "-budget")) ≡ false) × ((b && is_word (take 8 cs) (codes "-budget=")) ≡ false)
+    by true may = absurd (let bad : ⊥ = cc in bad)
+    by false may = (refl, refl)
+
+operand_word : (word : List ℕ) (before : Option Arguments) → is_operand word ≡ true → with_word word before ≡ with_operand word before
+operand_word word before may = by _ _ _ _ (operand_is_no_option word may).1 may
+  where
+    by : (b c : Bool) (x y : Option Arguments) → b ≡ false → c ≡ true → cond b x (cond c y None) ≡ y
+    by false true x y p q = refl
+    by true c x y p q = absurd (let bad : ⊥ = cc in bad)
+    by false false x y p q = absurd (let bad : ⊥ = cc in bad)
+
+operand_first : (word next : List ℕ) (words : List (List ℕ)) (before : Option Arguments) → is_operand word ≡ true → with_words before (word ∷ next ∷ words) ≡ with_words (with_operand word before) (next ∷ words)
+operand_first word next words before may = by _ _ _ (operand_is_no_option word may).0 ∙ ap (λ (read : Option Arguments). with_words read (next ∷ words)) (operand_word word before may)
+  where
+    by : (b : Bool) (x y : Option Arguments) → b ≡ false → cond b x y ≡ y
+    by false x y p = refl
+    by true x y p = absurd (let bad : ⊥ = cc in bad)
+
 -- two words behind `cmp` are compared
 pub cmp_compares : (left right : List ℕ) → is_operand left ≡ true → is_operand right ≡ true → form_of (codes "cmp" ∷ left ∷ right ∷ []) ≡ Some (Cmp left right None)
-unfolding named_form
-cmp_compares left right p q = by (is_operand left) (is_operand right) p q
-  where
-    by : (a b : Bool) → a ≡ true → b ≡ true → or_else (cond (a && b) (Some (Cmp left right None)) None) (help_of topic.Cmp (left ∷ right ∷ [])) ≡ Some (Cmp left right None)
-    by true true p q = refl
-    by false b p q = absurd (let bad : ⊥ = cc in bad)
-    by true false p q = absurd (let bad : ⊥ = cc in bad)
+unfolding command_named
+cmp_compares left right p q = ap (asked topic.Cmp) (operand_first left right [] bare p ∙ operand_word right (with_operand left bare) q)

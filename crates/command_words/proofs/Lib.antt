@@ -1,3 +1,3 @@
+mod Decimals
 mod FormLaws
-mod Lists
-mod Numbers
+mod Words

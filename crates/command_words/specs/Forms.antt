@@ -1,5 +1,5 @@
 -- The forms of a command line: which words ask for what (own).
-use Rattle.std.specs.Prelude.{◌==◌, ℕ, nat_lt, Bool, true, not, ◌&&◌, ◌||◌, if◌then◌else◌, List, [], ◌∷◌, Option, Some, None, codes, decimal, take, drop}
+use Rattle.std.specs.Prelude.{◌==◌, ℕ, nat_lt, Bool, true, false, not, ◌&&◌, ◌||◌, if◌then◌else◌, List, [], ◌∷◌, Option, Some, None, codes, decimal, take, drop}
 use Rattle.std.specs.Cmp.Lexicographic.{pointwise}
 use Rattle.std.specs.Str.Parse.{digits_value}
 use Rattle.command_words.specs.declared.command.Topic.{Topic}
@@ -27,77 +27,84 @@ abbrev pub is_operand : List ℕ → Bool
 is_operand [] = true
 is_operand (c ∷ cs) = not (c == 45)
 
--- ---- Budgets
+-- ---- Numbers
 
 abbrev pub most_budget : ℕ
 most_budget = 20000
 
--- A number of at most `most_budget`, in decimal digits without a sign and without a leading zero.
-unfoldable pub number_of : List ℕ → Option ℕ
-number_of word =
+-- A number up to `most`, in decimal digits without a sign and without a leading zero.
+unfoldable pub number_up_to : (most : ℕ) → List ℕ → Option ℕ
+number_up_to most word =
     let number = digits_value 10 word in
-    if is_word word (decimal number) && not (nat_lt most_budget number) then Some number else None
+    if is_word word (decimal number) && not (nat_lt most number) then Some number else None
 
--- the budget that two words ask for: `--budget N`
-abbrev pub budget_of_two : (flag number : List ℕ) → Option ℕ
-budget_of_two flag number = if is_word flag (codes "--budget") then number_of number else None
+-- ---- Operands and options
 
--- the budget that one word asks for: `--budget=N`
-abbrev pub budget_of_one : List ℕ → Option ℕ
-budget_of_one word = if is_word (take 9 word) (codes "--budget=") then number_of (drop 9 word) else None
+-- What may stand behind the name of a command: operands, in their order, and the budget, if one is named.
+pub data Arguments : Type 0 where
+  arguments : (operands : List (List ℕ)) (budget : Option ℕ) → Arguments
+
+-- one operand more; no command takes three
+abbrev pub with_operand : List ℕ → Option Arguments → Option Arguments
+with_operand word (Some (arguments [] budget)) = Some (arguments (word ∷ []) budget)
+with_operand word (Some (arguments (first ∷ []) budget)) = Some (arguments (first ∷ word ∷ []) budget)
+with_operand word before = None
+
+-- a budget, if none is named before
+abbrev pub with_budget : Option ℕ → Option Arguments → Option Arguments
+with_budget (Some number) (Some (arguments operands None)) = Some (arguments operands (Some number))
+with_budget number before = None
+
+-- one word more: `--budget=N`, or an operand
+abbrev pub with_word : List ℕ → Option Arguments → Option Arguments
+with_word word before =
+    if is_word (take 9 word) (codes "--budget=") then with_budget (number_up_to most_budget (drop 9 word)) before
+    else if is_operand word then with_operand word before else None
+
+-- More words, read from the left: the word behind `--budget` is its number.
+abbrev pub with_words : Option Arguments → List (List ℕ) → Option Arguments
+with_words before [] = before
+with_words before (word ∷ []) = with_word word before
+with_words before (word ∷ next ∷ words) =
+    if is_word word (codes "--budget") then with_words (with_budget (number_up_to most_budget next) before) words
+    else with_words (with_word word before) (next ∷ words)
+
+-- what words behind the name of a command are: an option stands once at most, and anywhere
+abbrev pub arguments_of : List (List ℕ) → Option Arguments
+arguments_of words = with_words (Some (arguments [] None)) words
 
 -- ---- What words ask for
 
--- the first that is one
-abbrev pub or_else : Option Form → Option Form → Option Form
-or_else (Some form) other = Some form
-or_else None other = other
+-- what a command with these operands and options asks for
+abbrev pub asked : Topic → Option Arguments → Option Form
+asked topic.Min (Some (arguments [] None)) = Some Min
+asked topic.Cmp (Some (arguments (left ∷ right ∷ []) budget)) = Some (Cmp left right budget)
+asked about words = None
 
--- two words that may be selectors are compared
-abbrev pub compared : (left right : List ℕ) → (budget : Option ℕ) → Option Form
-compared left right budget = if is_operand left && is_operand right then Some (Cmp left right budget) else None
+-- the command of a name
+unfoldable pub command_named : List ℕ → Option Topic
+command_named name =
+    if is_word name (codes "min") then Some topic.Min
+    else if is_word name (codes "cmp") then Some topic.Cmp else None
 
--- the same, within a budget that has to be one
-abbrev pub compared_within : (budget : Option ℕ) → (left right : List ℕ) → Option Form
-compared_within None left right = None
-compared_within (Some budget) left right = compared left right (Some budget)
+-- whether the words behind a command ask how it is used
+abbrev pub asks_help : List (List ℕ) → Bool
+asks_help (word ∷ []) = is_help word
+asks_help words = false
 
--- The words behind `cmp` that compare: LEFT RIGHT, and a budget anywhere among them.
-abbrev pub comparison_of : List (List ℕ) → Option Form
-comparison_of (a ∷ b ∷ []) = compared a b None
-comparison_of (a ∷ b ∷ c ∷ []) = or_else (compared_within (budget_of_one a) b c) (or_else (compared_within (budget_of_one b) a c) (compared_within (budget_of_one c) a b))
-comparison_of (a ∷ b ∷ c ∷ d ∷ []) = or_else (compared_within (budget_of_two a b) c d) (or_else (compared_within (budget_of_two b c) a d) (compared_within (budget_of_two c d) a b))
-comparison_of words = None
-
--- one word behind a command may ask how it is used
-abbrev pub help_of : Topic → List (List ℕ) → Option Form
-help_of about (word ∷ []) = if is_help word then Some (Help about) else None
-help_of about words = None
-
--- no word behind `min` minifies
-abbrev pub minified_of : List (List ℕ) → Option Form
-minified_of [] = Some Min
-minified_of words = None
-
--- a word that stands alone may ask how the program is used, or for its version
-abbrev pub alone_of : List ℕ → Option Form
-alone_of word =
+-- a word that is no command may ask, alone, how the program is used, or for its version
+abbrev pub alone : List ℕ → List (List ℕ) → Option Form
+alone word [] =
     if is_help word || is_word word (codes "help") then Some (Help topic.Program)
     else if is_word word (codes "--version") || is_word word (codes "-V") then Some Version else None
+alone word words = None
 
--- no word stands behind it
-abbrev pub single_of : List ℕ → List (List ℕ) → Option Form
-single_of word [] = alone_of word
-single_of word words = None
-
--- what a first word and those behind it ask for
-unfoldable pub named_form : (name : List ℕ) (words : List (List ℕ)) → Option Form
-named_form name words =
-    if is_word name (codes "min") then or_else (minified_of words) (help_of topic.Min words)
-    else if is_word name (codes "cmp") then or_else (comparison_of words) (help_of topic.Cmp words)
-    else single_of name words
+-- what a name, of this command if of one, and the words behind it ask for
+abbrev pub named : Option Topic → (name : List ℕ) (words : List (List ℕ)) → Option Form
+named (Some about) name words = if asks_help words then Some (Help about) else asked about (arguments_of words)
+named None name words = alone name words
 
 -- What the words after the program's name ask for, if they have a form.
 abbrev pub form_of : List (List ℕ) → Option Form
 form_of [] = None
-form_of (name ∷ words) = named_form name words
+form_of (name ∷ words) = named (command_named name) name words

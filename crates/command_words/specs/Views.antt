@@ -1,10 +1,11 @@
--- What a contract sees of a command and of words in a row.
-use Rattle.std.specs.Prelude.{◌≡◌, ◌≤◌, ℕ, List, [], ◌∷◌, Option, Some, None, length}
-use Rattle.command_words.specs.Forms.{Form, Min, Cmp, Help, Version}
+-- What a contract sees of a command, and of operands and options.
+use Rattle.std.specs.Prelude.{ℕ, List, [], ◌∷◌, Option, Some, None}
+use Rattle.command_words.specs.Forms.{Form, Min, Cmp, Help, Version, Arguments, arguments}
 use Rattle.command_words.specs.declared.command.Command.{Command}
 use Rattle.command_words.specs.declared.command.Command.TheVariants as command
-use Rattle.command_words.specs.declared.words.Words.{Words}
-use Rattle.command_words.specs.declared.words.Words.TheVariants as words
+use Rattle.command_words.specs.declared.arguments.Arguments as read
+use Rattle.command_words.specs.declared.arguments.Operands.{Operands}
+use Rattle.command_words.specs.declared.arguments.Operands.TheVariants as operands
 
 -- the form of a command: its texts in place of the places where they stand
 abbrev pub form : Command → Form
@@ -17,11 +18,12 @@ abbrev pub form_if_some : Option Command → Option Form
 form_if_some None = None
 form_if_some (Some command) = Some (form command)
 
--- up to four words, of the list that they are
-abbrev pub AreWords : Words → List (List ℕ) → Type 0
-AreWords words.None list = list ≡ []
-AreWords (words.One a) list = list ≡ a.now ∷ []
-AreWords (words.Two a b) list = list ≡ a.now ∷ b.now ∷ []
-AreWords (words.Three a b c) list = list ≡ a.now ∷ b.now ∷ c.now ∷ []
-AreWords (words.Four a b c d) list = list ≡ a.now ∷ b.now ∷ c.now ∷ d.now ∷ []
-AreWords words.More list = 5 ≤ length list
+-- the texts of operands
+abbrev pub texts : Operands → List (List ℕ)
+texts operands.None = []
+texts (operands.One first) = first.now ∷ []
+texts (operands.Two first second) = first.now ∷ second.now ∷ []
+
+abbrev pub arguments_if_some : Option read.Arguments → Option Arguments
+arguments_if_some None = None
+arguments_if_some (Some read) = Some (arguments (texts read.operands) read.budget)

@@ -1,11 +1,11 @@
 //! The words of a command line: which command they are.
 #![tactic(auto)]
 
-mod budget;
+mod arguments;
 mod command;
 mod laws;
+mod numbers;
 mod reading;
-mod words;
 
 pub use command::{Command, MOST_BUDGET, Topic};
 pub use laws::{cmp_compares_two_words, min_is_one_word, most_budget_is_defined};

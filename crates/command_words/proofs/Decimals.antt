@@ -4,11 +4,11 @@ use Rattle.std.proofs.lemmas.Fmt.{decimal_is_IsNumeral}
 use Rattle.std.specs.Cmp.Lexicographic.{bytes_decides}
 use Rattle.std.specs.Prelude.{decimal}
 use Rattle.std.specs.Str.Parse.{digits_value}
-use Rattle.command_words.specs.Forms.{is_word, most_budget, number_of}
+use Rattle.command_words.specs.Forms.{is_word, number_up_to}
 
 -- a number's digits have it as their value
-digits_have : (word : List ℕ) (n : ℕ) → n ≤ most_budget → word ≡ decimal n → digits_value 10 word ≡ n
-digits_have word n few is = ap (digits_value 10) is ∙ (decimal_is_IsNumeral n (omega (arith, few))).1
+digits_have : (word : List ℕ) (n : ℕ) → n < 2 ^ 32 → word ≡ decimal n → digits_value 10 word ≡ n
+digits_have word n small is = ap (digits_value 10) is ∙ (decimal_is_IsNumeral n (omega (arith, small))).1
 
 when : (b c : Bool) (n : ℕ) → b ≡ true → c ≡ false → cond (b && not c) (Some n) None ≡ Some n
 when true false n p q = refl
@@ -16,12 +16,12 @@ when false c n p q = absurd (let bad : ⊥ = cc in bad)
 when true true n p q = absurd (let bad : ⊥ = cc in bad)
 
 -- the number of a word that writes it
-pub number_is : (word : List ℕ) (n : ℕ) → n ≤ most_budget → word ≡ decimal n → number_of word ≡ Some n
-unfolding number_of
-number_is word n few is =
-    let value : digits_value 10 word ≡ n = digits_have word n few is in
+pub number_is : (most : ℕ) (word : List ℕ) (n : ℕ) → n < 2 ^ 32 → n ≤ most → word ≡ decimal n → number_up_to most word ≡ Some n
+unfolding number_up_to
+number_is most word n small few is =
+    let value : digits_value 10 word ≡ n = digits_have word n small is in
     let same : is_word word (decimal (digits_value 10 word)) ≡ true = (bytes_decides word (decimal (digits_value 10 word))).1 (is ∙ ap decimal (sym value)) in
-    let within : nat_lt most_budget (digits_value 10 word) ≡ false = subst (λ (m : ℕ). nat_lt most_budget m ≡ false) (sym value) (below most_budget n few) in
+    let within : nat_lt most (digits_value 10 word) ≡ false = subst (λ (m : ℕ). nat_lt most m ≡ false) (sym value) (below most n few) in
     when _ _ (digits_value 10 word) same within ∙ ap Some value
   where
     below : (limit n : ℕ) → n ≤ limit → nat_lt limit n ≡ false
@@ -33,9 +33,9 @@ unless false c n h = refl
 unless true true n h = refl
 
 -- a word that writes no such number has none
-pub no_number : (word : List ℕ) → ((n : ℕ) → n ≤ most_budget → word ≡ decimal n → ⊥) → number_of word ≡ None
-unfolding number_of
-no_number word none = unless _ _ (digits_value 10 word) (λ same within. none (digits_value 10 word) (upto most_budget (digits_value 10 word) within) ((bytes_decides word (decimal (digits_value 10 word))).0 same))
+pub no_number : (most : ℕ) (word : List ℕ) → ((n : ℕ) → n ≤ most → word ≡ decimal n → ⊥) → number_up_to most word ≡ None
+unfolding number_up_to
+no_number most word none = unless _ _ (digits_value 10 word) (λ same within. none (digits_value 10 word) (upto most (digits_value 10 word) within) ((bytes_decides word (decimal (digits_value 10 word))).0 same))
   where
     upto : (limit n : ℕ) → nat_lt limit n ≡ false → n ≤ limit
     upto limit n h = grind (arith, h)

@@ -1,0 +1,110 @@
+//! What stands behind the name of a command: operands and options.
+
+ghost use Rattle.std.specs.Prelude.{◌≡◌, Some, map, string_bytes};
+ghost use Rattle.command_words.specs.Forms as forms;
+ghost use Rattle.command_words.specs.Views.{arguments_if_some};
+
+use crate::command::MOST_BUDGET;
+use crate::numbers::number_up_to;
+
+/// Up to two operands.
+#[derive(Clone, Copy, Debug)]
+pub(crate) enum Operands<'a> {
+    None,
+    One(&'a str),
+    Two(&'a str, &'a str),
+}
+
+/// Operands, and the budget, if one is named.
+#[derive(Clone, Copy, Debug)]
+pub(crate) struct Arguments<'a> {
+    pub(crate) operands: Operands<'a>,
+    pub(crate) budget: Option<u32>,
+}
+
+/// Whether a word may be an operand.
+fn is_operand(word: &str) -> bool
+    ensures { result ≡ forms.is_operand word.now }
+{
+    match word.as_bytes().first() {
+        Some(first) => *first != b'-',
+        None => true,
+    }
+}
+
+/// The same with one operand more, of at most two.
+fn with_operand<'a>(word: &'a str, before: Arguments<'a>) -> Option<Arguments<'a>>
+    ensures { arguments_if_some result ≡ forms.with_operand word.now (arguments_if_some (Some before.entry)) }
+{
+    let operands = match before.operands {
+        Operands::None => Operands::One(word),
+        Operands::One(first) => Operands::Two(first, word),
+        Operands::Two(_, _) => return None,
+    };
+    Some(Arguments { operands, ..before })
+}
+
+/// The same with a budget that is written so, where none is named before.
+fn with_budget<'a>(number: &str, before: Arguments<'a>) -> Option<Arguments<'a>>
+    ensures { arguments_if_some result
+        ≡ forms.with_budget (forms.number_up_to forms.most_budget number.now) (arguments_if_some (Some before.entry)) }
+{
+    match (before.budget, number_up_to(MOST_BUDGET, number)) {
+        (None, Some(budget)) => Some(Arguments {
+            budget: Some(budget),
+            ..before
+        }),
+        _ => None,
+    }
+}
+
+/// The same with one word more.
+fn with_word<'a>(word: &'a str, before: Arguments<'a>) -> Option<Arguments<'a>>
+    ensures { arguments_if_some result ≡ forms.with_word word.now (arguments_if_some (Some before.entry)) }
+{
+    match word.strip_prefix("--budget=") {
+        Some(number) => with_budget(number, before),
+        None => {
+            if is_operand(word) {
+                with_operand(word, before)
+            } else {
+                None
+            }
+        }
+    }
+}
+
+/// The same with more words, read from the left, as long as each of them fits.
+fn with_words<'a>(before: Arguments<'a>, words: &'a [String]) -> Option<Arguments<'a>>
+    ensures { arguments_if_some result
+        ≡ forms.with_words (arguments_if_some (Some before.entry)) (map string_bytes words.now) }
+{
+    match words {
+        [] => Some(before),
+        [word] => with_word(word.as_str(), before),
+        [word, next, behind @ ..] => {
+            if word.as_str() == "--budget" {
+                match with_budget(next.as_str(), before) {
+                    Some(arguments) => with_words(arguments, behind),
+                    None => None,
+                }
+            } else {
+                match with_word(word.as_str(), before) {
+                    Some(arguments) => with_words(arguments, &words[1..]),
+                    None => None,
+                }
+            }
+        }
+    }
+}
+
+/// What words behind the name of a command are, if they may stand there.
+pub(crate) fn arguments_of<'a>(words: &'a [String]) -> Option<Arguments<'a>>
+    ensures { arguments_if_some result ≡ forms.arguments_of (map string_bytes words.now) }
+{
+    let none = Arguments {
+        operands: Operands::None,
+        budget: None,
+    };
+    with_words(none, words)
+}
