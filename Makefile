@@ -1,6 +1,6 @@
 # make            proves and builds the program, and puts it here as ./cssmin
 # make check      the whole gate: every proof, must-fail edit, test and program, and the process tried
-# make install    installs it below PREFIX (/usr/local)
+# make install    installs it below PREFIX (/usr/local), with its man page and completions for bash, zsh and fish
 # make examples   checks that the program gives the outputs beside the examples
 # make bench      measures it, and its reading of tokens, against wc -c on the same files
 # make sizes      prints the sizes that it and esbuild give the examples
@@ -24,6 +24,10 @@ check:
 
 install: cssmin
 	install -D -m 755 cssmin '$(DESTDIR)$(PREFIX)/bin/cssmin'
+	install -D -m 644 docs/cssmin.1 '$(DESTDIR)$(PREFIX)/share/man/man1/cssmin.1'
+	install -D -m 644 completions/cssmin.bash '$(DESTDIR)$(PREFIX)/share/bash-completion/completions/cssmin'
+	install -D -m 644 completions/_cssmin '$(DESTDIR)$(PREFIX)/share/zsh/site-functions/_cssmin'
+	install -D -m 644 completions/cssmin.fish '$(DESTDIR)$(PREFIX)/share/fish/vendor_completions.d/cssmin.fish'
 
 examples: cssmin
 	for sheet in $(SHEETS); do ./cssmin min <$$sheet | cmp - $${sheet%.css}.min.css || exit 1; done

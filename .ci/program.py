@@ -126,6 +126,20 @@ def try_itself(tries):
         tries.check("help for a full output", ["--help"], SHEET, 5, b"", WRITE_FAULT, stdout=full)
 
 
+def try_pages(tries):
+    """The man page and the completions name the commands and the options of the help, and no others."""
+    page = tries.run(["--help"], b"").stdout.decode()
+    commands = re.findall(r"^  (\w+) ", page, re.MULTILINE)
+    helps = [page, *(tries.run([word, "--help"], b"").stdout.decode() for word in commands if word != "help")]
+    options = set(re.findall(r"--[a-z]+", "".join(helps)))
+    for path in ["docs/cssmin.1", "completions/cssmin.bash", "completions/_cssmin", "completions/cssmin.fish"]:
+        with open(path, encoding="utf-8") as file:
+            text = re.sub(r" -l (\w+)", r" --\1", file.read().replace("\\-", "-"))
+        tries.is_same(path, "the set of options", set(re.findall(r"--[a-z]+", text)), options)
+        for word in commands:
+            tries.is_same(path, f"whether it names {word}", re.search(rf"\b{word}\b", text) is not None, True)
+
+
 def try_pairs(tries):
     overlap = b"overlap\nchild 0 pseudo none\n0 1 - x\n1 1 * x class=icon-a%20b%20a\n"
     for words, text in [
@@ -208,6 +222,7 @@ def main():
     tries = Tries(program)
     try_words(tries)
     try_itself(tries)
+    try_pages(tries)
     try_pairs(tries)
     try_sheets(tries)
     try_streams(tries)

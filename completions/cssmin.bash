@@ -1,0 +1,14 @@
+# Completion of cssmin for bash.
+_cssmin() {
+    local command=${COMP_WORDS[1]} words
+    if [ "$COMP_CWORD" = 1 ]; then
+        words='min cmp help --help --version'
+    else
+        case $command in
+            min) words='--help' ;;
+            cmp) words='--budget --help' ;;
+        esac
+    fi
+    COMPREPLY=($(compgen -W "$words" -- "${COMP_WORDS[COMP_CWORD]}"))
+}
+complete -F _cssmin cssmin
