@@ -18,7 +18,7 @@ import tempfile
 
 MORE = b"\nFor more information, try '--help'.\n"
 NO_WORD = b"""error: 'cssmin' requires a subcommand but one was not provided
-  [subcommands: min, cmp, help]
+  [subcommands: min, cmp, check, help]
 
 Usage: cssmin <COMMAND>
 """ + MORE
@@ -116,7 +116,8 @@ def try_itself(tries):
         version = re.search(r"^Version (\S+)\.", file.read(), re.MULTILINE)[1]
     for word in ["--version", "-V"]:
         tries.check_read(word, [word], SHEET, 0, f"cssmin {version}\n".encode(), b"", 0)
-    for words in [["--help"], ["-h"], ["help"], ["min", "--help"], ["min", "-h"], ["cmp", "--help"], ["cmp", "-h"]]:
+    for words in [["--help"], ["-h"], ["help"], ["min", "--help"], ["min", "-h"], ["cmp", "--help"], ["cmp", "-h"],
+            ["check", "--help"]]:
         ran = tries.run(words, SHEET)
         name = " ".join(words)
         tries.is_same(name, "the exit status", ran.returncode, 0)
@@ -153,6 +154,15 @@ def try_pairs(tries):
         tries.check_read(" ".join(words), ["cmp", *words], SHEET, 0, text, b"", 0)
     with open("/dev/full", "wb") as full:
         tries.check("a pair for a full output", ["cmp", "a", "b"], SHEET, 5, b"", WRITE_FAULT, stdout=full)
+
+
+def try_logs(tries):
+    log = b"vars 2 clauses 4\n1 2 0\n1 -2 0\n-1 2 0\n-1 -2 0\n1 0\n0\n"
+    tries.check_read("a log", ["check"], log, 0, b"yes\n", b"", len(log))
+    short = log.replace(b"\n1 0\n", b"\n")
+    tries.check_read("a log without a step", ["check"], short, 0, b"no 1\n", b"", len(short))
+    bad = b"vars 1 clauses 1\n2 0\n"
+    tries.check_read("a bad log", ["check"], bad, 8, b"", b"log refused: line 2\n", len(bad))
 
 
 def try_sheets(tries):
@@ -224,6 +234,7 @@ def main():
     try_itself(tries)
     try_pages(tries)
     try_pairs(tries)
+    try_logs(tries)
     try_sheets(tries)
     try_streams(tries)
     # A sheet that joins, so that each kind of memory is taken.

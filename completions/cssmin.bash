@@ -2,10 +2,10 @@
 _cssmin() {
     local command=${COMP_WORDS[1]} words
     if [ "$COMP_CWORD" = 1 ]; then
-        words='min cmp help --help --version'
+        words='min cmp check help --help --version'
     else
         case $command in
-            min) words='--help' ;;
+            min|check) words='--help' ;;
             cmp) words='--budget --help' ;;
         esac
     fi

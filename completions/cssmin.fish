@@ -2,6 +2,7 @@
 complete -c cssmin -f
 complete -c cssmin -n __fish_use_subcommand -a min -d 'Make a style sheet smaller'
 complete -c cssmin -n __fish_use_subcommand -a cmp -d 'Tell whether one element can match two selectors'
+complete -c cssmin -n __fish_use_subcommand -a check -d 'Check a log that refutes a formula'
 complete -c cssmin -n __fish_use_subcommand -a help -d 'Tell how it is used'
 complete -c cssmin -n __fish_use_subcommand -s V -l version -d 'Tell the version'
 complete -c cssmin -s h -l help -d 'Tell how it is used'

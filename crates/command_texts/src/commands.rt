@@ -6,7 +6,7 @@ use std::alloc::{AllocError, Global};
 
 const PROGRAM_HELP: &str = "\
 Exit status: 0 done, 2 wrong words, 3 the sheet is refused, 4 the input could not be read,
-5 the output could not be written, 6 not enough memory.
+5 the output could not be written, 6 not enough memory, 8 the log is refused.
 
     cssmin min <sheet.css >sheet.min.css
     cssmin cmp 'a:hover' '.menu > a'
@@ -54,6 +54,24 @@ fn cmp_command<'a>(alloc: Global) -> Result<Command<'a>, AllocError> {
         .arg(budget)
 }
 
+const CHECK_HELP: &str = "\
+The log is read from standard input to its end. It has a formula and the steps that refute it, in
+lines of numbers. Writes one of these to standard output:
+
+    yes         each step follows from what stands before it, and the last one is empty:
+                no values satisfy the formula
+    no N        step N does not follow; one past the last, if all do and none is empty
+
+Nothing is written where the log is refused (status 8, and `log refused: line N`, the first line
+that is not of a log, or `log refused: too long` on standard error).";
+
+/// The command `check`.
+fn check_command<'a>(alloc: Global) -> Command<'a> {
+    Command::new(alloc, "check")
+        .about("Check a log that refutes a formula")
+        .after_help(CHECK_HELP)
+}
+
 /// The word `help`.
 fn help_command<'a>(alloc: Global) -> Command<'a> {
     Command::new(alloc, "help").about("Print this message")
@@ -68,6 +86,7 @@ pub(crate) fn program<'a>(alloc: Global, version: &'a str) -> Result<Command<'a>
         .subcommand_required(true)
         .subcommand(min_command(alloc))?
         .subcommand(cmp_command(alloc)?)?
+        .subcommand(check_command(alloc))?
         .disable_help_subcommand(true)
         .subcommand(help_command(alloc))
 }

@@ -2,7 +2,7 @@
 use Rattle.std.proofs.Common.{◌≡◌, ◌↔◌, ℕ, List, [], ◌∷◌, Bool, true, false, cond, not, ◌&&◌, ◌||◌, ◌==◌, Option, Some, None, refl, sym, ◌∙◌, ap, subst}
 use Rattle.std.specs.Cmp.Lexicographic.{bytes_decides}
 use Rattle.std.specs.Prelude.{codes, drop, take}
-use Rattle.command_words.specs.Forms.{Arguments, Form, Min, Cmp, Help, Version, alone, arguments, arguments_of, asked, asks_help, command_named, form_of, is_help, is_operand, is_word, most_budget, named, number_up_to, with_budget, with_operand, with_word, with_words}
+use Rattle.command_words.specs.Forms.{Arguments, Min, Cmp, Help, Version, alone, arguments, arguments_of, asked, asks_help, command_named, form_of, is_help, is_operand, is_word, most_budget, named, number_up_to, with_budget, with_operand, with_word, with_words}
 use Rattle.command_words.specs.declared.command.Topic.{Topic}
 use Rattle.command_words.specs.declared.command.Topic.TheVariants as topic
 
@@ -58,6 +58,10 @@ asked_min topic.Cmp (Some (arguments [] budget)) is = absurd (let bad : ⊥ = cc
 asked_min topic.Cmp (Some (arguments (left ∷ []) budget)) is = absurd (let bad : ⊥ = cc in bad)
 asked_min topic.Cmp (Some (arguments (left ∷ right ∷ []) budget)) is = absurd (let bad : ⊥ = cc in bad)
 asked_min topic.Cmp (Some (arguments (left ∷ right ∷ third ∷ more) budget)) is = absurd (let bad : ⊥ = cc in bad)
+asked_min topic.Check None is = absurd (let bad : ⊥ = cc in bad)
+asked_min topic.Check (Some (arguments [] None)) is = absurd (let bad : ⊥ = cc in bad)
+asked_min topic.Check (Some (arguments [] (Some budget))) is = absurd (let bad : ⊥ = cc in bad)
+asked_min topic.Check (Some (arguments (first ∷ more) budget)) is = absurd (let bad : ⊥ = cc in bad)
 
 alone_is_not_min : (word : List ℕ) (words : List (List ℕ)) → alone word words ≡ Some Min → ⊥
 alone_is_not_min word [] is = by (is_help word || is_word word (codes "help")) (is_word word (codes "--version") || is_word word (codes "-V")) is
@@ -78,12 +82,13 @@ named_min (Some about) name words is = by (asks_help words) is
 
 command_min : (name : List ℕ) → command_named name ≡ Some topic.Min → name ≡ codes "min"
 unfolding command_named
-command_min name is = by (is_word name (codes "min")) (is_word name (codes "cmp")) refl is
+command_min name is = by (is_word name (codes "min")) (is_word name (codes "cmp")) (is_word name (codes "check")) refl is
   where
-    by : (b c : Bool) → is_word name (codes "min") ≡ b → cond b (Some topic.Min) (cond c (Some topic.Cmp) None) ≡ Some topic.Min → name ≡ codes "min"
-    by true c test is = (bytes_decides name (codes "min")).0 test
-    by false true test is = absurd (let bad : ⊥ = cc in bad)
-    by false false test is = absurd (let bad : ⊥ = cc in bad)
+    by : (b c d : Bool) → is_word name (codes "min") ≡ b → cond b (Some topic.Min) (cond c (Some topic.Cmp) (cond d (Some topic.Check) None)) ≡ Some topic.Min → name ≡ codes "min"
+    by true c d test is = (bytes_decides name (codes "min")).0 test
+    by false true d test is = absurd (let bad : ⊥ = cc in bad)
+    by false false true test is = absurd (let bad : ⊥ = cc in bad)
+    by false false false test is = absurd (let bad : ⊥ = cc in bad)
 
 min_only : (words : List (List ℕ)) → form_of words ≡ Some Min → words ≡ codes "min" ∷ []
 min_only [] is = absurd (let bad : ⊥ = cc in bad)

@@ -5,11 +5,12 @@ use Rattle.std.specs.Str.Parse.{digits_value}
 use Rattle.command_words.specs.declared.command.Topic.{Topic}
 use Rattle.command_words.specs.declared.command.Topic.TheVariants as topic
 
--- What words ask for: to minify a sheet, to compare two texts as selectors, perhaps within a budget, to tell
--- how the program or a command is used, or to tell the version.
+-- What words ask for: what a command does, with its operands and options, how the program or a command is used, or
+-- the version.
 pub data Form : Type 0 where
   Min : Form
   Cmp : (left right : List ℕ) (budget : Option ℕ) → Form
+  Check : Form
   Help : Topic → Form
   Version : Form
 
@@ -79,13 +80,15 @@ arguments_of words = with_words (Some (arguments [] None)) words
 abbrev pub asked : Topic → Option Arguments → Option Form
 asked topic.Min (Some (arguments [] None)) = Some Min
 asked topic.Cmp (Some (arguments (left ∷ right ∷ []) budget)) = Some (Cmp left right budget)
+asked topic.Check (Some (arguments [] None)) = Some Check
 asked about words = None
 
 -- the command of a name
 unfoldable pub command_named : List ℕ → Option Topic
 command_named name =
     if is_word name (codes "min") then Some topic.Min
-    else if is_word name (codes "cmp") then Some topic.Cmp else None
+    else if is_word name (codes "cmp") then Some topic.Cmp
+    else if is_word name (codes "check") then Some topic.Check else None
 
 -- whether the words behind a command ask how it is used
 abbrev pub asks_help : List (List ℕ) → Bool

@@ -1,6 +1,6 @@
 -- What a contract sees of a command, and of operands and options.
 use Rattle.std.specs.Prelude.{ℕ, List, [], ◌∷◌, Option, Some, None}
-use Rattle.command_words.specs.Forms.{Form, Min, Cmp, Help, Version, Arguments, arguments}
+use Rattle.command_words.specs.Forms.{Form, Min, Cmp, Check, Help, Version, Arguments, arguments}
 use Rattle.command_words.specs.declared.command.Command.{Command}
 use Rattle.command_words.specs.declared.command.Command.TheVariants as command
 use Rattle.command_words.specs.declared.arguments.Arguments as read
@@ -11,6 +11,7 @@ use Rattle.command_words.specs.declared.arguments.Operands.TheVariants as operan
 abbrev pub form : Command → Form
 form command.Min = Min
 form (command.Cmp left right budget) = Cmp left.now right.now budget
+form command.Check = Check
 form (command.Help about) = Help about
 form command.Version = Version
 

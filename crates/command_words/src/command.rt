@@ -12,6 +12,8 @@ pub enum Topic {
     Min,
     /// The command `cmp`.
     Cmp,
+    /// The command `check`.
+    Check,
 }
 
 /// What the program is to do.
@@ -28,6 +30,8 @@ pub enum Command<'a> {
         /// How many clauses may be learned for a pair, where the words say it: at most `MOST_BUDGET`.
         budget: Option<u32>,
     },
+    /// Check a log that refutes a formula.
+    Check,
     /// Tell how the program, or a command of it, is used.
     Help(Topic),
     /// Tell the version.

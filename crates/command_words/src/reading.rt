@@ -36,6 +36,7 @@ fn asked<'a>(about: Topic, words: Option<Arguments<'a>>) -> Option<Command<'a>>
             right,
             budget,
         }),
+        (Topic::Check, Operands::None, None) => Some(Command::Check),
         _ => None,
     }
 }
@@ -49,6 +50,8 @@ fn command_named(name: &str) -> Option<Topic>
         Some(Topic::Min)
     } else if name == "cmp" {
         Some(Topic::Cmp)
+    } else if name == "check" {
+        Some(Topic::Check)
     } else {
         None
     }

@@ -2,18 +2,24 @@
 use Rattle.std.proofs.Common.{◌≡◌, ◌⊎◌, ◌↔◌, inl, inr, ℕ, List, true, false, Option, Some, None, IsSomeAnd, refl, sym, ◌∙◌, ap, subst}
 use Rattle.std.proofs.lemmas.Bool.{false≢true}
 use Rattle.std.specs.Prelude.{IsNone}
-use Rattle.command_words.specs.Forms.{Form, Min, Cmp, Help, Version, form_of}
+use Rattle.command_words.specs.Forms.{Form, Min, Cmp, Check, Help, Version, form_of}
 use Rattle.css_model.specs.declared.fault.SheetFault.{SheetFault}
+use Rattle.css_model.specs.Sheets.Limits.{max_bytes}
+use Rattle.log_text.specs.CheckedTexts.{max_log_bytes}
 use Rattle.minify.specs.Minified.{HasFault, HasNoFault}
 use Rattle.overlap.specs.PairsParts.{PairsParts}
 use Rattle.cssmin.specs.Change.{Change, HasFailed}
+use Rattle.cssmin.specs.Commands.Check.{CheckDoes, CheckRefuses, Checks}
 use Rattle.cssmin.specs.Commands.Cmp.{CmpDoes}
-use Rattle.cssmin.specs.Commands.Min.{Began, Did, IsRefused, MinDoes}
+use Rattle.cssmin.specs.Commands.Min.{Minifies, MinDoes, MinRefuses}
 use Rattle.cssmin.specs.Run.{Answers, Outcome, Ran, needs_input}
+use Rattle.cssmin.specs.Status.{IsRefusal}
+use Rattle.cssmin.specs.Tasks.{Began, Did, IsRefused}
 use Rattle.cssmin.specs.Writing.{WritesSome}
 use Rattle.cssmin.specs.declared.status.Status.{Status}
-use Rattle.cssmin.specs.declared.status.Status.TheVariants.{Done, Usage, SheetRefused, ReadFault, WriteFault, NoMemory}
-use Rattle.cssmin.proofs.Outcomes.{completes, refuses}
+use Rattle.cssmin.specs.declared.status.Status.TheVariants.{Done, Usage, SheetRefused, LogRefused, ReadFault, WriteFault, NoMemory}
+use Rattle.cssmin.proofs.Faults.{one_fault, fault_or_none, minified_no_fault}
+use Rattle.cssmin.proofs.Outcomes.{completes, refuses, untold}
 
 -- ---- What the words ask for
 
@@ -21,18 +27,22 @@ use Rattle.cssmin.proofs.Outcomes.{completes, refuses}
 did : (words : List (List ℕ)) (form : Option Form) (status : Status) (input output err : Change) (held : Option PairsParts) → Ran words status input output err held → form_of words ≡ form → Answers form status input output held
 did words form status input output err held ran is = subst (λ (f : Option Form). Answers f status input output held) is ran.answers
 
-pub min_did : (words : List (List ℕ)) (status : Status) (input output err : Change) (held : Option PairsParts) → Ran words status input output err held → form_of words ≡ Some Min → MinDoes status input output × (held ≡ None)
+pub min_did : (words : List (List ℕ)) (status : Status) (input output err : Change) (held : Option PairsParts) → Ran words status input output err held → form_of words ≡ Some Min → MinDoes status input output held
 min_did words status input output err held ran is = did words (Some Min) status input output err held ran is
 
 pub cmp_did : (words : List (List ℕ)) (left right : List ℕ) (budget : Option ℕ) (status : Status) (input output err : Change) (held : Option PairsParts) → Ran words status input output err held
     → form_of words ≡ Some (Cmp left right budget) → CmpDoes left right budget status output held
 cmp_did words left right budget status input output err held ran is = did words (Some (Cmp left right budget)) status input output err held ran is
 
+pub check_did : (words : List (List ℕ)) (status : Status) (input output err : Change) (held : Option PairsParts) → Ran words status input output err held → form_of words ≡ Some Check → CheckDoes status input output held
+check_did words status input output err held ran is = did words (Some Check) status input output err held ran is
+
 -- ---- Usage
 
 no_usage : (form : Form) (input output : Change) (held : Option PairsParts) → Outcome form Usage input output held → ⊥
 no_usage Min input output held h = h.0
 no_usage (Cmp left right budget) input output held h = h
+no_usage Check input output held h = h.0
 no_usage (Help about) input output held h = h.0
 no_usage Version input output held h = h.0
 
@@ -50,6 +60,7 @@ read_fault_of : (form : Option Form) (input output : Change) (held : Option Pair
 read_fault_of None input output held h = absurd (let bad : ⊥ = let same : ReadFault ≡ Usage = h.0 in cc in bad)
 read_fault_of (Some Min) input output held h = h.0
 read_fault_of (Some (Cmp left right budget)) input output held h = absurd h
+read_fault_of (Some Check) input output held h = h.0
 read_fault_of (Some (Help about)) input output held h = absurd h.0
 read_fault_of (Some Version) input output held h = absurd h.0
 
@@ -58,8 +69,9 @@ read_fault_is words status input output err held ran is = read_fault_of (form_of
 
 write_fault_of : (form : Option Form) (input output : Change) (held : Option PairsParts) → Answers form WriteFault input output held → HasFailed output
 write_fault_of None input output held h = absurd (let bad : ⊥ = let same : WriteFault ≡ Usage = h.0 in cc in bad)
-write_fault_of (Some Min) input output held h = h.0.0
+write_fault_of (Some Min) input output held h = h.front.0
 write_fault_of (Some (Cmp left right budget)) input output held h = h.2.0
+write_fault_of (Some Check) input output held h = h.front.0
 write_fault_of (Some (Help about)) input output held h = h.0.2.0
 write_fault_of (Some Version) input output held h = h.0.2.0
 
@@ -67,32 +79,64 @@ pub write_fault_is : (words : List (List ℕ)) (status : Status) (input output e
 write_fault_is words status input output err held ran is = write_fault_of (form_of words) input output held (subst (λ (s : Status). Answers (form_of words) s input output held) is ran.answers)
 
 -- `min` by its status
-by_status : (words : List (List ℕ)) (wanted status : Status) (input output err : Change) (held : Option PairsParts) → Ran words status input output err held → form_of words ≡ Some Min → status ≡ wanted → MinDoes wanted input output
-by_status words wanted status input output err held ran min is = subst (λ (s : Status). MinDoes s input output) is (min_did words status input output err held ran min).0
+by_status : (words : List (List ℕ)) (wanted status : Status) (input output err : Change) (held : Option PairsParts) → Ran words status input output err held → form_of words ≡ Some Min → status ≡ wanted → MinDoes wanted input output held
+by_status words wanted status input output err held ran min is = subst (λ (s : Status). MinDoes s input output held) is (min_did words status input output err held ran min)
 
-pub done_is : (words : List (List ℕ)) (status : Status) (input output err : Change) (held : Option PairsParts) → Ran words status input output err held → form_of words ≡ Some Min → status ≡ Done → Did input output
+pub done_is : (words : List (List ℕ)) (status : Status) (input output err : Change) (held : Option PairsParts) → Ran words status input output err held → form_of words ≡ Some Min → status ≡ Done → Did Minifies input output held
 done_is words status input output err held ran min is = by_status words Done status input output err held ran min is
 
-pub refused_is : (words : List (List ℕ)) (status : Status) (input output err : Change) (held : Option PairsParts) (fault : SheetFault) → Ran words status input output err held → form_of words ≡ Some Min → status ≡ SheetRefused fault → IsRefused fault input
-refused_is words status input output err held fault ran min is = by_status words (SheetRefused fault) status input output err held ran min is
+pub refused_is : (words : List (List ℕ)) (status : Status) (input output err : Change) (held : Option PairsParts) (fault : SheetFault) → Ran words status input output err held → form_of words ≡ Some Min → status ≡ SheetRefused fault → IsRefused max_bytes (λ read. HasFault read fault) input
+refused_is words status input output err held fault ran min is = (by_status words (SheetRefused fault) status input output err held ran min is).1
 
-pub front_is : (words : List (List ℕ)) (status : Status) (input output err : Change) (held : Option PairsParts) → Ran words status input output err held → form_of words ≡ Some Min → status ≡ WriteFault → Began input output
-front_is words status input output err held ran min is = (by_status words WriteFault status input output err held ran min is).1
+pub front_is : (words : List (List ℕ)) (status : Status) (input output err : Change) (held : Option PairsParts) → Ran words status input output err held → form_of words ≡ Some Min → status ≡ WriteFault → Began Minifies input output held
+front_is words status input output err held ran min is = by_status words WriteFault status input output err held ran min is
 
 -- ---- Which status comes
 
+-- a sheet is refused for one fault at most
+one_refusal : (read : List ℕ) (other : Status) (fault : SheetFault) → MinRefuses other read → HasFault read fault → other ≡ SheetRefused fault
+one_refusal read Done fault cause has = absurd cause
+one_refusal read Usage fault cause has = absurd cause
+one_refusal read (SheetRefused found) fault cause has = ap SheetRefused (one_fault read found fault cause has)
+one_refusal read (LogRefused found) fault cause has = absurd cause
+one_refusal read ReadFault fault cause has = absurd cause
+one_refusal read WriteFault fault cause has = absurd cause
+one_refusal read NoMemory fault cause has = absurd cause
+
+-- a sheet without a fault is not refused
+no_refusal : (read : List ℕ) (other : Status) → HasNoFault read → MinRefuses other read → ⊥
+no_refusal read Done none cause = cause
+no_refusal read Usage none cause = cause
+no_refusal read (SheetRefused found) none cause = fault_or_none read found cause none
+no_refusal read (LogRefused found) none cause = cause
+no_refusal read ReadFault none cause = cause
+no_refusal read WriteFault none cause = cause
+no_refusal read NoMemory none cause = cause
+
+unrefused : (left : Option (List ℕ)) → IsSomeAnd left HasNoFault → IsSomeAnd left (λ read. (other : Status) → MinRefuses other read → ⊥)
+unrefused None has = absurd has
+unrefused (Some read) has = λ other cause. no_refusal read other has cause
+
 pub refused_for : (words : List (List ℕ)) (status : Status) (input output err : Change) (held : Option PairsParts) (fault : SheetFault) → Ran words status input output err held
     → form_of words ≡ Some Min → IsSomeAnd input.old (λ bytes. HasFault bytes fault) → (HasFailed input → ⊥) → (status ≡ SheetRefused fault) ⊎ (status ≡ NoMemory)
-refused_for words status input output err held fault ran min has sure = refuses status input output fault (min_did words status input output err held ran min).0 has sure
+refused_for words status input output err held fault ran min has sure =
+    refuses max_bytes Minifies MinRefuses (SheetRefused fault) status input output held (min_did words status input output err held ran min)
+    (λ read text held made has. minified_no_fault read text fault made.0 has) (λ read other cause has. one_refusal read other fault cause has) has sure
 
 pub completed : (words : List (List ℕ)) (status : Status) (input output err : Change) (held : Option PairsParts) → Ran words status input output err held
     → form_of words ≡ Some Min → IsSomeAnd input.old HasNoFault → (HasFailed input → ⊥) → (HasFailed output → ⊥) → (status ≡ Done) ⊎ (status ≡ NoMemory)
-completed words status input output err held ran min has sure safe = completes status input output (min_did words status input output err held ran min).0 has sure safe
+completed words status input output err held ran min has sure safe =
+    completes max_bytes Minifies MinRefuses status input output held (min_did words status input output err held ran min) (unrefused input.old has) sure safe
+
+pub checked : (words : List (List ℕ)) (status : Status) (input output err : Change) (held : Option PairsParts) → Ran words status input output err held
+    → form_of words ≡ Some Check → IsSomeAnd input.old (λ read. (other : Status) → CheckRefuses other read → ⊥) → (HasFailed input → ⊥) → (HasFailed output → ⊥) → (status ≡ Done) ⊎ (status ≡ NoMemory)
+checked words status input output err held ran check none sure safe = completes max_log_bytes Checks CheckRefuses status input output held (check_did words status input output err held ran check) none sure safe
 
 writes_done : (kind : List ℕ → Type 0) (status : Status) (output : Change) → WritesSome kind status output → (HasFailed output → ⊥) → (status ≡ Done) ⊎ (status ≡ NoMemory)
 writes_done kind Done output h safe = inl refl
 writes_done kind Usage output h safe = absurd h
 writes_done kind (SheetRefused fault) output h safe = absurd h
+writes_done kind (LogRefused fault) output h safe = absurd h
 writes_done kind ReadFault output h safe = absurd h
 writes_done kind WriteFault output h safe = absurd (safe h.2.0)
 writes_done kind NoMemory output h safe = inr refl
@@ -101,6 +145,7 @@ cmp_done : (left right : List ℕ) (budget : Option ℕ) (status : Status) (outp
 cmp_done left right budget Done output held h safe = inl refl
 cmp_done left right budget Usage output held h safe = absurd h
 cmp_done left right budget (SheetRefused fault) output held h safe = absurd h
+cmp_done left right budget (LogRefused fault) output held h safe = absurd h
 cmp_done left right budget ReadFault output held h safe = absurd h
 cmp_done left right budget WriteFault output held h safe = absurd (safe h.2.0)
 cmp_done left right budget NoMemory output held h safe = inr refl
@@ -108,6 +153,7 @@ cmp_done left right budget NoMemory output held h safe = inr refl
 other_done : (form : Form) (status : Status) (input output : Change) (held : Option PairsParts) → Outcome form status input output held → needs_input (Some form) ≡ false → (HasFailed output → ⊥) → (status ≡ Done) ⊎ (status ≡ NoMemory)
 other_done Min status input output held h unneeded safe = absurd (false≢true (sym unneeded))
 other_done (Cmp left right budget) status input output held h unneeded safe = cmp_done left right budget status output held h safe
+other_done Check status input output held h unneeded safe = absurd (false≢true (sym unneeded))
 other_done (Help about) status input output held h unneeded safe = writes_done _ status output h.0 safe
 other_done Version status input output held h unneeded safe = writes_done _ status output h.0 safe
 
@@ -115,21 +161,44 @@ pub others_done : (words : List (List ℕ)) (status : Status) (input output err 
     → form_of words ≡ Some form → needs_input (Some form) ≡ false → (HasFailed output → ⊥) → (status ≡ Done) ⊎ (status ≡ NoMemory)
 others_done words status input output err held form ran is unneeded safe = other_done form status input output held (did words (Some form) status input output err held ran is) unneeded safe
 
--- ---- A fault for which there was no memory to tell it
+-- ---- A refusal for which there was no memory to tell it
 
--- want of memory may come in place of a refused sheet
-untold : (form : Option Form) (fault : SheetFault) (input output : Change) (held : Option PairsParts) → Answers form (SheetRefused fault) input output held → Answers form NoMemory input output held
-untold None fault input output held h = absurd (let bad : ⊥ = let same : SheetRefused fault ≡ Usage = h.0 in cc in bad)
-untold (Some Min) fault input output held h = (tt, h.1)
-untold (Some (Cmp left right budget)) fault input output held h = absurd h
-untold (Some (Help about)) fault input output held h = absurd h.0
-untold (Some Version) fault input output held h = absurd h.0
+-- no text that is made without reading is refused
+unrefusable : (kind : List ℕ → Type 0) (status : Status) (output : Change) → IsRefusal status → WritesSome kind status output → ⊥
+unrefusable kind Done output is h = is
+unrefusable kind Usage output is h = is
+unrefusable kind (SheetRefused fault) output is h = h
+unrefusable kind (LogRefused fault) output is h = h
+unrefusable kind ReadFault output is h = is
+unrefusable kind WriteFault output is h = is
+unrefusable kind NoMemory output is h = is
+
+cmp_unrefusable : (left right : List ℕ) (budget : Option ℕ) (status : Status) (output : Change) (held : Option PairsParts) → IsRefusal status → CmpDoes left right budget status output held → ⊥
+cmp_unrefusable left right budget Done output held is h = is
+cmp_unrefusable left right budget Usage output held is h = is
+cmp_unrefusable left right budget (SheetRefused fault) output held is h = h
+cmp_unrefusable left right budget (LogRefused fault) output held is h = h
+cmp_unrefusable left right budget ReadFault output held is h = is
+cmp_unrefusable left right budget WriteFault output held is h = is
+cmp_unrefusable left right budget NoMemory output held is h = is
+
+no_refusal_of_usage : (status : Status) → IsRefusal status → status ≡ Usage → ⊥
+no_refusal_of_usage status is same = subst IsRefusal same is
+
+-- want of memory may come in place of a refusal
+untold_of : (form : Option Form) (status : Status) (input output : Change) (held : Option PairsParts) → IsRefusal status → Answers form status input output held → Answers form NoMemory input output held
+untold_of None status input output held is h = absurd (no_refusal_of_usage status is h.0)
+untold_of (Some Min) status input output held is h = untold max_bytes Minifies MinRefuses status input output held is h
+untold_of (Some (Cmp left right budget)) status input output held is h = absurd (cmp_unrefusable left right budget status output held is h)
+untold_of (Some Check) status input output held is h = untold max_log_bytes Checks CheckRefuses status input output held is h
+untold_of (Some (Help about)) status input output held is h = absurd (unrefusable _ status output is h.0)
+untold_of (Some Version) status input output held is h = absurd (unrefusable _ status output is h.0)
 
 -- what was done by the status that was told
 pub answered : (form found : Option Form) (status told : Status) (input output : Change) (held : Option PairsParts) → found ≡ form → Answers found status input output held
-    → (told ≡ status) ⊎ ((fault : SheetFault) × (status ≡ SheetRefused fault) × (told ≡ NoMemory)) → Answers form told input output held
+    → (told ≡ status) ⊎ (IsRefusal status × (told ≡ NoMemory)) → Answers form told input output held
 answered form found status told input output held is h (inl same) =
     subst (λ (s : Status). Answers form s input output held) (sym same) (subst (λ (f : Option Form). Answers f status input output held) is h)
-answered form found status told input output held is h (inr (fault, refused, none)) =
+answered form found status told input output held is h (inr (refused, none)) =
     subst (λ (s : Status). Answers form s input output held) (sym none)
-    (untold form fault input output held (subst (λ (s : Status). Answers form s input output held) refused (subst (λ (f : Option Form). Answers f status input output held) is h)))
+    (untold_of form status input output held refused (subst (λ (f : Option Form). Answers f status input output held) is h))

@@ -1,48 +1,101 @@
--- What a status says, as the laws of a run state it.
-use Rattle.std.proofs.Common.{◌≡◌, ◌⊎◌, ◌↔◌, inl, inr, ℕ, ◌<◌, List, [], ◌∷◌, Bool, true, false, cond, Option, Some, None, IsSomeAnd, length, take, refl, sym, ◌∙◌, ap, subst}
-use Rattle.std.specs.Prelude.{IfSome}
-use Rattle.css_model.specs.declared.fault.SheetFault.{SheetFault}
-use Rattle.minify.specs.Minified.{HasFault, HasNoFault, IsMinified}
-use Rattle.cssmin.specs.Change.{Change, HasFailed, IsAllRead, Adds}
-use Rattle.cssmin.specs.Commands.Min.{IsRefused, Began, MinDoes}
+-- What a command that reads all of its input did, by its status.
+use Rattle.std.proofs.Common.{◌≡◌, ◌⊎◌, inl, inr, ℕ, List, [], Option, Some, None, Result, Ok, Err, IsSomeAnd, refl, sym, subst}
+use Rattle.overlap.specs.PairsParts.{PairsParts}
+use Rattle.cssmin.specs.Change.{Change, HasFailed, IsAllRead}
+use Rattle.cssmin.specs.Status.{IsRefusal}
+use Rattle.cssmin.specs.Tasks.{Began, Did, Does, Reads}
+use Rattle.cssmin.specs.Writing.{Writes}
 use Rattle.cssmin.specs.declared.status.Status.{Status}
-use Rattle.cssmin.specs.declared.status.Status.TheVariants.{Done, Usage, SheetRefused, ReadFault, WriteFault, NoMemory}
-use Rattle.cssmin.proofs.Faults.{one_fault, fault_or_none, minified_no_fault}
+use Rattle.cssmin.specs.declared.status.Status.TheVariants.{Done, Usage, SheetRefused, LogRefused, ReadFault, WriteFault, NoMemory}
+use Rattle.cssmin.specs.declared.tasks.Answer.{Answer}
 
--- a front of the text was written
-pub began : (text bytes : List ℕ) (input output : Change) → bytes ≡ text → (read : List ℕ) × IsAllRead read input × IsMinified read text → (n : ℕ) × (n < length bytes) × Adds (take n bytes) output
-    → Began input output
-began text bytes input output same made some =
-    let part = subst (λ (bs : List ℕ). (n : ℕ) × (n < length bs) × Adds (take n bs) output) same some in
-    record { read = made.0; text = text; count = part.0; all_read = made.1; minified = made.2; part = part.1; added = part.2 }
+-- ---- What a command did
 
--- A sheet with a fault is refused for it, but for want of memory, where no fault of reading came between.
-refuses_of : (status : Status) (left left' : Option (List ℕ)) (n n' : ℕ) (output : Change) (fault : SheetFault) → MinDoes status (record { old = left; new = left'; old_faults = n; new_faults = n' }) output
-    → IsSomeAnd left (λ bytes. HasFault bytes fault) → (HasFailed (record { old = left; new = left'; old_faults = n; new_faults = n' }) → ⊥) → (status ≡ SheetRefused fault) ⊎ (status ≡ NoMemory)
-refuses_of status None left' n n' output fault does has sure = absurd has
-refuses_of Done (Some bytes) left' n n' output fault does has sure = absurd (minified_no_fault does.read does.text fault does.minified (subst (λ (read : List ℕ). HasFault read fault) does.all_read.0 has))
-refuses_of Usage (Some bytes) left' n n' output fault does has sure = absurd does
-refuses_of (SheetRefused other) (Some bytes) left' n n' output fault does has sure = inl (ap SheetRefused (one_fault bytes other fault does.0 has))
-refuses_of ReadFault (Some bytes) left' n n' output fault does has sure = absurd (sure does)
-refuses_of WriteFault (Some bytes) left' n n' output fault does has sure =
-    let part = does.1 in absurd (minified_no_fault part.read part.text fault part.minified (subst (λ (read : List ℕ). HasFault read fault) part.all_read.0 has))
-refuses_of NoMemory (Some bytes) left' n n' output fault does has sure = inr refl
+-- it stopped before anything was written
+pub stopped : (most : ℕ) (Makes : (read text : List ℕ) (held : Option PairsParts) → Type 0) (Refuses : Status → List ℕ → Type 0) (status : Status) (input output : Change) (held : Option PairsParts)
+    → Reads most Makes Refuses (Err status) input → held ≡ None → Does most Makes Refuses status input output held
+stopped most Makes Refuses Done input output held why none = absurd why.0
+stopped most Makes Refuses Usage input output held why none = absurd why.0
+stopped most Makes Refuses (SheetRefused fault) input output held why none = (tt, why.1, none)
+stopped most Makes Refuses (LogRefused fault) input output held why none = (tt, why.1, none)
+stopped most Makes Refuses ReadFault input output held why none = (why, none)
+stopped most Makes Refuses WriteFault input output held why none = absurd why.0
+stopped most Makes Refuses NoMemory input output held why none = none
 
-pub refuses : (status : Status) (input output : Change) (fault : SheetFault) → MinDoes status input output
-    → IsSomeAnd input.old (λ bytes. HasFault bytes fault) → (HasFailed input → ⊥) → (status ≡ SheetRefused fault) ⊎ (status ≡ NoMemory)
-refuses status input output fault does has sure = refuses_of status input.old input.new input.old_faults input.new_faults output fault does has sure
+-- its text was written, or a front of it
+pub wrote : (most : ℕ) (Makes : (read text : List ℕ) (held : Option PairsParts) → Type 0) (Refuses : Status → List ℕ → Type 0) (answer : Answer) (status : Status) (input output : Change)
+    → Reads most Makes Refuses (Ok answer) input → Writes answer.text.items status output → Does most Makes Refuses status input output answer.held
+wrote most Makes Refuses answer Done input output made written = record { read = made.0; text = answer.text.items; all_read = made.1; made = made.2; added = written }
+wrote most Makes Refuses answer Usage input output made written = absurd written
+wrote most Makes Refuses answer (SheetRefused fault) input output made written = absurd written
+wrote most Makes Refuses answer (LogRefused fault) input output made written = absurd written
+wrote most Makes Refuses answer ReadFault input output made written = absurd written
+wrote most Makes Refuses answer WriteFault input output made written = record { read = made.0; text = answer.text.items; all_read = made.1; made = made.2; front = written }
+wrote most Makes Refuses answer NoMemory input output made written = absurd written
 
--- A sheet without a fault is minified, but for want of memory, where no other fault came between.
-completes_of : (status : Status) (left left' : Option (List ℕ)) (n n' : ℕ) (output : Change) → MinDoes status (record { old = left; new = left'; old_faults = n; new_faults = n' }) output
-    → IsSomeAnd left HasNoFault → (HasFailed (record { old = left; new = left'; old_faults = n; new_faults = n' }) → ⊥) → (HasFailed output → ⊥) → (status ≡ Done) ⊎ (status ≡ NoMemory)
-completes_of status None left' n n' output does has sure safe = absurd has
-completes_of Done (Some bytes) left' n n' output does has sure safe = inl refl
-completes_of Usage (Some bytes) left' n n' output does has sure safe = absurd does
-completes_of (SheetRefused other) (Some bytes) left' n n' output does has sure safe = absurd (fault_or_none bytes other does.0 has)
-completes_of ReadFault (Some bytes) left' n n' output does has sure safe = absurd (sure does)
-completes_of WriteFault (Some bytes) left' n n' output does has sure safe = absurd (safe does.0)
-completes_of NoMemory (Some bytes) left' n n' output does has sure safe = inr refl
+-- ---- Which status comes
 
-pub completes : (status : Status) (input output : Change) → MinDoes status input output
-    → IsSomeAnd input.old HasNoFault → (HasFailed input → ⊥) → (HasFailed output → ⊥) → (status ≡ Done) ⊎ (status ≡ NoMemory)
-completes status input output does has sure safe = completes_of status input.old input.new input.old_faults input.new_faults output does has sure safe
+-- What has this cause is refused for it, but for want of memory, where no read failed: no text is made of it, and it has
+-- no other cause.
+refuses_of : (most : ℕ) (Makes : (read text : List ℕ) (held : Option PairsParts) → Type 0) (Refuses : Status → List ℕ → Type 0) (wanted status : Status)
+    (left left' : Option (List ℕ)) (n n' : ℕ) (output : Change) (held : Option PairsParts)
+    → Does most Makes Refuses status (record { old = left; new = left'; old_faults = n; new_faults = n' }) output held
+    → ((read text : List ℕ) (held : Option PairsParts) → Makes read text held → Refuses wanted read → ⊥)
+    → ((read : List ℕ) (other : Status) → Refuses other read → Refuses wanted read → other ≡ wanted)
+    → IsSomeAnd left (Refuses wanted) → (HasFailed (record { old = left; new = left'; old_faults = n; new_faults = n' }) → ⊥) → (status ≡ wanted) ⊎ (status ≡ NoMemory)
+refuses_of most Makes Refuses wanted status None left' n n' output held does unmade one has sure = absurd has
+refuses_of most Makes Refuses wanted Done (Some bytes) left' n n' output held does unmade one has sure =
+    absurd (unmade does.read does.text held does.made (subst (Refuses wanted) does.all_read.0 has))
+refuses_of most Makes Refuses wanted Usage (Some bytes) left' n n' output held does unmade one has sure = absurd does.0
+refuses_of most Makes Refuses wanted (SheetRefused fault) (Some bytes) left' n n' output held does unmade one has sure = inl (one bytes (SheetRefused fault) does.1.0 has)
+refuses_of most Makes Refuses wanted (LogRefused fault) (Some bytes) left' n n' output held does unmade one has sure = inl (one bytes (LogRefused fault) does.1.0 has)
+refuses_of most Makes Refuses wanted ReadFault (Some bytes) left' n n' output held does unmade one has sure = absurd (sure does.0)
+refuses_of most Makes Refuses wanted WriteFault (Some bytes) left' n n' output held does unmade one has sure =
+    absurd (unmade does.read does.text held does.made (subst (Refuses wanted) does.all_read.0 has))
+refuses_of most Makes Refuses wanted NoMemory (Some bytes) left' n n' output held does unmade one has sure = inr refl
+
+pub refuses : (most : ℕ) (Makes : (read text : List ℕ) (held : Option PairsParts) → Type 0) (Refuses : Status → List ℕ → Type 0) (wanted status : Status) (input output : Change) (held : Option PairsParts)
+    → Does most Makes Refuses status input output held
+    → ((read text : List ℕ) (held : Option PairsParts) → Makes read text held → Refuses wanted read → ⊥)
+    → ((read : List ℕ) (other : Status) → Refuses other read → Refuses wanted read → other ≡ wanted)
+    → IsSomeAnd input.old (Refuses wanted) → (HasFailed input → ⊥) → (status ≡ wanted) ⊎ (status ≡ NoMemory)
+refuses most Makes Refuses wanted status input output held does unmade one has sure =
+    refuses_of most Makes Refuses wanted status input.old input.new input.old_faults input.new_faults output held does unmade one has sure
+
+-- What is not refused is done, but for want of memory, where no read or write failed.
+completes_of : (most : ℕ) (Makes : (read text : List ℕ) (held : Option PairsParts) → Type 0) (Refuses : Status → List ℕ → Type 0) (status : Status)
+    (left left' : Option (List ℕ)) (n n' : ℕ) (output : Change) (held : Option PairsParts)
+    → Does most Makes Refuses status (record { old = left; new = left'; old_faults = n; new_faults = n' }) output held
+    → IsSomeAnd left (λ read. (other : Status) → Refuses other read → ⊥)
+    → (HasFailed (record { old = left; new = left'; old_faults = n; new_faults = n' }) → ⊥) → (HasFailed output → ⊥) → (status ≡ Done) ⊎ (status ≡ NoMemory)
+completes_of most Makes Refuses status None left' n n' output held does none sure safe = absurd none
+completes_of most Makes Refuses Done (Some bytes) left' n n' output held does none sure safe = inl refl
+completes_of most Makes Refuses Usage (Some bytes) left' n n' output held does none sure safe = absurd does.0
+completes_of most Makes Refuses (SheetRefused fault) (Some bytes) left' n n' output held does none sure safe = absurd (none (SheetRefused fault) does.1.0)
+completes_of most Makes Refuses (LogRefused fault) (Some bytes) left' n n' output held does none sure safe = absurd (none (LogRefused fault) does.1.0)
+completes_of most Makes Refuses ReadFault (Some bytes) left' n n' output held does none sure safe = absurd (sure does.0)
+completes_of most Makes Refuses WriteFault (Some bytes) left' n n' output held does none sure safe = absurd (safe does.front.0)
+completes_of most Makes Refuses NoMemory (Some bytes) left' n n' output held does none sure safe = inr refl
+
+pub completes : (most : ℕ) (Makes : (read text : List ℕ) (held : Option PairsParts) → Type 0) (Refuses : Status → List ℕ → Type 0) (status : Status) (input output : Change) (held : Option PairsParts)
+    → Does most Makes Refuses status input output held
+    → IsSomeAnd input.old (λ read. (other : Status) → Refuses other read → ⊥) → (HasFailed input → ⊥) → (HasFailed output → ⊥) → (status ≡ Done) ⊎ (status ≡ NoMemory)
+completes most Makes Refuses status input output held does none sure safe =
+    completes_of most Makes Refuses status input.old input.new input.old_faults input.new_faults output held does none sure safe
+
+-- ---- Causes
+
+pub no_usage : (most : ℕ) (Makes : (read text : List ℕ) (held : Option PairsParts) → Type 0) (Refuses : Status → List ℕ → Type 0) (input output : Change) (held : Option PairsParts)
+    → Does most Makes Refuses Usage input output held → ⊥
+no_usage most Makes Refuses input output held does = does.0
+
+-- want of memory may come in place of a refusal
+pub untold : (most : ℕ) (Makes : (read text : List ℕ) (held : Option PairsParts) → Type 0) (Refuses : Status → List ℕ → Type 0) (status : Status) (input output : Change) (held : Option PairsParts)
+    → IsRefusal status → Does most Makes Refuses status input output held → held ≡ None
+untold most Makes Refuses Done input output held is does = absurd is
+untold most Makes Refuses Usage input output held is does = absurd is
+untold most Makes Refuses (SheetRefused fault) input output held is does = does.2
+untold most Makes Refuses (LogRefused fault) input output held is does = does.2
+untold most Makes Refuses ReadFault input output held is does = absurd is
+untold most Makes Refuses WriteFault input output held is does = absurd is
+untold most Makes Refuses NoMemory input output held is does = absurd is

@@ -1,3 +1,4 @@
 -- What each command does, one module a command.
+pub mod Check
 pub mod Cmp
 pub mod Min

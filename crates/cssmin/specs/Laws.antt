@@ -2,13 +2,16 @@
 use Rattle.std.specs.Prelude.{◌≡◌, ◌⊎◌, ◌↔◌, ℕ, ◌<◌, false, List, Option, Some, None, IsSomeAnd, IsNone}
 use Rattle.css_io.specs.Io.{Rose, last_count}
 use Rattle.css_model.specs.declared.fault.SheetFault.{SheetFault}
-use Rattle.command_words.specs.Forms.{Form, Min, Cmp, form_of}
+use Rattle.css_model.specs.Sheets.Limits.{max_bytes}
+use Rattle.command_words.specs.Forms.{Form, Min, Cmp, Check, form_of}
 use Rattle.minify.specs.Minified.{HasFault, HasNoFault}
 use Rattle.overlap.specs.PairsParts.{PairsParts}
 use Rattle.cssmin.specs.Change.{Change, HasFailed}
+use Rattle.cssmin.specs.Commands.Check.{CheckDoes, CheckRefuses}
 use Rattle.cssmin.specs.Commands.Cmp.{CmpDoes}
-use Rattle.cssmin.specs.Commands.Min.{Began, Did, IsRefused, MinDoes}
+use Rattle.cssmin.specs.Commands.Min.{Minifies, MinDoes}
 use Rattle.cssmin.specs.Run.{Ran, needs_input}
+use Rattle.cssmin.specs.Tasks.{Began, Did, IsRefused}
 use Rattle.cssmin.specs.declared.status.Status.{Status}
 use Rattle.cssmin.specs.declared.status.Status.TheVariants.{Done, Usage, SheetRefused, ReadFault, WriteFault, NoMemory}
 
@@ -18,9 +21,9 @@ use Rattle.cssmin.specs.declared.status.Status.TheVariants.{Done, Usage, SheetRe
 abbrev pub OtherWordsAreUsage : Type 0
 OtherWordsAreUsage = (words : List (List ℕ)) (status : Status) (input output err : Change) (held : Option PairsParts) → Ran words status input output err held → (status ≡ Usage) ↔ IsNone (form_of words)
 
--- words that minify do what `min` says, and ask for no answers
+-- words that minify do what `min` says
 abbrev pub MinDoesItsWord : Type 0
-MinDoesItsWord = (words : List (List ℕ)) (status : Status) (input output err : Change) (held : Option PairsParts) → Ran words status input output err held → form_of words ≡ Some Min → MinDoes status input output × (held ≡ None)
+MinDoesItsWord = (words : List (List ℕ)) (status : Status) (input output err : Change) (held : Option PairsParts) → Ran words status input output err held → form_of words ≡ Some Min → MinDoes status input output held
 
 -- words that compare do what `cmp` says
 abbrev pub CmpDoesItsWord : Type 0
@@ -28,16 +31,20 @@ CmpDoesItsWord =
     (words : List (List ℕ)) (left right : List ℕ) (budget : Option ℕ) (status : Status) (input output err : Change) (held : Option PairsParts) → Ran words status input output err held
     → form_of words ≡ Some (Cmp left right budget) → CmpDoes left right budget status output held
 
+-- words that check do what `check` says
+abbrev pub CheckDoesItsWord : Type 0
+CheckDoesItsWord = (words : List (List ℕ)) (status : Status) (input output err : Change) (held : Option PairsParts) → Ran words status input output err held → form_of words ≡ Some Check → CheckDoes status input output held
+
 -- ---- `min`, by its status
 
 -- the text that was written minifies the bytes that were read, all that were left
 abbrev pub DoneIsMinified : Type 0
-DoneIsMinified = (words : List (List ℕ)) (status : Status) (input output err : Change) (held : Option PairsParts) → Ran words status input output err held → form_of words ≡ Some Min → status ≡ Done → Did input output
+DoneIsMinified = (words : List (List ℕ)) (status : Status) (input output err : Change) (held : Option PairsParts) → Ran words status input output err held → form_of words ≡ Some Min → status ≡ Done → Did Minifies input output held
 
 -- a sheet is refused only for a fault that it has
 abbrev pub RefusedHasTheFault : Type 0
 RefusedHasTheFault =
-    (words : List (List ℕ)) (status : Status) (input output err : Change) (held : Option PairsParts) (fault : SheetFault) → Ran words status input output err held → form_of words ≡ Some Min → status ≡ SheetRefused fault → IsRefused fault input
+    (words : List (List ℕ)) (status : Status) (input output err : Change) (held : Option PairsParts) (fault : SheetFault) → Ran words status input output err held → form_of words ≡ Some Min → status ≡ SheetRefused fault → IsRefused max_bytes (λ read. HasFault read fault) input
 
 -- a read fault comes only where a read failed
 abbrev pub ReadFaultHasFailed : Type 0
@@ -50,7 +57,7 @@ WriteFaultHasFailed = (words : List (List ℕ)) (status : Status) (input output 
 -- after a write fault of `min` a front of the text stands there
 abbrev pub WriteFaultLeavesAFront : Type 0
 WriteFaultLeavesAFront =
-    (words : List (List ℕ)) (status : Status) (input output err : Change) (held : Option PairsParts) → Ran words status input output err held → form_of words ≡ Some Min → status ≡ WriteFault → Began input output
+    (words : List (List ℕ)) (status : Status) (input output err : Change) (held : Option PairsParts) → Ran words status input output err held → form_of words ≡ Some Min → status ≡ WriteFault → Began Minifies input output held
 
 -- ---- Which status comes
 
@@ -65,6 +72,12 @@ abbrev pub FaultlessIsDone : Type 0
 FaultlessIsDone =
     (words : List (List ℕ)) (status : Status) (input output err : Change) (held : Option PairsParts) → Ran words status input output err held
     → form_of words ≡ Some Min → IsSomeAnd input.old HasNoFault → (HasFailed input → ⊥) → (HasFailed output → ⊥) → (status ≡ Done) ⊎ (status ≡ NoMemory)
+
+-- a log that is not refused is checked, where no read or write failed and the memory sufficed
+abbrev pub LogIsChecked : Type 0
+LogIsChecked =
+    (words : List (List ℕ)) (status : Status) (input output err : Change) (held : Option PairsParts) → Ran words status input output err held
+    → form_of words ≡ Some Check → IsSomeAnd input.old (λ read. (other : Status) → CheckRefuses other read → ⊥) → (HasFailed input → ⊥) → (HasFailed output → ⊥) → (status ≡ Done) ⊎ (status ≡ NoMemory)
 
 -- what needs no input is done, where no write failed and the memory sufficed
 abbrev pub OthersAreDone : Type 0

@@ -3,6 +3,7 @@ pub mod Commands
 pub mod Laws
 pub mod Run
 pub mod Status
+pub mod Tasks
 pub mod Telling
 pub mod Words
 pub mod Writing

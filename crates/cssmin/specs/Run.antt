@@ -1,9 +1,12 @@
 -- What a run of the program did, by what its words ask for and its status.
-use Rattle.std.specs.Prelude.{◌≡◌, ℕ, Bool, true, false, List, Option, Some, None}
+use Rattle.std.specs.Prelude.{◌≡◌, ℕ, ◌+◌, Bool, true, false, List, Option, Some, None}
 use Rattle.command_texts.specs.Texts.{EndsLine, version_text}
-use Rattle.command_words.specs.Forms.{Form, Min, Cmp, Help, Version, form_of}
+use Rattle.command_words.specs.Forms.{Form, Min, Cmp, Check, Help, Version, form_of}
+use Rattle.css_model.specs.Sheets.Limits.{max_bytes}
+use Rattle.log_text.specs.CheckedTexts.{max_log_bytes}
 use Rattle.overlap.specs.PairsParts.{PairsParts}
 use Rattle.cssmin.specs.Change.{Change}
+use Rattle.cssmin.specs.Commands.Check.{CheckDoes}
 use Rattle.cssmin.specs.Commands.Cmp.{CmpDoes}
 use Rattle.cssmin.specs.Commands.Min.{MinDoes}
 use Rattle.cssmin.specs.Telling.{Tells}
@@ -14,8 +17,9 @@ use Rattle.cssmin.specs.declared.status.Status.TheVariants.{Usage}
 -- What a run that ended with this status did to the input and the output, and which answers it holds, by
 -- what its words ask for. Each case says that the status is not `Usage`.
 abbrev pub Outcome : Form → Status → (input output : Change) → (held : Option PairsParts) → Type 0
-Outcome Min status input output held = MinDoes status input output × (held ≡ None)
+Outcome Min status input output held = MinDoes status input output held
 Outcome (Cmp left right budget) status input output held = CmpDoes left right budget status output held
+Outcome Check status input output held = CheckDoes status input output held
 Outcome (Help about) status input output held = WritesSome EndsLine status output × (held ≡ None)
 Outcome Version status input output held = WritesSome (λ text. text ≡ version_text) status output × (held ≡ None)
 
@@ -29,8 +33,14 @@ abbrev pub needs_input : Option Form → Bool
 needs_input None = false
 needs_input (Some Min) = true
 needs_input (Some (Cmp left right budget)) = false
+needs_input (Some Check) = true
 needs_input (Some (Help about)) = false
 needs_input (Some Version) = false
+
+-- the most bytes of the input that are taken: one past the limit of a log, or of a sheet
+abbrev pub most_taken : Option Form → ℕ
+most_taken (Some Check) = max_log_bytes + 1
+most_taken form = max_bytes + 1
 
 -- A run on these words ended with this status: it did what the words ask for, and told the status's message.
 pub record Ran (words : List (List ℕ)) (status : Status) (input output err : Change) (held : Option PairsParts) : Type 0 where

@@ -1,5 +1,6 @@
 //! What the program can do, one module a command.
 
 pub(crate) mod about;
+pub(crate) mod check;
 pub(crate) mod cmp;
 pub(crate) mod min;

@@ -7,6 +7,7 @@ pub(crate) fn words_decide_usage()
     ensures usage { laws.OtherWordsAreUsage }
     ensures min { laws.MinDoesItsWord }
     ensures cmp { laws.CmpDoesItsWord }
+    ensures check { laws.CheckDoesItsWord }
 {}
 
 /// What each status says of the input and the output.
@@ -22,6 +23,7 @@ pub(crate) fn each_status_has_its_cause()
 pub(crate) fn each_sheet_has_its_status()
     ensures refuses { laws.FaultIsRefused }
     ensures complete { laws.FaultlessIsDone }
+    ensures checked { laws.LogIsChecked }
     ensures others { laws.OthersAreDone }
 {}
 

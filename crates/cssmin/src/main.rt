@@ -5,6 +5,7 @@ mod commands;
 mod laws;
 mod run;
 mod status;
+mod tasks;
 mod telling;
 mod words;
 mod writing;

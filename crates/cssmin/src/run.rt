@@ -1,17 +1,18 @@
 //! The program's top call.
 
 ghost use Rattle.std.specs.Prelude.{◌≡◌, ◌≢◌, ◌⊎◌, ◌≤◌, ◌+◌, ℕ, List, Some, None, false, map, string_bytes, IfOk, IsErr};
-ghost use Rattle.css_model.specs.Sheets.Limits.{max_bytes};
 ghost use Rattle.command_words.specs.Forms.{form_of};
 ghost use Rattle.command_words.specs.Views.{form_if_some};
 ghost use Rattle.cssmin.specs.Change.{change_of, TakesAtMost};
-ghost use Rattle.cssmin.specs.Run.{needs_input, Answers, Ran};
+ghost use Rattle.cssmin.specs.Run.{most_taken, needs_input, Answers, Ran};
 ghost use Rattle.cssmin.specs.Telling.{Tells};
 
 use crate::commands::about::{help, version};
+use crate::commands::check::Check;
 use crate::commands::cmp::cmp;
-use crate::commands::min::min;
+use crate::commands::min::Min;
 use crate::status::Status;
+use crate::tasks::perform;
 use crate::telling::{tell, tell_no_memory};
 use command_words::{Command, command_of};
 use css_io::{Sink, Source};
@@ -32,13 +33,14 @@ fn obey<S: Source, O: Sink>(
         (change_of S.left S.faults input.old input.new)
         (change_of O.written O.faults out.old out.new) held.new }
     ensures untouched { result ≢ Status.Done → result ≢ Status.WriteFault → out.new ≡ out.old }
-    ensures bounded { TakesAtMost (max_bytes + 1) (change_of S.left S.faults input.old input.new) }
+    ensures bounded { TakesAtMost (most_taken (form_if_some command.entry))
+        (change_of S.left S.faults input.old input.new) }
     ensures unread { needs_input (form_if_some command.entry) ≡ false → input.new ≡ input.old }
     ensures input_later { S.faults input.old ≤ S.faults input.new }
     ensures out_later { O.faults out.old ≤ O.faults out.new }
 {
     match command {
-        Some(Command::Min) => min(alloc, input, out),
+        Some(Command::Min) => perform(alloc, &Min, input, out, held),
         Some(
             Command::Cmp {
                 left,
@@ -46,6 +48,7 @@ fn obey<S: Source, O: Sink>(
                 budget,
             },
         ) => cmp(alloc, left, right, budget, out, held),
+        Some(Command::Check) => perform(alloc, &Check, input, out, held),
         Some(Command::Help(about)) => help(alloc, about, out),
         Some(Command::Version) => version(alloc, out),
         None => Status::Usage,
@@ -55,11 +58,12 @@ fn obey<S: Source, O: Sink>(
 #[tactic(auto, using(crate::proofs::Forms::answered))]
 /// Runs the program on the words after its name. `min` reads a style sheet from `input` to its end, and writes
 /// it to `out` with the same winners of the cascade, in no more bytes. `cmp LEFT RIGHT` compares two selectors,
-/// and writes to `out` whether one element can match both. Words that ask for help or the version have it
+/// and writes to `out` whether one element can match both. `check` reads a log, and writes to `out` whether it
+/// refutes its formula. Words that ask for help or the version have it
 /// written to `out`. What else happened is told on `err`.
 ///
 /// `Usage` comes exactly of words that have no form. A sheet with a fault is refused (`SheetRefused`), and so is
-/// one of more than 1,048,576 bytes, after one byte more. `ReadFault` comes only where a read failed,
+/// one of more than 1,048,576 bytes, after one byte more; so is a log (`LogRefused`), whose bound is 134,217,728 bytes. `ReadFault` comes only where a read failed,
 /// `WriteFault` only where a write failed, and after it the front of the text stands on `out`. No clause tells
 /// when memory is short: it may be at any point before the first byte is written, and a body that always
 /// answered so for words that have a form would meet them all. Tests stand against that. What follows for each
@@ -90,7 +94,8 @@ pub fn run<S: Source, O: Sink, E: Sink>(
     ensures untouched { result ≢ Status.Done → result ≢ Status.WriteFault → out.new ≡ out.old }
     ensures unread { needs_input (form_of (map string_bytes words.now.items)) ≡ false
         → input.new ≡ input.old }
-    ensures bounded { TakesAtMost (max_bytes + 1) (change_of S.left S.faults input.old input.new) }
+    ensures bounded { TakesAtMost (most_taken (form_of (map string_bytes words.now.items)))
+        (change_of S.left S.faults input.old input.new) }
 
     // No count of faults falls.
     ensures later { (S.faults input.old ≤ S.faults input.new) × (O.faults out.old ≤ O.faults out.new)

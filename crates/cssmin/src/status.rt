@@ -2,10 +2,20 @@
 
 ghost use Rattle.std.specs.Prelude.{◌≡◌};
 ghost use Rattle.std.specs.Process.{exit_status};
+ghost use Rattle.css_model.specs.Sheets.Limits.{max_bytes};
 ghost use Rattle.cssmin.specs.Status.{number_of};
 
-use css_model::SheetFault;
+use css_model::{FaultKind, MAX_BYTES, SheetFault};
 use std::process::ExitCode;
+
+/// Why a log is refused.
+#[derive(Clone, Copy, Debug, PartialEq, Eq)]
+pub enum LogFault {
+    /// It has more than 134,217,728 bytes.
+    TooLong,
+    /// The line of this number, from 1, is the first that is not of a log.
+    BadLine(u64),
+}
 
 /// How a run ended.
 #[derive(Clone, Copy, Debug, PartialEq, Eq)]
@@ -22,10 +32,12 @@ pub enum Status {
     WriteFault,
     /// There was not enough memory. Nothing was written to the output.
     NoMemory,
+    /// The log has a fault.
+    LogRefused(LogFault),
 }
 
 impl Status {
-    /// The number of the status: 0, 2, 3, 4, 5 or 6.
+    /// The number of the status: 0, 2 to 6, or 8.
     pub fn number(&self) -> u8
         ensures { result ≡ number_of self.now }
     {
@@ -36,6 +48,7 @@ impl Status {
             Status::ReadFault => 4,
             Status::WriteFault => 5,
             Status::NoMemory => 6,
+            Status::LogRefused(_) => 8,
         }
     }
 
@@ -45,4 +58,14 @@ impl Status {
     {
         ExitCode::from(self.number())
     }
+}
+
+/// How a sheet of more bytes than are read is refused.
+pub(crate) fn too_long_sheet() -> Status
+    ensures { result ≡ Status.SheetRefused (record { kind = FaultKind.TooLong; at = max_bytes }) }
+{
+    Status::SheetRefused(SheetFault {
+        kind: FaultKind::TooLong,
+        at: MAX_BYTES,
+    })
 }

@@ -1,12 +1,11 @@
 //! What a run tells on standard error.
 
 ghost use Rattle.std.specs.Prelude.{◌≡◌, ◌⊎◌, ◌≤◌, ℕ, List, IfOk, string_bytes};
-ghost use Rattle.css_model.specs.declared.fault.SheetFault.{SheetFault};
 ghost use Rattle.cssmin.specs.Change.{change_of};
-ghost use Rattle.cssmin.specs.Status.{IsMessage};
+ghost use Rattle.cssmin.specs.Status.{IsMessage, IsRefusal};
 ghost use Rattle.cssmin.specs.Telling.{IsTold, Tells};
 
-use crate::status::Status;
+use crate::status::{LogFault, Status};
 use command_texts::refusal_text;
 use css_io::{Sink, write_all};
 use css_model::SheetFault;
@@ -17,6 +16,16 @@ fn refusal(alloc: Global, fault: SheetFault) -> Result<String, AllocError>
     ensures { IfOk result (λ text. IsMessage (Status.SheetRefused fault) (string_bytes text)) }
 {
     format!(in alloc; "refused: {fault}\n")
+}
+
+/// The line that names the fault of a log.
+fn log_refusal(alloc: Global, fault: LogFault) -> Result<String, AllocError>
+    ensures { IfOk result (λ text. IsMessage (Status.LogRefused fault) (string_bytes text)) }
+{
+    match fault {
+        LogFault::TooLong => String::from_str(alloc, "log refused: too long\n"),
+        LogFault::BadLine(line) => format!(in alloc; "log refused: line {line}\n"),
+    }
 }
 
 /// Writes a text, as far as that goes.
@@ -51,25 +60,26 @@ pub(crate) fn tell_no_memory<E: Sink>(err: &mut E) -> Status
     Status::NoMemory
 }
 
-/// Tells for which fault a sheet is refused. The answer is the status of that, or that there was no memory to
-/// tell the fault.
-fn tell_refused<E: Sink>(alloc: Global, fault: SheetFault, err: &mut E) -> Status
-    requires { (bytes : List ℕ) → E.fits err.old bytes }
-    ensures is { (result ≡ Status.SheetRefused fault) ⊎ (result ≡ Status.NoMemory) }
+/// Tells by this line why the input was refused, where there was memory for it. The answer is the status of that, or
+/// that there was no memory.
+fn tell_refusal<E: Sink>(line: Result<String, AllocError>, status: Status, err: &mut E) -> Status
+    requires fits { (bytes : List ℕ) → E.fits err.old bytes }
+    requires message { IfOk line (λ text. IsMessage status (string_bytes text)) }
+    ensures is { (result ≡ status) ⊎ (result ≡ Status.NoMemory) }
     ensures told { Tells result (change_of E.written E.faults err.old err.new) }
     ensures later { E.faults err.old ≤ E.faults err.new }
 {
-    match refusal(alloc, fault) {
+    match line {
         Ok(line) => {
             tell_text(line.as_bytes(), err);
-            Status::SheetRefused(fault)
+            status
         }
         Err(AllocError) => tell_no_memory(err),
     }
 }
 
 /// Tells the status of a run on these words on standard error. The answer is the status, or that there was no
-/// memory to tell the fault of a sheet.
+/// memory to tell why the input was refused.
 pub(crate) fn tell<E: Sink>(
     alloc: Global,
     words: &Vec<String>,
@@ -77,15 +87,15 @@ pub(crate) fn tell<E: Sink>(
     err: &mut E,
 ) -> Status
     requires { (bytes : List ℕ) → E.fits err.old bytes }
-    ensures same { (result ≡ status)
-        ⊎ ((fault : SheetFault) × (status ≡ Status.SheetRefused fault) × (result ≡ Status.NoMemory)) }
+    ensures same { (result ≡ status) ⊎ (IsRefusal status × (result ≡ Status.NoMemory)) }
     ensures told { Tells result (change_of E.written E.faults err.old err.new) }
     ensures later { E.faults err.old ≤ E.faults err.new }
 {
     match status {
         Status::Done => {}
         Status::Usage => tell_usage(alloc, words, err),
-        Status::SheetRefused(fault) => return tell_refused(alloc, fault, err),
+        Status::SheetRefused(fault) => return tell_refusal(refusal(alloc, fault), status, err),
+        Status::LogRefused(fault) => return tell_refusal(log_refusal(alloc, fault), status, err),
         Status::ReadFault => tell_text(b"read fault\n", err),
         Status::WriteFault => tell_text(b"write fault\n", err),
         Status::NoMemory => return tell_no_memory(err),

@@ -2,7 +2,7 @@
 
 use super::*;
 use crate::run::run;
-use crate::status::Status;
+use crate::status::{LogFault, Status};
 use css_io::{MemSink, MemSource};
 use css_model::{FaultKind, SheetFault};
 use overlap::Pairs;
@@ -109,18 +109,22 @@ fn run_words(
     })
 }
 
-// Runs the words of a line over a sheet that is not to be read.
-fn run_line(alloc: Global, line: &str, outside: Outside) -> Result<Ran, AllocError> {
+// Runs the words of a line over an input.
+fn run_over(alloc: Global, line: &str, text: &[u8], outside: Outside) -> Result<Ran, AllocError> {
     let mut words = Vec::new(alloc);
     for word in line.split(' ') {
         words.push(String::from_str(alloc, word)?)?;
     }
-    run_words(alloc, &words, SHEET.to_vec(alloc)?, outside)
+    run_words(alloc, &words, text.to_vec(alloc)?, outside)
+}
+
+// Runs the words of a line over a sheet that is not to be read.
+fn run_line(alloc: Global, line: &str, outside: Outside) -> Result<Ran, AllocError> {
+    run_over(alloc, line, SHEET, outside)
 }
 
 fn run_min(alloc: Global, text: &[u8], outside: Outside) -> Result<Ran, AllocError> {
-    let words = vec![in alloc; String::from_str(alloc, "min")?]?;
-    run_words(alloc, &words, text.to_vec(alloc)?, outside)
+    run_over(alloc, "min", text, outside)
 }
 
 #[test]
@@ -217,6 +221,7 @@ fn tells_of_itself(rt: HostRuntime) -> Result<(), Fail> {
         "min -h",
         "cmp --help",
         "cmp -h",
+        "check --help",
     ] {
         let ran = run_line(rt.alloc(), line, roomy)?;
         assert!(rt; ran.status == Status::Done, "{line}");
@@ -270,6 +275,29 @@ fn compares(rt: HostRuntime) -> Result<(), Fail> {
         ran.assert_wrote(&rt, text);
         assert!(rt; ran.held.is_some(), "{line}");
     }
+    Ok(())
+}
+
+#[test]
+fn checks_logs(rt: HostRuntime) -> Result<(), Fail> {
+    for (text, answer) in [
+        (
+            &b"vars 2 clauses 4\n1 2 0\n1 -2 0\n-1 2 0\n-1 -2 0\n1 0\n0\n"[..],
+            &b"yes\n"[..],
+        ),
+        (
+            b"vars 2 clauses 4\n1 2 0\n1 -2 0\n-1 2 0\n-1 -2 0\n0\n",
+            b"no 1\n",
+        ),
+    ] {
+        let ran = run_over(rt.alloc(), "check", text, Outside::faultless())?;
+        ran.assert_is(&rt, Status::Done, answer, b"");
+        assert!(rt; ran.held.is_none());
+    }
+    let line = b"vars 1 clauses 1\n2 0\n";
+    let ran = run_over(rt.alloc(), "check", line, Outside::faultless())?;
+    let refused = Status::LogRefused(LogFault::BadLine(2));
+    ran.assert_is(&rt, refused, b"", b"log refused: line 2\n");
     Ok(())
 }
 

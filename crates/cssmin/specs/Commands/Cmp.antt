@@ -6,7 +6,7 @@ use Rattle.overlap.specs.PairsParts.{PairsParts}
 use Rattle.cssmin.specs.Change.{Change, Adds}
 use Rattle.cssmin.specs.Writing.{AddsFront}
 use Rattle.cssmin.specs.declared.status.Status.{Status}
-use Rattle.cssmin.specs.declared.status.Status.TheVariants.{Done, Usage, SheetRefused, ReadFault, WriteFault, NoMemory}
+use Rattle.cssmin.specs.declared.status.Status.TheVariants.{Done, WriteFault, NoMemory}
 
 -- no answers yet, with the budget of the words, or with none
 abbrev pub unasked : Option ℕ → PairsParts
@@ -24,8 +24,6 @@ pub record IsAnswer (left right : List ℕ) (budget : Option ℕ) (held : Option
 -- What `cmp` did, by its status. Want of memory is told before the first byte is written.
 abbrev pub CmpDoes : (left right : List ℕ) (budget : Option ℕ) → Status → (output : Change) → (held : Option PairsParts) → Type 0
 CmpDoes left right budget Done output held = (text : List ℕ) × IsAnswer left right budget held text × Adds text output
-CmpDoes left right budget Usage output held = ⊥
-CmpDoes left right budget (SheetRefused fault) output held = ⊥
-CmpDoes left right budget ReadFault output held = ⊥
 CmpDoes left right budget WriteFault output held = (text : List ℕ) × IsAnswer left right budget held text × AddsFront text output
 CmpDoes left right budget NoMemory output held = held ≡ None
+CmpDoes left right budget status output held = ⊥

@@ -1,4 +1,4 @@
-use Rattle.std.proofs.Common.{◌≡◌, ◌∙◌, ◌-◌, List, ℕ, Option, Some, sym, ap, length, map, take, drop, string_bytes, Global}
+use Rattle.std.proofs.Common.{◌∙◌, ◌-◌, List, ℕ, Option, Some, sym, ap, length, map, take, drop, string_bytes, Global}
 use Rattle.std.specs.Prelude.{codes}
 use Rattle.command_words.specs.Forms.{Arguments, is_word, most_budget, number_up_to, with_budget, with_word, with_words}
 use Rattle.command_words.specs.Views.{arguments_if_some}

@@ -1,4 +1,4 @@
-use Rattle.cssmin.proofs.Forms.{completed, others_done, refused_for}
+use Rattle.cssmin.proofs.Forms.{checked, completed, others_done, refused_for}
 use Rattle.cssmin.proofs.laws.each_sheet_has_its_status.Goals as goal
 
 pub returns-clause-refuses : goal.returns-clause-refuses
@@ -9,3 +9,6 @@ returns-clause-complete c = completed
 
 pub returns-clause-others : goal.returns-clause-others
 returns-clause-others c = others_done
+
+pub returns-clause-checked : goal.returns-clause-checked
+returns-clause-checked c = checked

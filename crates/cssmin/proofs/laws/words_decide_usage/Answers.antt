@@ -1,4 +1,4 @@
-use Rattle.cssmin.proofs.Forms.{cmp_did, min_did, usage_is}
+use Rattle.cssmin.proofs.Forms.{check_did, cmp_did, min_did, usage_is}
 use Rattle.cssmin.proofs.laws.words_decide_usage.Goals as goal
 
 pub returns-clause-usage : goal.returns-clause-usage
@@ -9,3 +9,6 @@ returns-clause-min c = min_did
 
 pub returns-clause-cmp : goal.returns-clause-cmp
 returns-clause-cmp c = cmp_did
+
+pub returns-clause-check : goal.returns-clause-check
+returns-clause-check c = check_did
