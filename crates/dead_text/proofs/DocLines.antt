@@ -1,6 +1,6 @@
 -- The lines of a document hold no line feed, and none of them is the line of a selector.
 use Rattle.std.proofs.Common.{ℕ, zero, suc, ◌+◌, ◌/◌, ◌%◌, ◌≡◌, ◌≢◌, ◌<◌, ◌≤◌, Bool, true, false, cond, ◌==◌, ◌||◌, Option, Some, None, List, [], ◌∷◌, ◌++◌, map, refl, sym, ap, ◌∙◌, subst, append_assoc, arith}
-use Rattle.std.specs.Prelude.{codes, decimal, nat_lt}
+use Rattle.std.specs.Prelude.{decimal, nat_lt}
 use Rattle.std.specs.Fmt.{digit_glyph, digits, digits_onto}
 use Rattle.std.specs.List.{AllByRecursion, filter, flat_map, onto_first}
 use Rattle.std.specs.Str.{encode_utf8_all}
@@ -15,7 +15,7 @@ use Rattle.css_model.specs.Documents.FeatureParts.{FeatureParts}
 use Rattle.css_model.specs.Documents.Features.{flags_of}
 use Rattle.css_model.specs.Text.Characters.{line_feed, percent, space}
 use Rattle.doc_text.specs.DocText.{all_flags, attribute_field, child_name, doc_lines, ended, equals_sign, escaped, escaped_byte, flag_field, flag_fields, head_text, hex_digit, is_marked, is_plain, line_text, line_texts, mark_field, more_fields, pseudo_name, spaced, text_fields}
-use Rattle.doc_text.specs.Lines.{holds, lines_of, pieces}
+use Rattle.doc_text.specs.Lines.{holds, lines_of}
 
 -- ---- Digits
 

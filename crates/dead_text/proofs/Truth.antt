@@ -1,5 +1,5 @@
 -- What the lines say of selectors is true.
-use Rattle.std.proofs.Common.{append_assoc, ◌≡◌, ◌≢◌, ℕ, ◌<◌, false, List, [], ◌∷◌, ◌++◌, length, map, nat_eq, eq-eqb, refl, sym, ◌∙◌, ap, subst, arith}
+use Rattle.std.proofs.Common.{append_assoc, ◌≡◌, ◌≢◌, ℕ, false, List, [], ◌∷◌, ◌++◌, length, map, nat_eq, eq-eqb, refl, sym, ◌∙◌, ap, subst, arith}
 use Rattle.std.specs.List.{AllByRecursion, Contains, flat_map}
 use Rattle.std.specs.Prelude.{codes, decimal}
 use Rattle.std.proofs.Math.Logic.{∥∥₁_elim}
@@ -10,13 +10,12 @@ use Rattle.css_model.specs.declared.example.Example.{Example}
 use Rattle.dead_sel.specs.declared.living.Life.{Life}
 use Rattle.dead_sel.specs.declared.living.Life.TheVariants.{Dead, Alive, SpacesTaken, Spent}
 use Rattle.dead_sel.specs.Living.{IsTrueLife}
-use Rattle.doc_text.specs.DocText.{doc_lines}
 use Rattle.doc_text.specs.Lines.{lines_of}
 use Rattle.list_facts.proofs.Members.{Contains-here, Contains-there}
 use Rattle.overlap.specs.PairsParts.{PairsParts}
-use Rattle.dead_text.specs.DeadTexts.{IsTold, TellsEach, TellsOf, Told, evidence_lines, life_word, numbered_line, told_lines}
+use Rattle.dead_text.specs.DeadTexts.{IsTold, TellsOf, Told, evidence_lines, life_word, numbered_line, told_lines}
 use Rattle.dead_text.specs.Laws.{AliveSelectorsMatch, DeadSelectorsMatchNothing, IsLineOf}
-use Rattle.dead_text.specs.Listing.{NumberedSelector, numbered_selectors}
+use Rattle.dead_text.specs.Listing.{NumberedSelector}
 use Rattle.dead_text.proofs.DocLines.{IsWhole, cut_digits, decimal_digits, decimal_whole, doc_differs, doc_whole, heads_same, lines_back, whole_append}
 
 -- ---- The words
