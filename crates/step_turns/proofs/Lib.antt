@@ -1,0 +1,8 @@
+mod Gains
+mod Looking
+mod NamedSteps
+mod Owned
+mod Ranks
+mod Rules
+mod StepParts
+mod Telling

@@ -1,0 +1,23 @@
+use Rattle.std.proofs.Common.{◌≤◌, length, arith}
+use Rattle.css_model.specs.Sheets.Limits.{max_bytes}
+use Rattle.step_laws.specs.declared.step.Step.TheVariants.{CutDecl}
+use Rattle.step_turns.proofs.Looking.{all_cuts, kept_covers}
+use Rattle.step_turns.proofs.NamedSteps.{rule_is_small}
+use Rattle.step_turns.proofs.Owned.{decl_inside, selector_inside}
+use Rattle.step_turns.proofs.next.try_cuts.Goals as goal
+
+pub overflow_cast-decls : goal.overflow_cast-decls
+overflow_cast-decls c =
+    let m : length c.args.rule.now.decls ≤ max_bytes = (rule_is_small c.parts_are_few.ensures c.args.source.now c.args.board.now.items c.requires.plannable c.args.number c.args.rule.now c.requires.rule).0 in omega (arith, m)
+
+pub overflow_cast-selectors : goal.overflow_cast-selectors
+overflow_cast-selectors c =
+    let m : length c.args.rule.now.selectors ≤ max_bytes = (rule_is_small c.parts_are_few.ensures c.args.source.now c.args.board.now.items c.requires.plannable c.args.number c.args.rule.now c.requires.rule).1 in omega (arith, m)
+
+pub returns-clause-covers : goal.returns-clause-covers
+returns-clause-covers c =
+    all_cuts c.args.source.now c.args.board.now c.args.after.now c.try_selector_cuts.result c.args.number c.decl_count-decls.result c.selector_count-selectors.result
+    (λ i less. kept_covers c.args.source.now c.args.board.now c.args.after.now c.try_decl_cuts-best.result c.try_selector_cuts.result c.try_selector_cuts.ensures.keeps (CutDecl c.args.number i) (c.try_decl_cuts-best.ensures.covers i less))
+    c.try_selector_cuts.ensures.covers
+    (decl_inside c.args.board.now.items c.args.number c.decl_count-decls.result c.args.rule.now c.requires.rule c.decl_count-decls.ensures)
+    (selector_inside c.args.board.now.items c.args.number c.selector_count-selectors.result c.args.rule.now c.requires.rule c.selector_count-selectors.ensures)

@@ -1,0 +1,12 @@
+use Rattle.std.proofs.Common.{ℕ, ◌<◌, IfSome}
+use Rattle.step_laws.specs.declared.step.Step.TheVariants.{CutDecl}
+use Rattle.step_turns.specs.Looking.{Covers, Keeps}
+use Rattle.step_turns.specs.Named.{IsLaterTurn}
+use Rattle.step_turns.proofs.next.try_decl_cuts.Given as goal
+
+abbrev pub invariant-loop-decl : goal.invariant-loop-decl
+invariant-loop-decl l = record {
+  keeps : Keeps l.fn.best l.so_far;
+  covers : (i : ℕ) → i < l.decl → Covers l.source l.board l.after l.so_far (CutDecl l.number i);
+  later : IfSome l.so_far (IsLaterTurn l.source l.board l.after);
+}

@@ -1,0 +1,4 @@
+pub mod Looking
+pub mod Marked
+pub mod Named
+pub mod Seconds

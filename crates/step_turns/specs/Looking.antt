@@ -1,0 +1,41 @@
+-- The first of the turns behind another one, while steps are looked at (own).
+use Rattle.std.specs.Prelude.{◌≡◌, ◌⊎◌, ℕ, ◌<◌, List, Option, Some, slice_get}
+use Rattle.css_model.specs.declared.sheet.Item.{Item}
+use Rattle.hold_laws.specs.Turns.{named}
+use Rattle.lead_plan.specs.declared.lead.Lead.{Lead}
+use Rattle.lead_plan.specs.Told.{lead_told}
+use Rattle.order_laws.specs.Edits.{Edit}
+use Rattle.plan_board.specs.BoardParts.{BoardParts}
+use Rattle.plan_board.specs.declared.marks.Mark.{Mark}
+use Rattle.plan_laws.specs.Cover.{Turn, IsSooner}
+use Rattle.step_laws.specs.declared.step.Step.{Step}
+use Rattle.step_laws.specs.Sizes.{Saves}
+use Rattle.step_laws.specs.Steps.{IsStep, first_item, last_item}
+use Rattle.plan_board.specs.MarkList.{labels_of}
+use Rattle.wall_laws.specs.Renumbering.{IsOfTwo}
+
+-- a lead was found that a turn does not come before
+abbrev pub Reaches : Option Lead → Turn → Type 0
+Reaches best t = (l : Lead) × (best ≡ Some l) × (IsSooner t (lead_told l).turn → ⊥)
+
+-- what was reached is reached still
+abbrev pub Keeps : Option Lead → Option Lead → Type 0
+Keeps old new = (t : Turn) → Reaches old t → Reaches new t
+
+-- A step, if it is one of the board's sheet and saves something, has a turn that is reached, or does not come later
+-- than this lead's.
+abbrev pub Covers : List ℕ → BoardParts → Lead → Option Lead → Step → Type 0
+Covers source board after best k = (e : Edit) (n : ℕ) → IsStep board.items k e → Saves source board.items e n → 0 < n →
+    IsSooner (lead_told after).turn (named (labels_of board.marks) n k) → Reaches best (named (labels_of board.marks) n k)
+
+-- A step of two items: the one of this number, and another one with this label, which was born before it.
+pub record IsWith (board : BoardParts) (number label : ℕ) (k : Step) : Type 0 where
+  pub other : ℕ
+  pub mark : Mark
+  pub own : Mark
+  pub mark_at : slice_get board.marks other ≡ Some mark
+  pub own_at : slice_get board.marks number ≡ Some own
+  pub label_is : mark.label ≡ label
+  pub earlier : mark.birth < own.birth
+  pub of_two : IsOfTwo k
+  pub items_are : ((first_item k ≡ other) × (last_item k ≡ number)) ⊎ ((first_item k ≡ number) × (last_item k ≡ other))

@@ -1,0 +1,31 @@
+//! What a step saves.
+
+ghost use Rattle.std.specs.Prelude.{◌≡◌, ◌<◌, ◌≤ℤ◌, pos};
+ghost use Rattle.css_model.specs.Sheets.Limits.{max_bytes};
+ghost use Rattle.merge_plan.specs.Planning.{IsSaving};
+ghost use Rattle.plan_laws.specs.Plannable.{IsPlannable};
+ghost use Rattle.step_laws.specs.Steps.{HasStep};
+
+use css_model::Sheet;
+use merge_laws::read_keeps_the_limits;
+use merge_steps::{Step, saving};
+
+/// The bytes that are saved, or 0 where none are.
+fn gain(saving: i64) -> u32
+    requires { saving ≤ℤ pos max_bytes }
+    ensures most { saving ≤ℤ pos result }
+    ensures exact { 0 < result → saving ≡ pos result }
+{
+    if saving > 0 { saving as u32 } else { 0 }
+}
+
+/// How many bytes a step of a sheet saves, or 0 where it saves none. Takes no memory.
+#[tactic(auto, using(crate::proofs::Gains::short_source))]
+pub fn saved(source: &[u8], sheet: &Sheet, step: &Step) -> u32
+    requires is_step { HasStep sheet.now.items step.now }
+    requires plannable { IsPlannable source.now sheet.now.items }
+    ensures { IsSaving source.now sheet.now.items step.now result }
+{
+    read_keeps_the_limits();
+    gain(saving(sheet, source, step))
+}
