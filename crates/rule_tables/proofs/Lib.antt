@@ -1,3 +1,4 @@
+mod Cutting
 mod EntrySets
 mod OtherRules
 mod Sharing

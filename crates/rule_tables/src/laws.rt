@@ -1,5 +1,6 @@
-//! That tables find both rules of a step. The functions do nothing.
+//! What is told of steps by labelled rules. The functions do nothing.
 
+ghost use Rattle.rule_tables.specs.Cutting.{DeclCutsAreTold, SelectorCutsAreTold};
 ghost use Rattle.rule_tables.specs.StepPartners.{LabelledRulesStand, RulesAreLabelled, StepsHavePartners};
 
 /// The rules of a step of two rules can be partners, each of the other one.
@@ -15,4 +16,15 @@ pub fn rules_are_labelled()
 /// And each labelled rule stands among the items, where its label does.
 pub fn labelled_rules_stand()
     ensures { LabelledRulesStand }
+{}
+
+/// A declaration of a rule can be cut exactly where it stands in the rule again, or each of its pairs stands in a rule
+/// with another label.
+pub fn decl_cuts_are_told()
+    ensures { DeclCutsAreTold }
+{}
+
+/// And so a selector.
+pub fn selector_cuts_are_told()
+    ensures { SelectorCutsAreTold }
 {}

@@ -9,6 +9,9 @@ mod partners;
 mod tables;
 
 pub use digests::{decl_digest, selector_digest};
-pub use laws::{labelled_rules_stand, rules_are_labelled, steps_have_partners};
+pub use laws::{
+    decl_cuts_are_told, labelled_rules_stand, rules_are_labelled, selector_cuts_are_told,
+    steps_have_partners,
+};
 pub use pairs::LabelledRules;
 pub use tables::Tables;
