@@ -2,13 +2,14 @@
 
 ghost use Rattle.std.specs.Prelude.{◌≡◌};
 
-use crate::judging::{answers_are_true, is_free, saved};
+use crate::judging::{answers_are_true, is_free};
 use css_model::Sheet;
 use merge_plan::Judge;
 use overlap::Pairs;
 use std::alloc::{AllocError, Global};
 use std::marker::Model;
 use step_laws::Step;
+use step_turns::saved;
 
 /// The answers for pairs of selectors, by which steps are judged; those that a step needs are asked for.
 #[derive(Debug, Drop)]

@@ -1,8 +1,6 @@
-//! What a step saves, and whether it is free, by answers for pairs of selectors.
+//! Whether a step is free, by answers for pairs of selectors.
 
-ghost use Rattle.std.specs.Prelude.{◌≡◌, ◌<◌, ◌≤ℤ◌, pos, true, false, IfOk, map};
-ghost use Rattle.css_model.specs.Sheets.Limits.{max_bytes};
-ghost use Rattle.merge_plan.specs.Planning.{IsSaving};
+ghost use Rattle.std.specs.Prelude.{◌≡◌, true, false, IfOk, map};
 ghost use Rattle.order_laws.specs.Edits.{Edit};
 ghost use Rattle.plan_laws.specs.Plannable.{IsPlannable};
 ghost use Rattle.sheet_order.specs.Laws.{answer_seen};
@@ -10,31 +8,10 @@ ghost use Rattle.step_laws.specs.Free.{AreAmong, AreTrue, IsBlocked, IsFree};
 ghost use Rattle.step_laws.specs.Steps.{HasStep, IsStep};
 
 use css_model::Sheet;
-use merge_laws::read_keeps_the_limits;
-use merge_steps::{Step, saving};
 use overlap::{Pairs, apart_selectors_do_not_meet};
 use sheet_order::{Allowed, allowed_steps_are_free, other_steps_are_blocked, permitted};
 use std::alloc::{AllocError, Global};
-
-/// The bytes that are saved, or 0 where none are.
-fn gain(saving: i64) -> u32
-    requires { saving ≤ℤ pos max_bytes }
-    ensures most { saving ≤ℤ pos result }
-    ensures exact { 0 < result → saving ≡ pos result }
-{
-    if saving > 0 { saving as u32 } else { 0 }
-}
-
-/// How many bytes a step of a sheet saves, or 0 where it saves none. Takes no memory.
-#[tactic(auto, using(crate::proofs::Savings::short_source))]
-pub(crate) fn saved(source: &[u8], sheet: &Sheet, step: &Step) -> u32
-    requires is_step { HasStep sheet.now.items step.now }
-    requires plannable { IsPlannable source.now sheet.now.items }
-    ensures { IsSaving source.now sheet.now.items step.now result }
-{
-    read_keeps_the_limits();
-    gain(saving(sheet, source, step))
-}
+use step_laws::Step;
 
 /// Whether a step of a sheet is free by the answers for pairs of selectors, which are asked for. All that was
 /// answered stays, also after `AllocError`.
