@@ -10,3 +10,6 @@ mod pair_obstacles;
 mod places;
 
 pub use pair_obstacles::PairObstacles;
+
+#[cfg(test)]
+mod tests;
