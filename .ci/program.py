@@ -18,7 +18,7 @@ import tempfile
 
 MORE = b"\nFor more information, try '--help'.\n"
 NO_WORD = b"""error: 'cssmin' requires a subcommand but one was not provided
-  [subcommands: min, cmp, check, help]
+  [subcommands: min, cmp, dead, check, help]
 
 Usage: cssmin <COMMAND>
 """ + MORE
@@ -117,7 +117,7 @@ def try_itself(tries):
     for word in ["--version", "-V"]:
         tries.check_read(word, [word], SHEET, 0, f"cssmin {version}\n".encode(), b"", 0)
     for words in [["--help"], ["-h"], ["help"], ["min", "--help"], ["min", "-h"], ["cmp", "--help"], ["cmp", "-h"],
-            ["check", "--help"]]:
+            ["check", "--help"], ["dead", "--help"]]:
         ran = tries.run(words, SHEET)
         name = " ".join(words)
         tries.is_same(name, "the exit status", ran.returncode, 0)
@@ -163,6 +163,13 @@ def try_logs(tries):
     tries.check_read("a log without a step", ["check"], short, 0, b"no 1\n", b"", len(short))
     bad = b"vars 1 clauses 1\n2 0\n"
     tries.check_read("a bad log", ["check"], bad, 8, b"", b"log refused: line 2\n", len(bad))
+
+
+def try_lives(tries):
+    sheet = b"a:link:visited{top:0}p{top:0}"
+    lines = b"1.1 dead\n2.1 alive\nchild 0 pseudo none\n0 1 - x\n1 1 * p\n"
+    tries.check_read("dead selectors", ["dead"], sheet, 0, lines, b"", len(sheet))
+    tries.check_read("dead selectors of a broken sheet", ["dead"], b"\xff", 3, b"", b"refused: NotUtf8 at 0\n", 1)
 
 
 def try_sheets(tries):
@@ -235,6 +242,7 @@ def main():
     try_pages(tries)
     try_pairs(tries)
     try_logs(tries)
+    try_lives(tries)
     try_sheets(tries)
     try_streams(tries)
     # A sheet that joins, so that each kind of memory is taken.

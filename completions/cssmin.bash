@@ -2,11 +2,11 @@
 _cssmin() {
     local command=${COMP_WORDS[1]} words
     if [ "$COMP_CWORD" = 1 ]; then
-        words='min cmp check help --help --version'
+        words='min cmp dead check help --help --version'
     else
         case $command in
             min|check) words='--help' ;;
-            cmp) words='--budget --help' ;;
+            cmp|dead) words='--budget --help' ;;
         esac
     fi
     COMPREPLY=($(compgen -W "$words" -- "${COMP_WORDS[COMP_CWORD]}"))

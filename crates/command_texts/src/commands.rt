@@ -10,6 +10,7 @@ Exit status: 0 done, 2 wrong words, 3 the sheet is refused, 4 the input could no
 
     cssmin min <sheet.css >sheet.min.css
     cssmin cmp 'a:hover' '.menu > a'
+    cssmin dead <sheet.css
 
 No file names are taken: name the sheet by `<`, and the target by `>`, which must be another file.";
 
@@ -26,6 +27,35 @@ Writes one of these to standard output, and reads no input:
     outside R   they are not compared, for the reason of the number R
     spent       the budget was spent before that was decided";
 
+const DEAD_HELP: &str = "\
+The sheet is read from standard input to its end. Each selector of each style rule outside of all
+at-rules has a line on standard output: the number of the rule or at-rule, a point, the number of
+the selector in it, and one of these:
+
+    dead        no element of any page matches it
+    alive       some element does; a small page with it, marked `*`, follows
+    outside 12  it was not decided, for an attribute that must hold every white space
+    spent       the budget was spent before that was decided";
+
+/// The option that bounds the search.
+fn budget<'a>(alloc: Global) -> Arg<'a> {
+    Arg::new(alloc, "budget")
+        .long("budget")
+        .value_name("N")
+        .value_parser(value_parser!(u32).range(0..=i64::from(MOST_BUDGET)))
+        .help(
+            "Give up after N learned clauses, from 0 to 20000 [default: go on until it is decided]",
+        )
+}
+
+/// The command `dead`.
+fn dead_command<'a>(alloc: Global) -> Result<Command<'a>, AllocError> {
+    Command::new(alloc, "dead")
+        .about("Tell which selectors of a style sheet match nothing")
+        .after_help(DEAD_HELP)
+        .arg(budget(alloc))
+}
+
 /// The command `min`.
 fn min_command<'a>(alloc: Global) -> Command<'a> {
     Command::new(alloc, "min")
@@ -39,19 +69,12 @@ fn cmp_command<'a>(alloc: Global) -> Result<Command<'a>, AllocError> {
         .required(true)
         .help("A selector, which does not begin with `-`");
     let right = Arg::new(alloc, "RIGHT").required(true).help("Another one");
-    let budget = Arg::new(alloc, "budget")
-        .long("budget")
-        .value_name("N")
-        .value_parser(value_parser!(u32).range(0..=i64::from(MOST_BUDGET)))
-        .help(
-            "Give up after N learned clauses, from 0 to 20000 [default: go on until it is decided]",
-        );
     Command::new(alloc, "cmp")
         .about("Tell whether one element can match two selectors")
         .after_help(CMP_HELP)
         .arg(left)?
         .arg(right)?
-        .arg(budget)
+        .arg(budget(alloc))
 }
 
 const CHECK_HELP: &str = "\
@@ -86,6 +109,7 @@ pub(crate) fn program<'a>(alloc: Global, version: &'a str) -> Result<Command<'a>
         .subcommand_required(true)
         .subcommand(min_command(alloc))?
         .subcommand(cmp_command(alloc)?)?
+        .subcommand(dead_command(alloc)?)?
         .subcommand(check_command(alloc))?
         .disable_help_subcommand(true)
         .subcommand(help_command(alloc))

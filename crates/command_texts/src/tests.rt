@@ -22,7 +22,7 @@ fn tells_why_words_are_refused(rt: HostRuntime) -> Result<(), Fail> {
         (
             "",
             &b"error: 'cssmin' requires a subcommand but one was not provided
-  [subcommands: min, cmp, check, help]
+  [subcommands: min, cmp, dead, check, help]
 
 Usage: cssmin <COMMAND>
 
@@ -84,6 +84,7 @@ fn tells_how_it_is_used(rt: HostRuntime) -> Result<(), Fail> {
             Topic::Cmp,
             b"Tell whether one element can match two selectors",
         ),
+        (Topic::Dead, b"Tell which selectors of a style sheet"),
         (Topic::Check, b"Check a log that refutes a formula"),
     ] {
         let text = help_text(rt.alloc(), about)?;

@@ -55,6 +55,7 @@ pub fn help_text(alloc: Global, about: Topic) -> Result<Vec<u8>, AllocError>
         Topic::Program => &["cssmin", "--help"],
         Topic::Min => &["cssmin", "min", "--help"],
         Topic::Cmp => &["cssmin", "cmp", "--help"],
+        Topic::Dead => &["cssmin", "dead", "--help"],
         Topic::Check => &["cssmin", "check", "--help"],
     };
     text_of(alloc, told(alloc, words)?)

@@ -53,6 +53,9 @@ asked_min topic.Min None is = absurd (let bad : ⊥ = cc in bad)
 asked_min topic.Min (Some (arguments [] None)) is = (refl, refl)
 asked_min topic.Min (Some (arguments [] (Some budget))) is = absurd (let bad : ⊥ = cc in bad)
 asked_min topic.Min (Some (arguments (first ∷ more) budget)) is = absurd (let bad : ⊥ = cc in bad)
+asked_min topic.Dead None is = absurd (let bad : ⊥ = cc in bad)
+asked_min topic.Dead (Some (arguments [] budget)) is = absurd (let bad : ⊥ = cc in bad)
+asked_min topic.Dead (Some (arguments (first ∷ more) budget)) is = absurd (let bad : ⊥ = cc in bad)
 asked_min topic.Cmp None is = absurd (let bad : ⊥ = cc in bad)
 asked_min topic.Cmp (Some (arguments [] budget)) is = absurd (let bad : ⊥ = cc in bad)
 asked_min topic.Cmp (Some (arguments (left ∷ []) budget)) is = absurd (let bad : ⊥ = cc in bad)
@@ -82,13 +85,14 @@ named_min (Some about) name words is = by (asks_help words) is
 
 command_min : (name : List ℕ) → command_named name ≡ Some topic.Min → name ≡ codes "min"
 unfolding command_named
-command_min name is = by (is_word name (codes "min")) (is_word name (codes "cmp")) (is_word name (codes "check")) refl is
+command_min name is = by (is_word name (codes "min")) (is_word name (codes "dead")) (is_word name (codes "cmp")) (is_word name (codes "check")) refl is
   where
-    by : (b c d : Bool) → is_word name (codes "min") ≡ b → cond b (Some topic.Min) (cond c (Some topic.Cmp) (cond d (Some topic.Check) None)) ≡ Some topic.Min → name ≡ codes "min"
-    by true c d test is = (bytes_decides name (codes "min")).0 test
-    by false true d test is = absurd (let bad : ⊥ = cc in bad)
-    by false false true test is = absurd (let bad : ⊥ = cc in bad)
-    by false false false test is = absurd (let bad : ⊥ = cc in bad)
+    by : (b c d e : Bool) → is_word name (codes "min") ≡ b → cond b (Some topic.Min) (cond c (Some topic.Dead) (cond d (Some topic.Cmp) (cond e (Some topic.Check) None))) ≡ Some topic.Min → name ≡ codes "min"
+    by true c d e test is = (bytes_decides name (codes "min")).0 test
+    by false true d e test is = absurd (let bad : ⊥ = cc in bad)
+    by false false true e test is = absurd (let bad : ⊥ = cc in bad)
+    by false false false true test is = absurd (let bad : ⊥ = cc in bad)
+    by false false false false test is = absurd (let bad : ⊥ = cc in bad)
 
 min_only : (words : List (List ℕ)) → form_of words ≡ Some Min → words ≡ codes "min" ∷ []
 min_only [] is = absurd (let bad : ⊥ = cc in bad)

@@ -9,6 +9,7 @@ use Rattle.command_words.specs.declared.command.Topic.TheVariants as topic
 -- the version.
 pub data Form : Type 0 where
   Min : Form
+  Dead : (budget : Option ℕ) → Form
   Cmp : (left right : List ℕ) (budget : Option ℕ) → Form
   Check : Form
   Help : Topic → Form
@@ -79,6 +80,7 @@ arguments_of words = with_words (Some (arguments [] None)) words
 -- what a command with these operands and options asks for
 abbrev pub asked : Topic → Option Arguments → Option Form
 asked topic.Min (Some (arguments [] None)) = Some Min
+asked topic.Dead (Some (arguments [] budget)) = Some (Dead budget)
 asked topic.Cmp (Some (arguments (left ∷ right ∷ []) budget)) = Some (Cmp left right budget)
 asked topic.Check (Some (arguments [] None)) = Some Check
 asked about words = None
@@ -87,6 +89,7 @@ asked about words = None
 unfoldable pub command_named : List ℕ → Option Topic
 command_named name =
     if is_word name (codes "min") then Some topic.Min
+    else if is_word name (codes "dead") then Some topic.Dead
     else if is_word name (codes "cmp") then Some topic.Cmp
     else if is_word name (codes "check") then Some topic.Check else None
 

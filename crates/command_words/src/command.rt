@@ -10,6 +10,8 @@ pub enum Topic {
     Program,
     /// The command `min`.
     Min,
+    /// The command `dead`.
+    Dead,
     /// The command `cmp`.
     Cmp,
     /// The command `check`.
@@ -21,6 +23,11 @@ pub enum Topic {
 pub enum Command<'a> {
     /// Minify a style sheet.
     Min,
+    /// Tell which selectors of a style sheet match nothing.
+    Dead {
+        /// How many clauses may be learned for a pair, where the words say it: at most `MOST_BUDGET`.
+        budget: Option<u32>,
+    },
     /// Compare two selectors.
     Cmp {
         /// The text of the first one.

@@ -31,6 +31,7 @@ fn asked<'a>(about: Topic, words: Option<Arguments<'a>>) -> Option<Command<'a>>
     let arguments = words?;
     match (about, arguments.operands, arguments.budget) {
         (Topic::Min, Operands::None, None) => Some(Command::Min),
+        (Topic::Dead, Operands::None, budget) => Some(Command::Dead { budget }),
         (Topic::Cmp, Operands::Two(left, right), budget) => Some(Command::Cmp {
             left,
             right,
@@ -48,6 +49,8 @@ fn command_named(name: &str) -> Option<Topic>
 {
     if name == "min" {
         Some(Topic::Min)
+    } else if name == "dead" {
+        Some(Topic::Dead)
     } else if name == "cmp" {
         Some(Topic::Cmp)
     } else if name == "check" {

@@ -18,6 +18,9 @@ fn shown(alloc: Global, line: &str) -> Result<String, AllocError> {
 fn reads_each_form(rt: HostRuntime) -> Result<(), Fail> {
     for (line, form) in [
         ("min", "Some(Min)"),
+        ("dead", "Some(Dead { budget: None })"),
+        ("dead --budget 9", "Some(Dead { budget: Some(9) })"),
+        ("dead --help", "Some(Help(Dead))"),
         (
             "cmp a b",
             "Some(Cmp { left: \"a\", right: \"b\", budget: None })",
@@ -88,6 +91,8 @@ fn refuses_other_words(rt: HostRuntime) -> Result<(), Fail> {
         "cmp",
         "cmp a",
         "cmp a b c",
+        "dead a",
+        "dead --budget",
         "cmp a b c d",
         "cmp a b c d e",
         "cmp a b --budget",

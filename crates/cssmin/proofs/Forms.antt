@@ -2,7 +2,7 @@
 use Rattle.std.proofs.Common.{◌≡◌, ◌⊎◌, ◌↔◌, inl, inr, ℕ, List, true, false, Option, Some, None, IsSomeAnd, refl, sym, ◌∙◌, ap, subst}
 use Rattle.std.proofs.lemmas.Bool.{false≢true}
 use Rattle.std.specs.Prelude.{IsNone}
-use Rattle.command_words.specs.Forms.{Form, Min, Cmp, Check, Help, Version, form_of}
+use Rattle.command_words.specs.Forms.{Form, Min, Dead, Cmp, Check, Help, Version, form_of}
 use Rattle.css_model.specs.declared.fault.SheetFault.{SheetFault}
 use Rattle.css_model.specs.Sheets.Limits.{max_bytes}
 use Rattle.log_text.specs.CheckedTexts.{max_log_bytes}
@@ -11,6 +11,7 @@ use Rattle.overlap.specs.PairsParts.{PairsParts}
 use Rattle.cssmin.specs.Change.{Change, HasFailed}
 use Rattle.cssmin.specs.Commands.Check.{CheckDoes, CheckRefuses, Checks}
 use Rattle.cssmin.specs.Commands.Cmp.{CmpDoes}
+use Rattle.cssmin.specs.Commands.Dead.{DeadDoes, TellsLives}
 use Rattle.cssmin.specs.Commands.Min.{Minifies, MinDoes, MinRefuses}
 use Rattle.cssmin.specs.Run.{Answers, Outcome, Ran, needs_input}
 use Rattle.cssmin.specs.Status.{IsRefusal}
@@ -37,12 +38,16 @@ cmp_did words left right budget status input output err held ran is = did words 
 pub check_did : (words : List (List ℕ)) (status : Status) (input output err : Change) (held : Option PairsParts) → Ran words status input output err held → form_of words ≡ Some Check → CheckDoes status input output held
 check_did words status input output err held ran is = did words (Some Check) status input output err held ran is
 
+pub dead_did : (words : List (List ℕ)) (budget : Option ℕ) (status : Status) (input output err : Change) (held : Option PairsParts) → Ran words status input output err held → form_of words ≡ Some (Dead budget) → DeadDoes budget status input output held
+dead_did words budget status input output err held ran is = did words (Some (Dead budget)) status input output err held ran is
+
 -- ---- Usage
 
 no_usage : (form : Form) (input output : Change) (held : Option PairsParts) → Outcome form Usage input output held → ⊥
 no_usage Min input output held h = h.0
 no_usage (Cmp left right budget) input output held h = h
 no_usage Check input output held h = h.0
+no_usage (Dead budget) input output held h = h.0
 no_usage (Help about) input output held h = h.0
 no_usage Version input output held h = h.0
 
@@ -61,6 +66,7 @@ read_fault_of None input output held h = absurd (let bad : ⊥ = let same : Read
 read_fault_of (Some Min) input output held h = h.0
 read_fault_of (Some (Cmp left right budget)) input output held h = absurd h
 read_fault_of (Some Check) input output held h = h.0
+read_fault_of (Some (Dead budget)) input output held h = h.0
 read_fault_of (Some (Help about)) input output held h = absurd h.0
 read_fault_of (Some Version) input output held h = absurd h.0
 
@@ -72,6 +78,7 @@ write_fault_of None input output held h = absurd (let bad : ⊥ = let same : Wri
 write_fault_of (Some Min) input output held h = h.front.0
 write_fault_of (Some (Cmp left right budget)) input output held h = h.2.0
 write_fault_of (Some Check) input output held h = h.front.0
+write_fault_of (Some (Dead budget)) input output held h = h.front.0
 write_fault_of (Some (Help about)) input output held h = h.0.2.0
 write_fault_of (Some Version) input output held h = h.0.2.0
 
@@ -132,6 +139,10 @@ pub checked : (words : List (List ℕ)) (status : Status) (input output err : Ch
     → form_of words ≡ Some Check → IsSomeAnd input.old (λ read. (other : Status) → CheckRefuses other read → ⊥) → (HasFailed input → ⊥) → (HasFailed output → ⊥) → (status ≡ Done) ⊎ (status ≡ NoMemory)
 checked words status input output err held ran check none sure safe = completes max_log_bytes Checks CheckRefuses status input output held (check_did words status input output err held ran check) none sure safe
 
+pub told_dead : (words : List (List ℕ)) (budget : Option ℕ) (status : Status) (input output err : Change) (held : Option PairsParts) → Ran words status input output err held
+    → form_of words ≡ Some (Dead budget) → IsSomeAnd input.old (λ read. (other : Status) → MinRefuses other read → ⊥) → (HasFailed input → ⊥) → (HasFailed output → ⊥) → (status ≡ Done) ⊎ (status ≡ NoMemory)
+told_dead words budget status input output err held ran is none sure safe = completes max_bytes (TellsLives budget) MinRefuses status input output held (dead_did words budget status input output err held ran is) none sure safe
+
 writes_done : (kind : List ℕ → Type 0) (status : Status) (output : Change) → WritesSome kind status output → (HasFailed output → ⊥) → (status ≡ Done) ⊎ (status ≡ NoMemory)
 writes_done kind Done output h safe = inl refl
 writes_done kind Usage output h safe = absurd h
@@ -154,6 +165,7 @@ other_done : (form : Form) (status : Status) (input output : Change) (held : Opt
 other_done Min status input output held h unneeded safe = absurd (false≢true (sym unneeded))
 other_done (Cmp left right budget) status input output held h unneeded safe = cmp_done left right budget status output held h safe
 other_done Check status input output held h unneeded safe = absurd (false≢true (sym unneeded))
+other_done (Dead budget) status input output held h unneeded safe = absurd (false≢true (sym unneeded))
 other_done (Help about) status input output held h unneeded safe = writes_done _ status output h.0 safe
 other_done Version status input output held h unneeded safe = writes_done _ status output h.0 safe
 
@@ -191,6 +203,7 @@ untold_of None status input output held is h = absurd (no_refusal_of_usage statu
 untold_of (Some Min) status input output held is h = untold max_bytes Minifies MinRefuses status input output held is h
 untold_of (Some (Cmp left right budget)) status input output held is h = absurd (cmp_unrefusable left right budget status output held is h)
 untold_of (Some Check) status input output held is h = untold max_log_bytes Checks CheckRefuses status input output held is h
+untold_of (Some (Dead budget)) status input output held is h = untold max_bytes (TellsLives budget) MinRefuses status input output held is h
 untold_of (Some (Help about)) status input output held is h = absurd (unrefusable _ status output is h.0)
 untold_of (Some Version) status input output held is h = absurd (unrefusable _ status output is h.0)
 

@@ -1,4 +1,5 @@
 -- What each command does, one module a command.
 pub mod Check
 pub mod Cmp
+pub mod Dead
 pub mod Min

@@ -3,13 +3,14 @@ use Rattle.std.specs.Prelude.{◌≡◌, ◌⊎◌, ◌↔◌, ℕ, ◌<◌, fal
 use Rattle.css_io.specs.Io.{Rose, last_count}
 use Rattle.css_model.specs.declared.fault.SheetFault.{SheetFault}
 use Rattle.css_model.specs.Sheets.Limits.{max_bytes}
-use Rattle.command_words.specs.Forms.{Form, Min, Cmp, Check, form_of}
+use Rattle.command_words.specs.Forms.{Form, Min, Dead, Cmp, Check, form_of}
 use Rattle.minify.specs.Minified.{HasFault, HasNoFault}
 use Rattle.overlap.specs.PairsParts.{PairsParts}
 use Rattle.cssmin.specs.Change.{Change, HasFailed}
 use Rattle.cssmin.specs.Commands.Check.{CheckDoes, CheckRefuses}
 use Rattle.cssmin.specs.Commands.Cmp.{CmpDoes}
-use Rattle.cssmin.specs.Commands.Min.{Minifies, MinDoes}
+use Rattle.cssmin.specs.Commands.Dead.{DeadDoes}
+use Rattle.cssmin.specs.Commands.Min.{Minifies, MinDoes, MinRefuses}
 use Rattle.cssmin.specs.Run.{Ran, needs_input}
 use Rattle.cssmin.specs.Tasks.{Began, Did, IsRefused}
 use Rattle.cssmin.specs.declared.status.Status.{Status}
@@ -34,6 +35,10 @@ CmpDoesItsWord =
 -- words that check do what `check` says
 abbrev pub CheckDoesItsWord : Type 0
 CheckDoesItsWord = (words : List (List ℕ)) (status : Status) (input output err : Change) (held : Option PairsParts) → Ran words status input output err held → form_of words ≡ Some Check → CheckDoes status input output held
+
+-- words that ask for it do what `dead` says
+abbrev pub DeadDoesItsWord : Type 0
+DeadDoesItsWord = (words : List (List ℕ)) (budget : Option ℕ) (status : Status) (input output err : Change) (held : Option PairsParts) → Ran words status input output err held → form_of words ≡ Some (Dead budget) → DeadDoes budget status input output held
 
 -- ---- `min`, by its status
 
@@ -78,6 +83,12 @@ abbrev pub LogIsChecked : Type 0
 LogIsChecked =
     (words : List (List ℕ)) (status : Status) (input output err : Change) (held : Option PairsParts) → Ran words status input output err held
     → form_of words ≡ Some Check → IsSomeAnd input.old (λ read. (other : Status) → CheckRefuses other read → ⊥) → (HasFailed input → ⊥) → (HasFailed output → ⊥) → (status ≡ Done) ⊎ (status ≡ NoMemory)
+
+-- a sheet that is not refused is told of, where no read or write failed and the memory sufficed
+abbrev pub SheetIsTold : Type 0
+SheetIsTold =
+    (words : List (List ℕ)) (budget : Option ℕ) (status : Status) (input output err : Change) (held : Option PairsParts) → Ran words status input output err held
+    → form_of words ≡ Some (Dead budget) → IsSomeAnd input.old (λ read. (other : Status) → MinRefuses other read → ⊥) → (HasFailed input → ⊥) → (HasFailed output → ⊥) → (status ≡ Done) ⊎ (status ≡ NoMemory)
 
 -- what needs no input is done, where no write failed and the memory sufficed
 abbrev pub OthersAreDone : Type 0

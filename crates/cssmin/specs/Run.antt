@@ -1,13 +1,14 @@
 -- What a run of the program did, by what its words ask for and its status.
 use Rattle.std.specs.Prelude.{◌≡◌, ℕ, ◌+◌, Bool, true, false, List, Option, Some, None}
 use Rattle.command_texts.specs.Texts.{EndsLine, version_text}
-use Rattle.command_words.specs.Forms.{Form, Min, Cmp, Check, Help, Version, form_of}
+use Rattle.command_words.specs.Forms.{Form, Min, Dead, Cmp, Check, Help, Version, form_of}
 use Rattle.css_model.specs.Sheets.Limits.{max_bytes}
 use Rattle.log_text.specs.CheckedTexts.{max_log_bytes}
 use Rattle.overlap.specs.PairsParts.{PairsParts}
 use Rattle.cssmin.specs.Change.{Change}
 use Rattle.cssmin.specs.Commands.Check.{CheckDoes}
 use Rattle.cssmin.specs.Commands.Cmp.{CmpDoes}
+use Rattle.cssmin.specs.Commands.Dead.{DeadDoes}
 use Rattle.cssmin.specs.Commands.Min.{MinDoes}
 use Rattle.cssmin.specs.Telling.{Tells}
 use Rattle.cssmin.specs.Writing.{WritesSome}
@@ -18,6 +19,7 @@ use Rattle.cssmin.specs.declared.status.Status.TheVariants.{Usage}
 -- what its words ask for. Each case says that the status is not `Usage`.
 abbrev pub Outcome : Form → Status → (input output : Change) → (held : Option PairsParts) → Type 0
 Outcome Min status input output held = MinDoes status input output held
+Outcome (Dead budget) status input output held = DeadDoes budget status input output held
 Outcome (Cmp left right budget) status input output held = CmpDoes left right budget status output held
 Outcome Check status input output held = CheckDoes status input output held
 Outcome (Help about) status input output held = WritesSome EndsLine status output × (held ≡ None)
@@ -32,6 +34,7 @@ Answers (Some form) status input output held = Outcome form status input output 
 abbrev pub needs_input : Option Form → Bool
 needs_input None = false
 needs_input (Some Min) = true
+needs_input (Some (Dead budget)) = true
 needs_input (Some (Cmp left right budget)) = false
 needs_input (Some Check) = true
 needs_input (Some (Help about)) = false

@@ -3,4 +3,5 @@
 pub(crate) mod about;
 pub(crate) mod check;
 pub(crate) mod cmp;
+pub(crate) mod dead;
 pub(crate) mod min;

@@ -7,6 +7,7 @@ pub(crate) fn words_decide_usage()
     ensures usage { laws.OtherWordsAreUsage }
     ensures min { laws.MinDoesItsWord }
     ensures cmp { laws.CmpDoesItsWord }
+    ensures dead { laws.DeadDoesItsWord }
     ensures check { laws.CheckDoesItsWord }
 {}
 
@@ -24,6 +25,7 @@ pub(crate) fn each_sheet_has_its_status()
     ensures refuses { laws.FaultIsRefused }
     ensures complete { laws.FaultlessIsDone }
     ensures checked { laws.LogIsChecked }
+    ensures told_dead { laws.SheetIsTold }
     ensures others { laws.OthersAreDone }
 {}
 

@@ -10,6 +10,7 @@ ghost use Rattle.cssmin.specs.Telling.{Tells};
 use crate::commands::about::{help, version};
 use crate::commands::check::Check;
 use crate::commands::cmp::cmp;
+use crate::commands::dead::Dead;
 use crate::commands::min::Min;
 use crate::status::Status;
 use crate::tasks::perform;
@@ -41,6 +42,7 @@ fn obey<S: Source, O: Sink>(
 {
     match command {
         Some(Command::Min) => perform(alloc, &Min, input, out, held),
+        Some(Command::Dead { budget }) => perform(alloc, &Dead { budget }, input, out, held),
         Some(
             Command::Cmp {
                 left,
@@ -57,7 +59,8 @@ fn obey<S: Source, O: Sink>(
 
 #[tactic(auto, using(crate::proofs::Forms::answered))]
 /// Runs the program on the words after its name. `min` reads a style sheet from `input` to its end, and writes
-/// it to `out` with the same winners of the cascade, in no more bytes. `cmp LEFT RIGHT` compares two selectors,
+/// it to `out` with the same winners of the cascade, in no more bytes. `dead` reads one too, and writes to `out` which
+/// of its selectors match nothing. `cmp LEFT RIGHT` compares two selectors,
 /// and writes to `out` whether one element can match both. `check` reads a log, and writes to `out` whether it
 /// refutes its formula. Words that ask for help or the version have it
 /// written to `out`. What else happened is told on `err`.

@@ -221,6 +221,7 @@ fn tells_of_itself(rt: HostRuntime) -> Result<(), Fail> {
         "min -h",
         "cmp --help",
         "cmp -h",
+        "dead --help",
         "check --help",
     ] {
         let ran = run_line(rt.alloc(), line, roomy)?;
@@ -298,6 +299,26 @@ fn checks_logs(rt: HostRuntime) -> Result<(), Fail> {
     let ran = run_over(rt.alloc(), "check", line, Outside::faultless())?;
     let refused = Status::LogRefused(LogFault::BadLine(2));
     ran.assert_is(&rt, refused, b"", b"log refused: line 2\n");
+    Ok(())
+}
+
+#[test]
+fn tells_which_selectors_match_nothing(rt: HostRuntime) -> Result<(), Fail> {
+    for (text, lines) in [
+        (
+            &b"a:link:visited{top:0}p{top:0}"[..],
+            &b"1.1 dead\n2.1 alive\nchild 0 pseudo none\n0 1 - x\n1 1 * p\n"[..],
+        ),
+        (b"#a #a,a>b:root{top:0}", b"1.1 dead\n1.2 dead\n"),
+        (b"@x;", b""),
+    ] {
+        let ran = run_over(rt.alloc(), "dead", text, Outside::faultless())?;
+        ran.assert_is(&rt, Status::Done, lines, b"");
+        assert!(rt; ran.held.is_some());
+    }
+    let ran = run_over(rt.alloc(), "dead", b"\xff", Outside::faultless())?;
+    let refused = Status::SheetRefused(fault(FaultKind::NotUtf8, 0));
+    ran.assert_is(&rt, refused, b"", b"refused: NotUtf8 at 0\n");
     Ok(())
 }
 

@@ -13,7 +13,7 @@ use overlap::Pairs;
 use std::alloc::{AllocError, Global};
 
 /// No answers yet, with the budget of the words, or with none.
-fn unasked(alloc: Global, budget: Option<u32>) -> Pairs
+pub(crate) fn unasked(alloc: Global, budget: Option<u32>) -> Pairs
     ensures { result ≡ unasked budget }
 {
     match budget {

@@ -1,4 +1,4 @@
-use Rattle.cssmin.proofs.Forms.{checked, completed, others_done, refused_for}
+use Rattle.cssmin.proofs.Forms.{told_dead, checked, completed, others_done, refused_for}
 use Rattle.cssmin.proofs.laws.each_sheet_has_its_status.Goals as goal
 
 pub returns-clause-refuses : goal.returns-clause-refuses
@@ -12,3 +12,6 @@ returns-clause-others c = others_done
 
 pub returns-clause-checked : goal.returns-clause-checked
 returns-clause-checked c = checked
+
+pub returns-clause-told_dead : goal.returns-clause-told_dead
+returns-clause-told_dead c = told_dead

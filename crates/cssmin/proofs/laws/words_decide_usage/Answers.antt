@@ -1,4 +1,4 @@
-use Rattle.cssmin.proofs.Forms.{check_did, cmp_did, min_did, usage_is}
+use Rattle.cssmin.proofs.Forms.{dead_did, check_did, cmp_did, min_did, usage_is}
 use Rattle.cssmin.proofs.laws.words_decide_usage.Goals as goal
 
 pub returns-clause-usage : goal.returns-clause-usage
@@ -12,3 +12,6 @@ returns-clause-cmp c = cmp_did
 
 pub returns-clause-check : goal.returns-clause-check
 returns-clause-check c = check_did
+
+pub returns-clause-dead : goal.returns-clause-dead
+returns-clause-dead c = dead_did
