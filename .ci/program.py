@@ -18,7 +18,7 @@ import tempfile
 
 MORE = b"\nFor more information, try '--help'.\n"
 NO_WORD = b"""error: 'cssmin' requires a subcommand but one was not provided
-  [subcommands: min, cmp, dead, check, help]
+  [subcommands: min, cmp, style, dead, check, why, help]
 
 Usage: cssmin <COMMAND>
 """ + MORE
@@ -117,7 +117,7 @@ def try_itself(tries):
     for word in ["--version", "-V"]:
         tries.check_read(word, [word], SHEET, 0, f"cssmin {version}\n".encode(), b"", 0)
     for words in [["--help"], ["-h"], ["help"], ["min", "--help"], ["min", "-h"], ["cmp", "--help"], ["cmp", "-h"],
-            ["check", "--help"], ["dead", "--help"]]:
+            ["check", "--help"], ["why", "--help"], ["style", "--help"], ["dead", "--help"]]:
         ran = tries.run(words, SHEET)
         name = " ".join(words)
         tries.is_same(name, "the exit status", ran.returncode, 0)
@@ -170,6 +170,23 @@ def try_lives(tries):
     lines = b"1.1 dead\n2.1 alive\nchild 0 pseudo none\n0 1 - x\n1 1 * p\n"
     tries.check_read("dead selectors", ["dead"], sheet, 0, lines, b"", len(sheet))
     tries.check_read("dead selectors of a broken sheet", ["dead"], b"\xff", 3, b"", b"refused: NotUtf8 at 0\n", 1)
+
+
+def try_winners(tries):
+    page = b"child 0 pseudo none\n0 1 - x\n1 4000000000 - li\n1 1 * li class=k\n"
+    sheet = b"li{color:red}li+li{color:blue}.k{top:0}li:nth-child(odd){color:green}.k{top:1px}"
+    both = page + b"\n" + sheet
+    lines = b"kept 0\ncolor:green 0,1,1\ntop:1px 0,1,0\n"
+    tries.check_read("a page and a sheet", ["style"], both, 0, lines, b"", len(both))
+    tries.check_read("a page without a sheet", ["style"], page, 0, b"kept 0\n", b"", len(page))
+    tries.check_read("no page", ["style"], b"x", 9, b"", b"document refused: line 1\n", 1)
+
+
+def try_moves(tries):
+    sheet = b".a{top:0}.b{top:1px}.a{top:2px}"
+    lines = b"blocked\n.a{top:2px}\n.b{top:1px}\nchild 0 pseudo none\n0 1 - x\n1 1 * x class=a%20b\n"
+    tries.check_read("a move", ["why", "3", "1"], sheet, 0, lines, b"", len(sheet))
+    tries.check_read("a move of no item", ["why", "4", "1"], sheet, 7, b"", b"no item 4\n", len(sheet))
 
 
 def try_sheets(tries):
@@ -242,6 +259,8 @@ def main():
     try_pages(tries)
     try_pairs(tries)
     try_logs(tries)
+    try_moves(tries)
+    try_winners(tries)
     try_lives(tries)
     try_sheets(tries)
     try_streams(tries)

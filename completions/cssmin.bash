@@ -2,11 +2,11 @@
 _cssmin() {
     local command=${COMP_WORDS[1]} words
     if [ "$COMP_CWORD" = 1 ]; then
-        words='min cmp dead check help --help --version'
+        words='min cmp dead style why check help --help --version'
     else
         case $command in
-            min|check) words='--help' ;;
-            cmp|dead) words='--budget --help' ;;
+            min|style|check) words='--help' ;;
+            cmp|dead|why) words='--budget --help' ;;
         esac
     fi
     COMPREPLY=($(compgen -W "$words" -- "${COMP_WORDS[COMP_CWORD]}"))

@@ -6,10 +6,12 @@ use std::alloc::{AllocError, Global};
 
 const PROGRAM_HELP: &str = "\
 Exit status: 0 done, 2 wrong words, 3 the sheet is refused, 4 the input could not be read,
-5 the output could not be written, 6 not enough memory, 8 the log is refused.
+5 the output could not be written, 6 not enough memory, 7 no such item, 8 the log is refused,
+9 the document is refused.
 
     cssmin min <sheet.css >sheet.min.css
     cssmin cmp 'a:hover' '.menu > a'
+    { cat page.txt; echo; cat sheet.css; } | cssmin style
     cssmin dead <sheet.css
 
 No file names are taken: name the sheet by `<`, and the target by `>`, which must be another file.";
@@ -56,6 +58,22 @@ fn dead_command<'a>(alloc: Global) -> Result<Command<'a>, AllocError> {
         .arg(budget(alloc))
 }
 
+const STYLE_HELP: &str = "\
+Standard input has a small page, as `cssmin cmp` writes it behind `overlap`, an empty line, and a
+style sheet. On standard output a line tells how many items of the sheet are kept as they stand,
+which do not count; then each property that a rule gives the element marked `*` has a line: the
+declaration that wins, and the specificity of its selector.
+
+    kept 0
+    color:green!important 0,1,1";
+
+/// The command `style`.
+fn style_command<'a>(alloc: Global) -> Command<'a> {
+    Command::new(alloc, "style")
+        .about("Tell which declarations win for an element of a small page")
+        .after_help(STYLE_HELP)
+}
+
 /// The command `min`.
 fn min_command<'a>(alloc: Global) -> Command<'a> {
     Command::new(alloc, "min")
@@ -95,6 +113,33 @@ fn check_command<'a>(alloc: Global) -> Command<'a> {
         .after_help(CHECK_HELP)
 }
 
+const WHY_HELP: &str = "\
+The sheet is read from standard input to its end. Its rules and at-rules are counted from 1. Writes
+one of these to standard output:
+
+    free        the rule FROM may be moved to the rule TO, and every winner stays
+    kept N      it may not be moved past item N, which is kept as it stands
+    blocked     it may not, for the two pairs of a selector and a declaration that follow, and the
+                small page behind them, where the move changes which one wins
+    outside R   two selectors are not compared, for the reason of the number R
+    spent       the budget was spent before that was decided";
+
+/// The command `why`.
+fn why_command<'a>(alloc: Global) -> Result<Command<'a>, AllocError> {
+    let from = Arg::new(alloc, "FROM")
+        .required(true)
+        .help("The number of the rule that is moved");
+    let to = Arg::new(alloc, "TO")
+        .required(true)
+        .help("The number of the one that it is moved to");
+    Command::new(alloc, "why")
+        .about("Tell why a rule of a style sheet may not be moved to another one")
+        .after_help(WHY_HELP)
+        .arg(from.value_parser(value_parser!(u32)))?
+        .arg(to.value_parser(value_parser!(u32)))?
+        .arg(budget(alloc))
+}
+
 /// The word `help`.
 fn help_command<'a>(alloc: Global) -> Command<'a> {
     Command::new(alloc, "help").about("Print this message")
@@ -109,8 +154,10 @@ pub(crate) fn program<'a>(alloc: Global, version: &'a str) -> Result<Command<'a>
         .subcommand_required(true)
         .subcommand(min_command(alloc))?
         .subcommand(cmp_command(alloc)?)?
+        .subcommand(style_command(alloc))?
         .subcommand(dead_command(alloc)?)?
         .subcommand(check_command(alloc))?
+        .subcommand(why_command(alloc)?)?
         .disable_help_subcommand(true)
         .subcommand(help_command(alloc))
 }

@@ -55,6 +55,8 @@ pub fn help_text(alloc: Global, about: Topic) -> Result<Vec<u8>, AllocError>
         Topic::Program => &["cssmin", "--help"],
         Topic::Min => &["cssmin", "min", "--help"],
         Topic::Cmp => &["cssmin", "cmp", "--help"],
+        Topic::Why => &["cssmin", "why", "--help"],
+        Topic::Style => &["cssmin", "style", "--help"],
         Topic::Dead => &["cssmin", "dead", "--help"],
         Topic::Check => &["cssmin", "check", "--help"],
     };

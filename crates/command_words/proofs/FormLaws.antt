@@ -2,7 +2,7 @@
 use Rattle.std.proofs.Common.{◌≡◌, ◌↔◌, ℕ, List, [], ◌∷◌, Bool, true, false, cond, not, ◌&&◌, ◌||◌, ◌==◌, Option, Some, None, refl, sym, ◌∙◌, ap, subst}
 use Rattle.std.specs.Cmp.Lexicographic.{bytes_decides}
 use Rattle.std.specs.Prelude.{codes, drop, take}
-use Rattle.command_words.specs.Forms.{Arguments, Min, Cmp, Help, Version, alone, arguments, arguments_of, asked, asks_help, command_named, form_of, is_help, is_operand, is_word, most_budget, named, number_up_to, with_budget, with_operand, with_word, with_words}
+use Rattle.command_words.specs.Forms.{Arguments, Min, Cmp, Help, Version, alone, arguments, moved, most_number, arguments_of, asked, asks_help, command_named, form_of, is_help, is_operand, is_word, most_budget, named, number_up_to, with_budget, with_operand, with_word, with_words}
 use Rattle.command_words.specs.declared.command.Topic.{Topic}
 use Rattle.command_words.specs.declared.command.Topic.TheVariants as topic
 
@@ -46,6 +46,11 @@ words_are_bare before (word ∷ next ∷ words) is =
     by true budget other is = absurd (budget_is_not_bare (number_up_to most_budget next) before (budget is).0)
     by false budget other is = absurd (word_is_not_bare word before (other is).0)
 
+moved_is_not_min : (from to budget : Option ℕ) → moved from to budget ≡ Some Min → ⊥
+moved_is_not_min None to budget is = absurd (let bad : ⊥ = cc in bad)
+moved_is_not_min (Some from) None budget is = absurd (let bad : ⊥ = cc in bad)
+moved_is_not_min (Some from) (Some to) budget is = absurd (let bad : ⊥ = cc in bad)
+
 -- only `min` minifies, and only with nothing behind it
 asked_min : (about : Topic) (words : Option Arguments) → asked about words ≡ Some Min → (about ≡ topic.Min) × (words ≡ bare)
 asked_min topic.Program words is = absurd (let bad : ⊥ = cc in bad)
@@ -56,6 +61,15 @@ asked_min topic.Min (Some (arguments (first ∷ more) budget)) is = absurd (let 
 asked_min topic.Dead None is = absurd (let bad : ⊥ = cc in bad)
 asked_min topic.Dead (Some (arguments [] budget)) is = absurd (let bad : ⊥ = cc in bad)
 asked_min topic.Dead (Some (arguments (first ∷ more) budget)) is = absurd (let bad : ⊥ = cc in bad)
+asked_min topic.Style None is = absurd (let bad : ⊥ = cc in bad)
+asked_min topic.Style (Some (arguments [] None)) is = absurd (let bad : ⊥ = cc in bad)
+asked_min topic.Style (Some (arguments [] (Some budget))) is = absurd (let bad : ⊥ = cc in bad)
+asked_min topic.Style (Some (arguments (first ∷ more) budget)) is = absurd (let bad : ⊥ = cc in bad)
+asked_min topic.Why None is = absurd (let bad : ⊥ = cc in bad)
+asked_min topic.Why (Some (arguments [] budget)) is = absurd (let bad : ⊥ = cc in bad)
+asked_min topic.Why (Some (arguments (from ∷ []) budget)) is = absurd (let bad : ⊥ = cc in bad)
+asked_min topic.Why (Some (arguments (from ∷ to ∷ []) budget)) is = absurd (moved_is_not_min (number_up_to most_number from) (number_up_to most_number to) budget is)
+asked_min topic.Why (Some (arguments (from ∷ to ∷ third ∷ more) budget)) is = absurd (let bad : ⊥ = cc in bad)
 asked_min topic.Cmp None is = absurd (let bad : ⊥ = cc in bad)
 asked_min topic.Cmp (Some (arguments [] budget)) is = absurd (let bad : ⊥ = cc in bad)
 asked_min topic.Cmp (Some (arguments (left ∷ []) budget)) is = absurd (let bad : ⊥ = cc in bad)
@@ -85,14 +99,16 @@ named_min (Some about) name words is = by (asks_help words) is
 
 command_min : (name : List ℕ) → command_named name ≡ Some topic.Min → name ≡ codes "min"
 unfolding command_named
-command_min name is = by (is_word name (codes "min")) (is_word name (codes "dead")) (is_word name (codes "cmp")) (is_word name (codes "check")) refl is
+command_min name is = by (is_word name (codes "min")) (is_word name (codes "dead")) (is_word name (codes "style")) (is_word name (codes "cmp")) (is_word name (codes "check")) (is_word name (codes "why")) refl is
   where
-    by : (b c d e : Bool) → is_word name (codes "min") ≡ b → cond b (Some topic.Min) (cond c (Some topic.Dead) (cond d (Some topic.Cmp) (cond e (Some topic.Check) None))) ≡ Some topic.Min → name ≡ codes "min"
-    by true c d e test is = (bytes_decides name (codes "min")).0 test
-    by false true d e test is = absurd (let bad : ⊥ = cc in bad)
-    by false false true e test is = absurd (let bad : ⊥ = cc in bad)
-    by false false false true test is = absurd (let bad : ⊥ = cc in bad)
-    by false false false false test is = absurd (let bad : ⊥ = cc in bad)
+    by : (b c d e f g : Bool) → is_word name (codes "min") ≡ b → cond b (Some topic.Min) (cond c (Some topic.Dead) (cond d (Some topic.Style) (cond e (Some topic.Cmp) (cond f (Some topic.Check) (cond g (Some topic.Why) None))))) ≡ Some topic.Min → name ≡ codes "min"
+    by true c d e f g test is = (bytes_decides name (codes "min")).0 test
+    by false true d e f g test is = absurd (let bad : ⊥ = cc in bad)
+    by false false true e f g test is = absurd (let bad : ⊥ = cc in bad)
+    by false false false true f g test is = absurd (let bad : ⊥ = cc in bad)
+    by false false false false true g test is = absurd (let bad : ⊥ = cc in bad)
+    by false false false false false true test is = absurd (let bad : ⊥ = cc in bad)
+    by false false false false false false test is = absurd (let bad : ⊥ = cc in bad)
 
 min_only : (words : List (List ℕ)) → form_of words ≡ Some Min → words ≡ codes "min" ∷ []
 min_only [] is = absurd (let bad : ⊥ = cc in bad)

@@ -9,9 +9,11 @@ use Rattle.command_words.specs.declared.command.Topic.TheVariants as topic
 -- the version.
 pub data Form : Type 0 where
   Min : Form
+  Style : Form
   Dead : (budget : Option ℕ) → Form
   Cmp : (left right : List ℕ) (budget : Option ℕ) → Form
   Check : Form
+  Why : (from to : ℕ) (budget : Option ℕ) → Form
   Help : Topic → Form
   Version : Form
 
@@ -33,6 +35,10 @@ is_operand (c ∷ cs) = not (c == 45)
 
 abbrev pub most_budget : ℕ
 most_budget = 20000
+
+-- the greatest number of an item that words may name
+abbrev pub most_number : ℕ
+most_number = 4294967295
 
 -- A number up to `most`, in decimal digits without a sign and without a leading zero.
 unfoldable pub number_up_to : (most : ℕ) → List ℕ → Option ℕ
@@ -77,12 +83,19 @@ arguments_of words = with_words (Some (arguments [] None)) words
 
 -- ---- What words ask for
 
+-- two numbers of items
+abbrev pub moved : (from to budget : Option ℕ) → Option Form
+moved (Some from) (Some to) budget = Some (Why from to budget)
+moved from to budget = None
+
 -- what a command with these operands and options asks for
 abbrev pub asked : Topic → Option Arguments → Option Form
 asked topic.Min (Some (arguments [] None)) = Some Min
 asked topic.Dead (Some (arguments [] budget)) = Some (Dead budget)
+asked topic.Style (Some (arguments [] None)) = Some Style
 asked topic.Cmp (Some (arguments (left ∷ right ∷ []) budget)) = Some (Cmp left right budget)
 asked topic.Check (Some (arguments [] None)) = Some Check
+asked topic.Why (Some (arguments (from ∷ to ∷ []) budget)) = moved (number_up_to most_number from) (number_up_to most_number to) budget
 asked about words = None
 
 -- the command of a name
@@ -90,8 +103,10 @@ unfoldable pub command_named : List ℕ → Option Topic
 command_named name =
     if is_word name (codes "min") then Some topic.Min
     else if is_word name (codes "dead") then Some topic.Dead
+    else if is_word name (codes "style") then Some topic.Style
     else if is_word name (codes "cmp") then Some topic.Cmp
-    else if is_word name (codes "check") then Some topic.Check else None
+    else if is_word name (codes "check") then Some topic.Check
+    else if is_word name (codes "why") then Some topic.Why else None
 
 -- whether the words behind a command ask how it is used
 abbrev pub asks_help : List (List ℕ) → Bool

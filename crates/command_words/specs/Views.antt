@@ -1,6 +1,6 @@
 -- What a contract sees of a command, and of operands and options.
 use Rattle.std.specs.Prelude.{ℕ, List, [], ◌∷◌, Option, Some, None}
-use Rattle.command_words.specs.Forms.{Form, Min, Dead, Cmp, Check, Help, Version, Arguments, arguments}
+use Rattle.command_words.specs.Forms.{Form, Min, Style, Dead, Cmp, Check, Why, Help, Version, Arguments, arguments}
 use Rattle.command_words.specs.declared.command.Command.{Command}
 use Rattle.command_words.specs.declared.command.Command.TheVariants as command
 use Rattle.command_words.specs.declared.arguments.Arguments as read
@@ -10,9 +10,11 @@ use Rattle.command_words.specs.declared.arguments.Operands.TheVariants as operan
 -- the form of a command: its texts in place of the places where they stand
 abbrev pub form : Command → Form
 form command.Min = Min
+form command.Style = Style
 form (command.Dead budget) = Dead budget
 form (command.Cmp left right budget) = Cmp left.now right.now budget
 form command.Check = Check
+form (command.Why from to budget) = Why from to budget
 form (command.Help about) = Help about
 form command.Version = Version
 

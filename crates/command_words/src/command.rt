@@ -12,8 +12,12 @@ pub enum Topic {
     Min,
     /// The command `dead`.
     Dead,
+    /// The command `style`.
+    Style,
     /// The command `cmp`.
     Cmp,
+    /// The command `why`.
+    Why,
     /// The command `check`.
     Check,
 }
@@ -28,6 +32,8 @@ pub enum Command<'a> {
         /// How many clauses may be learned for a pair, where the words say it: at most `MOST_BUDGET`.
         budget: Option<u32>,
     },
+    /// Tell which declarations win in a document.
+    Style,
     /// Compare two selectors.
     Cmp {
         /// The text of the first one.
@@ -39,6 +45,15 @@ pub enum Command<'a> {
     },
     /// Check a log that refutes a formula.
     Check,
+    /// Tell why a rule of a style sheet may not be moved to another one. Both count from 1 among the items.
+    Why {
+        /// The number of the one that is moved.
+        from: u32,
+        /// The number of the one that it is moved to.
+        to: u32,
+        /// How many clauses may be learned for a pair, where the words say it: at most `MOST_BUDGET`.
+        budget: Option<u32>,
+    },
     /// Tell how the program, or a command of it, is used.
     Help(Topic),
     /// Tell the version.

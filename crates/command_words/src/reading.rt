@@ -6,6 +6,7 @@ ghost use Rattle.command_words.specs.Views.{form_if_some, arguments_if_some};
 
 use crate::arguments::{Arguments, Operands, arguments_of};
 use crate::command::{Command, Topic};
+use crate::numbers::number_up_to;
 
 /// Whether a word asks how something is used.
 fn is_help(word: &str) -> bool
@@ -24,6 +25,17 @@ fn asks_help(words: &[String]) -> bool
     }
 }
 
+/// The move of an item to another one, where both words are numbers.
+fn moved<'a>(from: &str, to: &str, budget: Option<u32>) -> Option<Command<'a>>
+    ensures { form_if_some result
+        ≡ forms.moved (forms.number_up_to forms.most_number from.now) (forms.number_up_to forms.most_number to.now) budget }
+{
+    match (number_up_to(u32::MAX, from), number_up_to(u32::MAX, to)) {
+        (Some(from), Some(to)) => Some(Command::Why { from, to, budget }),
+        _ => None,
+    }
+}
+
 /// The command with these operands and options.
 fn asked<'a>(about: Topic, words: Option<Arguments<'a>>) -> Option<Command<'a>>
     ensures { form_if_some result ≡ forms.asked about (arguments_if_some words.entry) }
@@ -31,6 +43,7 @@ fn asked<'a>(about: Topic, words: Option<Arguments<'a>>) -> Option<Command<'a>>
     let arguments = words?;
     match (about, arguments.operands, arguments.budget) {
         (Topic::Min, Operands::None, None) => Some(Command::Min),
+        (Topic::Style, Operands::None, None) => Some(Command::Style),
         (Topic::Dead, Operands::None, budget) => Some(Command::Dead { budget }),
         (Topic::Cmp, Operands::Two(left, right), budget) => Some(Command::Cmp {
             left,
@@ -38,6 +51,7 @@ fn asked<'a>(about: Topic, words: Option<Arguments<'a>>) -> Option<Command<'a>>
             budget,
         }),
         (Topic::Check, Operands::None, None) => Some(Command::Check),
+        (Topic::Why, Operands::Two(from, to), budget) => moved(from, to, budget),
         _ => None,
     }
 }
@@ -51,10 +65,14 @@ fn command_named(name: &str) -> Option<Topic>
         Some(Topic::Min)
     } else if name == "dead" {
         Some(Topic::Dead)
+    } else if name == "style" {
+        Some(Topic::Style)
     } else if name == "cmp" {
         Some(Topic::Cmp)
     } else if name == "check" {
         Some(Topic::Check)
+    } else if name == "why" {
+        Some(Topic::Why)
     } else {
         None
     }

@@ -20,6 +20,11 @@ too_long read long = by_test (nat_lt max_bytes (length read)) _ _ (above max_byt
     above : (limit n : ℕ) → limit < n → nat_lt limit n ≡ true
     above limit n more = grind (arith, more)
 
+-- the same of what it is read as
+pub too_long_is_read : (read : List ℕ) → max_bytes < length read → sheet_of read ≡ Err (record { kind = TooLong; at = max_bytes })
+unfolding HasFault
+too_long_is_read read long = too_long read long
+
 pub one_fault : (read : List ℕ) (f g : SheetFault) → HasFault read f → HasFault read g → f ≡ g
 unfolding HasFault
 one_fault read f g first second = let same : ◌≡◌ {A = Result (List Item) SheetFault} (Err f) (Err g) = sym first ∙ second in cc

@@ -2,7 +2,7 @@
 use Rattle.std.proofs.Common.{◌≡◌, ◌⊎◌, ◌↔◌, inl, inr, ℕ, List, true, false, Option, Some, None, IsSomeAnd, refl, sym, ◌∙◌, ap, subst}
 use Rattle.std.proofs.lemmas.Bool.{false≢true}
 use Rattle.std.specs.Prelude.{IsNone}
-use Rattle.command_words.specs.Forms.{Form, Min, Dead, Cmp, Check, Help, Version, form_of}
+use Rattle.command_words.specs.Forms.{Form, Min, Style, Dead, Cmp, Check, Why, Help, Version, form_of}
 use Rattle.css_model.specs.declared.fault.SheetFault.{SheetFault}
 use Rattle.css_model.specs.Sheets.Limits.{max_bytes}
 use Rattle.log_text.specs.CheckedTexts.{max_log_bytes}
@@ -13,12 +13,14 @@ use Rattle.cssmin.specs.Commands.Check.{CheckDoes, CheckRefuses, Checks}
 use Rattle.cssmin.specs.Commands.Cmp.{CmpDoes}
 use Rattle.cssmin.specs.Commands.Dead.{DeadDoes, TellsLives}
 use Rattle.cssmin.specs.Commands.Min.{Minifies, MinDoes, MinRefuses}
+use Rattle.cssmin.specs.Commands.Style.{StyleDoes, StyleRefuses, TellsWinners}
+use Rattle.cssmin.specs.Commands.Why.{ExplainsMove, WhyDoes, WhyRefuses}
 use Rattle.cssmin.specs.Run.{Answers, Outcome, Ran, needs_input}
 use Rattle.cssmin.specs.Status.{IsRefusal}
 use Rattle.cssmin.specs.Tasks.{Began, Did, IsRefused}
 use Rattle.cssmin.specs.Writing.{WritesSome}
 use Rattle.cssmin.specs.declared.status.Status.{Status}
-use Rattle.cssmin.specs.declared.status.Status.TheVariants.{Done, Usage, SheetRefused, LogRefused, ReadFault, WriteFault, NoMemory}
+use Rattle.cssmin.specs.declared.status.Status.TheVariants.{Done, Usage, SheetRefused, NoItem, DocRefused, LogRefused, ReadFault, WriteFault, NoMemory}
 use Rattle.cssmin.proofs.Faults.{one_fault, fault_or_none, minified_no_fault}
 use Rattle.cssmin.proofs.Outcomes.{completes, refuses, untold}
 
@@ -41,6 +43,12 @@ check_did words status input output err held ran is = did words (Some Check) sta
 pub dead_did : (words : List (List ℕ)) (budget : Option ℕ) (status : Status) (input output err : Change) (held : Option PairsParts) → Ran words status input output err held → form_of words ≡ Some (Dead budget) → DeadDoes budget status input output held
 dead_did words budget status input output err held ran is = did words (Some (Dead budget)) status input output err held ran is
 
+pub style_did : (words : List (List ℕ)) (status : Status) (input output err : Change) (held : Option PairsParts) → Ran words status input output err held → form_of words ≡ Some Style → StyleDoes status input output held
+style_did words status input output err held ran is = did words (Some Style) status input output err held ran is
+
+pub why_did : (words : List (List ℕ)) (from to : ℕ) (budget : Option ℕ) (status : Status) (input output err : Change) (held : Option PairsParts) → Ran words status input output err held → form_of words ≡ Some (Why from to budget) → WhyDoes from to budget status input output held
+why_did words from to budget status input output err held ran is = did words (Some (Why from to budget)) status input output err held ran is
+
 -- ---- Usage
 
 no_usage : (form : Form) (input output : Change) (held : Option PairsParts) → Outcome form Usage input output held → ⊥
@@ -48,6 +56,8 @@ no_usage Min input output held h = h.0
 no_usage (Cmp left right budget) input output held h = h
 no_usage Check input output held h = h.0
 no_usage (Dead budget) input output held h = h.0
+no_usage Style input output held h = h.0
+no_usage (Why from to budget) input output held h = h.0
 no_usage (Help about) input output held h = h.0
 no_usage Version input output held h = h.0
 
@@ -67,6 +77,8 @@ read_fault_of (Some Min) input output held h = h.0
 read_fault_of (Some (Cmp left right budget)) input output held h = absurd h
 read_fault_of (Some Check) input output held h = h.0
 read_fault_of (Some (Dead budget)) input output held h = h.0
+read_fault_of (Some Style) input output held h = h.0
+read_fault_of (Some (Why from to budget)) input output held h = h.0
 read_fault_of (Some (Help about)) input output held h = absurd h.0
 read_fault_of (Some Version) input output held h = absurd h.0
 
@@ -79,6 +91,8 @@ write_fault_of (Some Min) input output held h = h.front.0
 write_fault_of (Some (Cmp left right budget)) input output held h = h.2.0
 write_fault_of (Some Check) input output held h = h.front.0
 write_fault_of (Some (Dead budget)) input output held h = h.front.0
+write_fault_of (Some Style) input output held h = h.front.0
+write_fault_of (Some (Why from to budget)) input output held h = h.front.0
 write_fault_of (Some (Help about)) input output held h = h.0.2.0
 write_fault_of (Some Version) input output held h = h.0.2.0
 
@@ -105,6 +119,8 @@ one_refusal : (read : List ℕ) (other : Status) (fault : SheetFault) → MinRef
 one_refusal read Done fault cause has = absurd cause
 one_refusal read Usage fault cause has = absurd cause
 one_refusal read (SheetRefused found) fault cause has = ap SheetRefused (one_fault read found fault cause has)
+one_refusal read (NoItem found) fault cause has = absurd cause
+one_refusal read (DocRefused found) fault cause has = absurd cause
 one_refusal read (LogRefused found) fault cause has = absurd cause
 one_refusal read ReadFault fault cause has = absurd cause
 one_refusal read WriteFault fault cause has = absurd cause
@@ -115,6 +131,8 @@ no_refusal : (read : List ℕ) (other : Status) → HasNoFault read → MinRefus
 no_refusal read Done none cause = cause
 no_refusal read Usage none cause = cause
 no_refusal read (SheetRefused found) none cause = fault_or_none read found cause none
+no_refusal read (NoItem found) none cause = cause
+no_refusal read (DocRefused found) none cause = cause
 no_refusal read (LogRefused found) none cause = cause
 no_refusal read ReadFault none cause = cause
 no_refusal read WriteFault none cause = cause
@@ -143,10 +161,20 @@ pub told_dead : (words : List (List ℕ)) (budget : Option ℕ) (status : Status
     → form_of words ≡ Some (Dead budget) → IsSomeAnd input.old (λ read. (other : Status) → MinRefuses other read → ⊥) → (HasFailed input → ⊥) → (HasFailed output → ⊥) → (status ≡ Done) ⊎ (status ≡ NoMemory)
 told_dead words budget status input output err held ran is none sure safe = completes max_bytes (TellsLives budget) MinRefuses status input output held (dead_did words budget status input output err held ran is) none sure safe
 
+pub told_style : (words : List (List ℕ)) (status : Status) (input output err : Change) (held : Option PairsParts) → Ran words status input output err held
+    → form_of words ≡ Some Style → IsSomeAnd input.old (λ read. (other : Status) → StyleRefuses other read → ⊥) → (HasFailed input → ⊥) → (HasFailed output → ⊥) → (status ≡ Done) ⊎ (status ≡ NoMemory)
+told_style words status input output err held ran is none sure safe = completes max_bytes TellsWinners StyleRefuses status input output held (style_did words status input output err held ran is) none sure safe
+
+pub told_why : (words : List (List ℕ)) (from to : ℕ) (budget : Option ℕ) (status : Status) (input output err : Change) (held : Option PairsParts) → Ran words status input output err held
+    → form_of words ≡ Some (Why from to budget) → IsSomeAnd input.old (λ read. (other : Status) → WhyRefuses from to other read → ⊥) → (HasFailed input → ⊥) → (HasFailed output → ⊥) → (status ≡ Done) ⊎ (status ≡ NoMemory)
+told_why words from to budget status input output err held ran is none sure safe = completes max_bytes (ExplainsMove from to budget) (WhyRefuses from to) status input output held (why_did words from to budget status input output err held ran is) none sure safe
+
 writes_done : (kind : List ℕ → Type 0) (status : Status) (output : Change) → WritesSome kind status output → (HasFailed output → ⊥) → (status ≡ Done) ⊎ (status ≡ NoMemory)
 writes_done kind Done output h safe = inl refl
 writes_done kind Usage output h safe = absurd h
 writes_done kind (SheetRefused fault) output h safe = absurd h
+writes_done kind (NoItem fault) output h safe = absurd h
+writes_done kind (DocRefused fault) output h safe = absurd h
 writes_done kind (LogRefused fault) output h safe = absurd h
 writes_done kind ReadFault output h safe = absurd h
 writes_done kind WriteFault output h safe = absurd (safe h.2.0)
@@ -156,6 +184,8 @@ cmp_done : (left right : List ℕ) (budget : Option ℕ) (status : Status) (outp
 cmp_done left right budget Done output held h safe = inl refl
 cmp_done left right budget Usage output held h safe = absurd h
 cmp_done left right budget (SheetRefused fault) output held h safe = absurd h
+cmp_done left right budget (NoItem fault) output held h safe = absurd h
+cmp_done left right budget (DocRefused fault) output held h safe = absurd h
 cmp_done left right budget (LogRefused fault) output held h safe = absurd h
 cmp_done left right budget ReadFault output held h safe = absurd h
 cmp_done left right budget WriteFault output held h safe = absurd (safe h.2.0)
@@ -166,6 +196,8 @@ other_done Min status input output held h unneeded safe = absurd (false≢true (
 other_done (Cmp left right budget) status input output held h unneeded safe = cmp_done left right budget status output held h safe
 other_done Check status input output held h unneeded safe = absurd (false≢true (sym unneeded))
 other_done (Dead budget) status input output held h unneeded safe = absurd (false≢true (sym unneeded))
+other_done Style status input output held h unneeded safe = absurd (false≢true (sym unneeded))
+other_done (Why from to budget) status input output held h unneeded safe = absurd (false≢true (sym unneeded))
 other_done (Help about) status input output held h unneeded safe = writes_done _ status output h.0 safe
 other_done Version status input output held h unneeded safe = writes_done _ status output h.0 safe
 
@@ -180,6 +212,8 @@ unrefusable : (kind : List ℕ → Type 0) (status : Status) (output : Change) �
 unrefusable kind Done output is h = is
 unrefusable kind Usage output is h = is
 unrefusable kind (SheetRefused fault) output is h = h
+unrefusable kind (NoItem fault) output is h = h
+unrefusable kind (DocRefused fault) output is h = h
 unrefusable kind (LogRefused fault) output is h = h
 unrefusable kind ReadFault output is h = is
 unrefusable kind WriteFault output is h = is
@@ -189,6 +223,8 @@ cmp_unrefusable : (left right : List ℕ) (budget : Option ℕ) (status : Status
 cmp_unrefusable left right budget Done output held is h = is
 cmp_unrefusable left right budget Usage output held is h = is
 cmp_unrefusable left right budget (SheetRefused fault) output held is h = h
+cmp_unrefusable left right budget (NoItem fault) output held is h = h
+cmp_unrefusable left right budget (DocRefused fault) output held is h = h
 cmp_unrefusable left right budget (LogRefused fault) output held is h = h
 cmp_unrefusable left right budget ReadFault output held is h = is
 cmp_unrefusable left right budget WriteFault output held is h = is
@@ -204,6 +240,8 @@ untold_of (Some Min) status input output held is h = untold max_bytes Minifies M
 untold_of (Some (Cmp left right budget)) status input output held is h = absurd (cmp_unrefusable left right budget status output held is h)
 untold_of (Some Check) status input output held is h = untold max_log_bytes Checks CheckRefuses status input output held is h
 untold_of (Some (Dead budget)) status input output held is h = untold max_bytes (TellsLives budget) MinRefuses status input output held is h
+untold_of (Some Style) status input output held is h = untold max_bytes TellsWinners StyleRefuses status input output held is h
+untold_of (Some (Why from to budget)) status input output held is h = untold max_bytes (ExplainsMove from to budget) (WhyRefuses from to) status input output held is h
 untold_of (Some (Help about)) status input output held is h = absurd (unrefusable _ status output is h.0)
 untold_of (Some Version) status input output held is h = absurd (unrefusable _ status output is h.0)
 

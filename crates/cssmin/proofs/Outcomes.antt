@@ -6,7 +6,7 @@ use Rattle.cssmin.specs.Status.{IsRefusal}
 use Rattle.cssmin.specs.Tasks.{Began, Did, Does, Reads}
 use Rattle.cssmin.specs.Writing.{Writes}
 use Rattle.cssmin.specs.declared.status.Status.{Status}
-use Rattle.cssmin.specs.declared.status.Status.TheVariants.{Done, Usage, SheetRefused, LogRefused, ReadFault, WriteFault, NoMemory}
+use Rattle.cssmin.specs.declared.status.Status.TheVariants.{Done, Usage, SheetRefused, NoItem, DocRefused, LogRefused, ReadFault, WriteFault, NoMemory}
 use Rattle.cssmin.specs.declared.tasks.Answer.{Answer}
 
 -- ---- What a command did
@@ -17,6 +17,8 @@ pub stopped : (most : ℕ) (Makes : (read text : List ℕ) (held : Option PairsP
 stopped most Makes Refuses Done input output held why none = absurd why.0
 stopped most Makes Refuses Usage input output held why none = absurd why.0
 stopped most Makes Refuses (SheetRefused fault) input output held why none = (tt, why.1, none)
+stopped most Makes Refuses (NoItem fault) input output held why none = (tt, why.1, none)
+stopped most Makes Refuses (DocRefused fault) input output held why none = (tt, why.1, none)
 stopped most Makes Refuses (LogRefused fault) input output held why none = (tt, why.1, none)
 stopped most Makes Refuses ReadFault input output held why none = (why, none)
 stopped most Makes Refuses WriteFault input output held why none = absurd why.0
@@ -28,6 +30,8 @@ pub wrote : (most : ℕ) (Makes : (read text : List ℕ) (held : Option PairsPar
 wrote most Makes Refuses answer Done input output made written = record { read = made.0; text = answer.text.items; all_read = made.1; made = made.2; added = written }
 wrote most Makes Refuses answer Usage input output made written = absurd written
 wrote most Makes Refuses answer (SheetRefused fault) input output made written = absurd written
+wrote most Makes Refuses answer (NoItem fault) input output made written = absurd written
+wrote most Makes Refuses answer (DocRefused fault) input output made written = absurd written
 wrote most Makes Refuses answer (LogRefused fault) input output made written = absurd written
 wrote most Makes Refuses answer ReadFault input output made written = absurd written
 wrote most Makes Refuses answer WriteFault input output made written = record { read = made.0; text = answer.text.items; all_read = made.1; made = made.2; front = written }
@@ -48,6 +52,8 @@ refuses_of most Makes Refuses wanted Done (Some bytes) left' n n' output held do
     absurd (unmade does.read does.text held does.made (subst (Refuses wanted) does.all_read.0 has))
 refuses_of most Makes Refuses wanted Usage (Some bytes) left' n n' output held does unmade one has sure = absurd does.0
 refuses_of most Makes Refuses wanted (SheetRefused fault) (Some bytes) left' n n' output held does unmade one has sure = inl (one bytes (SheetRefused fault) does.1.0 has)
+refuses_of most Makes Refuses wanted (NoItem fault) (Some bytes) left' n n' output held does unmade one has sure = inl (one bytes (NoItem fault) does.1.0 has)
+refuses_of most Makes Refuses wanted (DocRefused fault) (Some bytes) left' n n' output held does unmade one has sure = inl (one bytes (DocRefused fault) does.1.0 has)
 refuses_of most Makes Refuses wanted (LogRefused fault) (Some bytes) left' n n' output held does unmade one has sure = inl (one bytes (LogRefused fault) does.1.0 has)
 refuses_of most Makes Refuses wanted ReadFault (Some bytes) left' n n' output held does unmade one has sure = absurd (sure does.0)
 refuses_of most Makes Refuses wanted WriteFault (Some bytes) left' n n' output held does unmade one has sure =
@@ -72,6 +78,8 @@ completes_of most Makes Refuses status None left' n n' output held does none sur
 completes_of most Makes Refuses Done (Some bytes) left' n n' output held does none sure safe = inl refl
 completes_of most Makes Refuses Usage (Some bytes) left' n n' output held does none sure safe = absurd does.0
 completes_of most Makes Refuses (SheetRefused fault) (Some bytes) left' n n' output held does none sure safe = absurd (none (SheetRefused fault) does.1.0)
+completes_of most Makes Refuses (NoItem fault) (Some bytes) left' n n' output held does none sure safe = absurd (none (NoItem fault) does.1.0)
+completes_of most Makes Refuses (DocRefused fault) (Some bytes) left' n n' output held does none sure safe = absurd (none (DocRefused fault) does.1.0)
 completes_of most Makes Refuses (LogRefused fault) (Some bytes) left' n n' output held does none sure safe = absurd (none (LogRefused fault) does.1.0)
 completes_of most Makes Refuses ReadFault (Some bytes) left' n n' output held does none sure safe = absurd (sure does.0)
 completes_of most Makes Refuses WriteFault (Some bytes) left' n n' output held does none sure safe = absurd (safe does.front.0)
@@ -95,6 +103,8 @@ pub untold : (most : ℕ) (Makes : (read text : List ℕ) (held : Option PairsPa
 untold most Makes Refuses Done input output held is does = absurd is
 untold most Makes Refuses Usage input output held is does = absurd is
 untold most Makes Refuses (SheetRefused fault) input output held is does = does.2
+untold most Makes Refuses (NoItem fault) input output held is does = does.2
+untold most Makes Refuses (DocRefused fault) input output held is does = does.2
 untold most Makes Refuses (LogRefused fault) input output held is does = does.2
 untold most Makes Refuses ReadFault input output held is does = absurd is
 untold most Makes Refuses WriteFault input output held is does = absurd is

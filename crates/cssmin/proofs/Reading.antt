@@ -8,7 +8,7 @@ use Rattle.cssmin.specs.Change.{Change}
 use Rattle.cssmin.specs.Status.{IsRefusal}
 use Rattle.cssmin.specs.Tasks.{IsAnswered, IsRefused, Reads}
 use Rattle.cssmin.specs.declared.status.Status.{Status}
-use Rattle.cssmin.specs.declared.status.Status.TheVariants.{Done, Usage, SheetRefused, LogRefused, ReadFault, WriteFault, NoMemory}
+use Rattle.cssmin.specs.declared.status.Status.TheVariants.{Done, Usage, SheetRefused, NoItem, DocRefused, LogRefused, ReadFault, WriteFault, NoMemory}
 use Rattle.cssmin.specs.declared.tasks.Answer.{Answer}
 
 -- all that was left was taken, where it is within the limit
@@ -33,6 +33,8 @@ pub reads_too_long : (most : ℕ) (Makes : (read text : List ℕ) (held : Option
 reads_too_long most Makes Refuses Done left left' n n' is cause taken = absurd is
 reads_too_long most Makes Refuses Usage left left' n n' is cause taken = absurd is
 reads_too_long most Makes Refuses (SheetRefused fault) left left' n n' is cause taken = (tt, long_read most (Refuses (SheetRefused fault)) left left' cause taken)
+reads_too_long most Makes Refuses (NoItem fault) left left' n n' is cause taken = (tt, long_read most (Refuses (NoItem fault)) left left' cause taken)
+reads_too_long most Makes Refuses (DocRefused fault) left left' n n' is cause taken = (tt, long_read most (Refuses (DocRefused fault)) left left' cause taken)
 reads_too_long most Makes Refuses (LogRefused fault) left left' n n' is cause taken = (tt, long_read most (Refuses (LogRefused fault)) left left' cause taken)
 reads_too_long most Makes Refuses ReadFault left left' n n' is cause taken = absurd is
 reads_too_long most Makes Refuses WriteFault left left' n n' is cause taken = absurd is
@@ -59,6 +61,8 @@ reads_answered most Makes Refuses (Ok answer) read left left' n n' all short is 
 reads_answered most Makes Refuses (Err Done) read left left' n n' all short is = absurd is.0
 reads_answered most Makes Refuses (Err Usage) read left left' n n' all short is = absurd is.0
 reads_answered most Makes Refuses (Err (SheetRefused fault)) read left left' n n' all short is = (tt, refused_read most (Refuses (SheetRefused fault)) left left' read all short is.1)
+reads_answered most Makes Refuses (Err (NoItem fault)) read left left' n n' all short is = (tt, refused_read most (Refuses (NoItem fault)) left left' read all short is.1)
+reads_answered most Makes Refuses (Err (DocRefused fault)) read left left' n n' all short is = (tt, refused_read most (Refuses (DocRefused fault)) left left' read all short is.1)
 reads_answered most Makes Refuses (Err (LogRefused fault)) read left left' n n' all short is = (tt, refused_read most (Refuses (LogRefused fault)) left left' read all short is.1)
 reads_answered most Makes Refuses (Err ReadFault) read left left' n n' all short is = absurd is.0
 reads_answered most Makes Refuses (Err WriteFault) read left left' n n' all short is = absurd is.0

@@ -5,12 +5,14 @@ use Rattle.cssmin.specs.Change.{Change}
 use Rattle.cssmin.specs.Commands.Cmp.{CmpDoes, IsAnswer}
 use Rattle.cssmin.specs.Writing.{Writes, WritesSome}
 use Rattle.cssmin.specs.declared.status.Status.{Status}
-use Rattle.cssmin.specs.declared.status.Status.TheVariants.{Done, Usage, SheetRefused, LogRefused, ReadFault, WriteFault, NoMemory}
+use Rattle.cssmin.specs.declared.status.Status.TheVariants.{Done, Usage, SheetRefused, NoItem, DocRefused, LogRefused, ReadFault, WriteFault, NoMemory}
 
 pub wrote_some : (kind : List ℕ → Type 0) (text : List ℕ) (status : Status) (output : Change) → kind text → Writes text status output → WritesSome kind status output
 wrote_some kind text Done output is wrote = (text, is, wrote)
 wrote_some kind text Usage output is wrote = absurd wrote
 wrote_some kind text (SheetRefused fault) output is wrote = absurd wrote
+wrote_some kind text (NoItem fault) output is wrote = absurd wrote
+wrote_some kind text (DocRefused fault) output is wrote = absurd wrote
 wrote_some kind text (LogRefused fault) output is wrote = absurd wrote
 wrote_some kind text ReadFault output is wrote = absurd wrote
 wrote_some kind text WriteFault output is wrote = (text, is, wrote)
@@ -21,6 +23,8 @@ pub wrote_answer : (left right : List ℕ) (budget : Option ℕ) (held : Option 
 wrote_answer left right budget held text Done output is wrote = (text, is, wrote)
 wrote_answer left right budget held text Usage output is wrote = absurd wrote
 wrote_answer left right budget held text (SheetRefused fault) output is wrote = absurd wrote
+wrote_answer left right budget held text (NoItem fault) output is wrote = absurd wrote
+wrote_answer left right budget held text (DocRefused fault) output is wrote = absurd wrote
 wrote_answer left right budget held text (LogRefused fault) output is wrote = absurd wrote
 wrote_answer left right budget held text ReadFault output is wrote = absurd wrote
 wrote_answer left right budget held text WriteFault output is wrote = (text, is, wrote)

@@ -3,3 +3,5 @@ pub mod Check
 pub mod Cmp
 pub mod Dead
 pub mod Min
+pub mod Style
+pub mod Why

@@ -3,7 +3,7 @@ use Rattle.std.specs.Prelude.{◌≡◌, ◌⊎◌, ◌↔◌, ℕ, ◌<◌, fal
 use Rattle.css_io.specs.Io.{Rose, last_count}
 use Rattle.css_model.specs.declared.fault.SheetFault.{SheetFault}
 use Rattle.css_model.specs.Sheets.Limits.{max_bytes}
-use Rattle.command_words.specs.Forms.{Form, Min, Dead, Cmp, Check, form_of}
+use Rattle.command_words.specs.Forms.{Form, Min, Style, Dead, Cmp, Check, Why, form_of}
 use Rattle.minify.specs.Minified.{HasFault, HasNoFault}
 use Rattle.overlap.specs.PairsParts.{PairsParts}
 use Rattle.cssmin.specs.Change.{Change, HasFailed}
@@ -11,6 +11,8 @@ use Rattle.cssmin.specs.Commands.Check.{CheckDoes, CheckRefuses}
 use Rattle.cssmin.specs.Commands.Cmp.{CmpDoes}
 use Rattle.cssmin.specs.Commands.Dead.{DeadDoes}
 use Rattle.cssmin.specs.Commands.Min.{Minifies, MinDoes, MinRefuses}
+use Rattle.cssmin.specs.Commands.Style.{StyleDoes, StyleRefuses}
+use Rattle.cssmin.specs.Commands.Why.{WhyDoes, WhyRefuses}
 use Rattle.cssmin.specs.Run.{Ran, needs_input}
 use Rattle.cssmin.specs.Tasks.{Began, Did, IsRefused}
 use Rattle.cssmin.specs.declared.status.Status.{Status}
@@ -39,6 +41,14 @@ CheckDoesItsWord = (words : List (List ℕ)) (status : Status) (input output err
 -- words that ask for it do what `dead` says
 abbrev pub DeadDoesItsWord : Type 0
 DeadDoesItsWord = (words : List (List ℕ)) (budget : Option ℕ) (status : Status) (input output err : Change) (held : Option PairsParts) → Ran words status input output err held → form_of words ≡ Some (Dead budget) → DeadDoes budget status input output held
+
+-- words that ask for it do what `style` says
+abbrev pub StyleDoesItsWord : Type 0
+StyleDoesItsWord = (words : List (List ℕ)) (status : Status) (input output err : Change) (held : Option PairsParts) → Ran words status input output err held → form_of words ≡ Some Style → StyleDoes status input output held
+
+-- words that ask for it do what `why` says
+abbrev pub WhyDoesItsWord : Type 0
+WhyDoesItsWord = (words : List (List ℕ)) (from to : ℕ) (budget : Option ℕ) (status : Status) (input output err : Change) (held : Option PairsParts) → Ran words status input output err held → form_of words ≡ Some (Why from to budget) → WhyDoes from to budget status input output held
 
 -- ---- `min`, by its status
 
@@ -89,6 +99,18 @@ abbrev pub SheetIsTold : Type 0
 SheetIsTold =
     (words : List (List ℕ)) (budget : Option ℕ) (status : Status) (input output err : Change) (held : Option PairsParts) → Ran words status input output err held
     → form_of words ≡ Some (Dead budget) → IsSomeAnd input.old (λ read. (other : Status) → MinRefuses other read → ⊥) → (HasFailed input → ⊥) → (HasFailed output → ⊥) → (status ≡ Done) ⊎ (status ≡ NoMemory)
+
+-- a page and a sheet that are not refused are told of, where no read or write failed and the memory sufficed
+abbrev pub PageIsTold : Type 0
+PageIsTold =
+    (words : List (List ℕ)) (status : Status) (input output err : Change) (held : Option PairsParts) → Ran words status input output err held
+    → form_of words ≡ Some Style → IsSomeAnd input.old (λ read. (other : Status) → StyleRefuses other read → ⊥) → (HasFailed input → ⊥) → (HasFailed output → ⊥) → (status ≡ Done) ⊎ (status ≡ NoMemory)
+
+-- a move that is not refused is explained, where no read or write failed and the memory sufficed
+abbrev pub MoveIsExplained : Type 0
+MoveIsExplained =
+    (words : List (List ℕ)) (from to : ℕ) (budget : Option ℕ) (status : Status) (input output err : Change) (held : Option PairsParts) → Ran words status input output err held
+    → form_of words ≡ Some (Why from to budget) → IsSomeAnd input.old (λ read. (other : Status) → WhyRefuses from to other read → ⊥) → (HasFailed input → ⊥) → (HasFailed output → ⊥) → (status ≡ Done) ⊎ (status ≡ NoMemory)
 
 -- what needs no input is done, where no write failed and the memory sufficed
 abbrev pub OthersAreDone : Type 0

@@ -1,7 +1,7 @@
 -- What a run of the program did, by what its words ask for and its status.
 use Rattle.std.specs.Prelude.{◌≡◌, ℕ, ◌+◌, Bool, true, false, List, Option, Some, None}
 use Rattle.command_texts.specs.Texts.{EndsLine, version_text}
-use Rattle.command_words.specs.Forms.{Form, Min, Dead, Cmp, Check, Help, Version, form_of}
+use Rattle.command_words.specs.Forms.{Form, Min, Style, Dead, Cmp, Check, Why, Help, Version, form_of}
 use Rattle.css_model.specs.Sheets.Limits.{max_bytes}
 use Rattle.log_text.specs.CheckedTexts.{max_log_bytes}
 use Rattle.overlap.specs.PairsParts.{PairsParts}
@@ -10,6 +10,8 @@ use Rattle.cssmin.specs.Commands.Check.{CheckDoes}
 use Rattle.cssmin.specs.Commands.Cmp.{CmpDoes}
 use Rattle.cssmin.specs.Commands.Dead.{DeadDoes}
 use Rattle.cssmin.specs.Commands.Min.{MinDoes}
+use Rattle.cssmin.specs.Commands.Style.{StyleDoes}
+use Rattle.cssmin.specs.Commands.Why.{WhyDoes}
 use Rattle.cssmin.specs.Telling.{Tells}
 use Rattle.cssmin.specs.Writing.{WritesSome}
 use Rattle.cssmin.specs.declared.status.Status.{Status}
@@ -20,8 +22,10 @@ use Rattle.cssmin.specs.declared.status.Status.TheVariants.{Usage}
 abbrev pub Outcome : Form → Status → (input output : Change) → (held : Option PairsParts) → Type 0
 Outcome Min status input output held = MinDoes status input output held
 Outcome (Dead budget) status input output held = DeadDoes budget status input output held
+Outcome Style status input output held = StyleDoes status input output held
 Outcome (Cmp left right budget) status input output held = CmpDoes left right budget status output held
 Outcome Check status input output held = CheckDoes status input output held
+Outcome (Why from to budget) status input output held = WhyDoes from to budget status input output held
 Outcome (Help about) status input output held = WritesSome EndsLine status output × (held ≡ None)
 Outcome Version status input output held = WritesSome (λ text. text ≡ version_text) status output × (held ≡ None)
 
@@ -35,8 +39,10 @@ abbrev pub needs_input : Option Form → Bool
 needs_input None = false
 needs_input (Some Min) = true
 needs_input (Some (Dead budget)) = true
+needs_input (Some Style) = true
 needs_input (Some (Cmp left right budget)) = false
 needs_input (Some Check) = true
+needs_input (Some (Why from to budget)) = true
 needs_input (Some (Help about)) = false
 needs_input (Some Version) = false
 

@@ -4,8 +4,9 @@ use Rattle.command_texts.specs.Texts.{EndsLine}
 use Rattle.css_model.specs.Sheets.Fault.{fault_text}
 use Rattle.cssmin.specs.declared.status.LogFault.{LogFault}
 use Rattle.cssmin.specs.declared.status.LogFault.TheVariants.{TooLong, BadLine}
+use Rattle.style_text.specs.Messages.{doc_fault_text}
 use Rattle.cssmin.specs.declared.status.Status.{Status}
-use Rattle.cssmin.specs.declared.status.Status.TheVariants.{Done, Usage, SheetRefused, LogRefused, ReadFault, WriteFault, NoMemory}
+use Rattle.cssmin.specs.declared.status.Status.TheVariants.{Done, Usage, SheetRefused, NoItem, DocRefused, LogRefused, ReadFault, WriteFault, NoMemory}
 
 abbrev pub number_of : Status → ℕ
 number_of Done = 0
@@ -14,6 +15,8 @@ number_of (SheetRefused fault) = 3
 number_of ReadFault = 4
 number_of WriteFault = 5
 number_of NoMemory = 6
+number_of (NoItem number) = 7
+number_of (DocRefused fault) = 9
 number_of (LogRefused fault) = 8
 
 -- why a log is refused
@@ -28,12 +31,16 @@ IsMessage Done text = text ≡ []
 IsMessage Usage text = EndsLine text
 IsMessage (SheetRefused fault) text = text ≡ codes "refused: " ++ fault_text fault ++ 10 ∷ []
 IsMessage (LogRefused fault) text = text ≡ codes "log refused: " ++ log_fault_text fault ++ 10 ∷ []
+IsMessage (NoItem number) text = text ≡ codes "no item " ++ decimal number ++ 10 ∷ []
 IsMessage ReadFault text = text ≡ codes "read fault" ++ 10 ∷ []
 IsMessage WriteFault text = text ≡ codes "write fault" ++ 10 ∷ []
+IsMessage (DocRefused fault) text = text ≡ codes "document refused: " ++ doc_fault_text fault ++ 10 ∷ []
 IsMessage NoMemory text = text ≡ codes "out of memory" ++ 10 ∷ []
 
 -- a status that tells why the input is refused
 abbrev pub IsRefusal : Status → Type 0
 IsRefusal (SheetRefused fault) = Unit {0}
+IsRefusal (NoItem number) = Unit {0}
+IsRefusal (DocRefused fault) = Unit {0}
 IsRefusal (LogRefused fault) = Unit {0}
 IsRefusal status = ⊥

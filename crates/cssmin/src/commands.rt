@@ -5,3 +5,5 @@ pub(crate) mod check;
 pub(crate) mod cmp;
 pub(crate) mod dead;
 pub(crate) mod min;
+pub(crate) mod style;
+pub(crate) mod why;

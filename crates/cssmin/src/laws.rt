@@ -7,6 +7,8 @@ pub(crate) fn words_decide_usage()
     ensures usage { laws.OtherWordsAreUsage }
     ensures min { laws.MinDoesItsWord }
     ensures cmp { laws.CmpDoesItsWord }
+    ensures why { laws.WhyDoesItsWord }
+    ensures style { laws.StyleDoesItsWord }
     ensures dead { laws.DeadDoesItsWord }
     ensures check { laws.CheckDoesItsWord }
 {}
@@ -26,6 +28,8 @@ pub(crate) fn each_sheet_has_its_status()
     ensures complete { laws.FaultlessIsDone }
     ensures checked { laws.LogIsChecked }
     ensures told_dead { laws.SheetIsTold }
+    ensures told_style { laws.PageIsTold }
+    ensures told_why { laws.MoveIsExplained }
     ensures others { laws.OthersAreDone }
 {}
 

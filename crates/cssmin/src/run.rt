@@ -12,6 +12,8 @@ use crate::commands::check::Check;
 use crate::commands::cmp::cmp;
 use crate::commands::dead::Dead;
 use crate::commands::min::Min;
+use crate::commands::style::Style;
+use crate::commands::why::Why;
 use crate::status::Status;
 use crate::tasks::perform;
 use crate::telling::{tell, tell_no_memory};
@@ -43,6 +45,7 @@ fn obey<S: Source, O: Sink>(
     match command {
         Some(Command::Min) => perform(alloc, &Min, input, out, held),
         Some(Command::Dead { budget }) => perform(alloc, &Dead { budget }, input, out, held),
+        Some(Command::Style) => perform(alloc, &Style, input, out, held),
         Some(
             Command::Cmp {
                 left,
@@ -51,6 +54,9 @@ fn obey<S: Source, O: Sink>(
             },
         ) => cmp(alloc, left, right, budget, out, held),
         Some(Command::Check) => perform(alloc, &Check, input, out, held),
+        Some(Command::Why { from, to, budget }) => {
+            perform(alloc, &Why { from, to, budget }, input, out, held)
+        }
         Some(Command::Help(about)) => help(alloc, about, out),
         Some(Command::Version) => version(alloc, out),
         None => Status::Usage,
@@ -60,9 +66,11 @@ fn obey<S: Source, O: Sink>(
 #[tactic(auto, using(crate::proofs::Forms::answered))]
 /// Runs the program on the words after its name. `min` reads a style sheet from `input` to its end, and writes
 /// it to `out` with the same winners of the cascade, in no more bytes. `dead` reads one too, and writes to `out` which
-/// of its selectors match nothing. `cmp LEFT RIGHT` compares two selectors,
+/// of its selectors match nothing. `style` reads a document and a
+/// sheet, and writes to `out` which declarations win. `cmp LEFT RIGHT` compares two selectors,
 /// and writes to `out` whether one element can match both. `check` reads a log, and writes to `out` whether it
-/// refutes its formula. Words that ask for help or the version have it
+/// refutes its formula. `why FROM TO` reads a sheet, and writes to `out` what hinders the move of one rule to another;
+/// `NoItem` comes exactly where there is no item of one of these numbers. Words that ask for help or the version have it
 /// written to `out`. What else happened is told on `err`.
 ///
 /// `Usage` comes exactly of words that have no form. A sheet with a fault is refused (`SheetRefused`), and so is

@@ -7,6 +7,7 @@ ghost use Rattle.cssmin.specs.Status.{number_of};
 
 use css_model::{FaultKind, MAX_BYTES, SheetFault};
 use std::process::ExitCode;
+use style_text::DocFault;
 
 /// Why a log is refused.
 #[derive(Clone, Copy, Debug, PartialEq, Eq)]
@@ -32,12 +33,16 @@ pub enum Status {
     WriteFault,
     /// There was not enough memory. Nothing was written to the output.
     NoMemory,
+    /// The sheet has no item of this number.
+    NoItem(u32),
+    /// The text of a document has a fault.
+    DocRefused(DocFault),
     /// The log has a fault.
     LogRefused(LogFault),
 }
 
 impl Status {
-    /// The number of the status: 0, 2 to 6, or 8.
+    /// The number of the status: 0, or 2 to 9.
     pub fn number(&self) -> u8
         ensures { result ≡ number_of self.now }
     {
@@ -48,6 +53,8 @@ impl Status {
             Status::ReadFault => 4,
             Status::WriteFault => 5,
             Status::NoMemory => 6,
+            Status::NoItem(_) => 7,
+            Status::DocRefused(_) => 9,
             Status::LogRefused(_) => 8,
         }
     }

@@ -10,6 +10,7 @@ use command_texts::refusal_text;
 use css_io::{Sink, write_all};
 use css_model::SheetFault;
 use std::alloc::{AllocError, Global};
+use style_text::DocFault;
 
 /// The line that names the fault of a sheet.
 fn refusal(alloc: Global, fault: SheetFault) -> Result<String, AllocError>
@@ -26,6 +27,20 @@ fn log_refusal(alloc: Global, fault: LogFault) -> Result<String, AllocError>
         LogFault::TooLong => String::from_str(alloc, "log refused: too long\n"),
         LogFault::BadLine(line) => format!(in alloc; "log refused: line {line}\n"),
     }
+}
+
+/// The line that names the fault of a document.
+fn doc_refusal(alloc: Global, fault: DocFault) -> Result<String, AllocError>
+    ensures { IfOk result (λ text. IsMessage (Status.DocRefused fault) (string_bytes text)) }
+{
+    format!(in alloc; "document refused: {fault}\n")
+}
+
+/// The line that names the number that no item has.
+fn item_refusal(alloc: Global, number: u32) -> Result<String, AllocError>
+    ensures { IfOk result (λ text. IsMessage (Status.NoItem number) (string_bytes text)) }
+{
+    format!(in alloc; "no item {number}\n")
 }
 
 /// Writes a text, as far as that goes.
@@ -96,6 +111,8 @@ pub(crate) fn tell<E: Sink>(
         Status::Usage => tell_usage(alloc, words, err),
         Status::SheetRefused(fault) => return tell_refusal(refusal(alloc, fault), status, err),
         Status::LogRefused(fault) => return tell_refusal(log_refusal(alloc, fault), status, err),
+        Status::DocRefused(fault) => return tell_refusal(doc_refusal(alloc, fault), status, err),
+        Status::NoItem(number) => return tell_refusal(item_refusal(alloc, number), status, err),
         Status::ReadFault => tell_text(b"read fault\n", err),
         Status::WriteFault => tell_text(b"write fault\n", err),
         Status::NoMemory => return tell_no_memory(err),

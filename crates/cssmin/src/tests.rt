@@ -11,6 +11,7 @@ use std::io;
 use std::io::ErrorKind;
 use std::process::Abort;
 use std::test::Fail;
+use style_text::DocFault;
 
 const SHEET: &[u8] = b"a { color : red ; }";
 
@@ -221,6 +222,8 @@ fn tells_of_itself(rt: HostRuntime) -> Result<(), Fail> {
         "min -h",
         "cmp --help",
         "cmp -h",
+        "why --help",
+        "style --help",
         "dead --help",
         "check --help",
     ] {
@@ -319,6 +322,39 @@ fn tells_which_selectors_match_nothing(rt: HostRuntime) -> Result<(), Fail> {
     let ran = run_over(rt.alloc(), "dead", b"\xff", Outside::faultless())?;
     let refused = Status::SheetRefused(fault(FaultKind::NotUtf8, 0));
     ran.assert_is(&rt, refused, b"", b"refused: NotUtf8 at 0\n");
+    Ok(())
+}
+
+#[test]
+fn tells_which_declarations_win(rt: HostRuntime) -> Result<(), Fail> {
+    let page = b"child 0 pseudo none\n0 1 - x\n1 4000000000 - li\n1 1 * li class=k\n\n\
+li{color:red}li+li{color:blue}.k{top:0}li:nth-child(odd){color:green}.k{top:1px}";
+    let ran = run_over(rt.alloc(), "style", page, Outside::faultless())?;
+    let lines = b"kept 0\ncolor:green 0,1,1\ntop:1px 0,1,0\n";
+    ran.assert_is(&rt, Status::Done, lines, b"");
+    let ran = run_over(rt.alloc(), "style", b"x", Outside::faultless())?;
+    let refused = Status::DocRefused(DocFault::BadLine(1));
+    ran.assert_is(&rt, refused, b"", b"document refused: line 1\n");
+    Ok(())
+}
+
+#[test]
+fn tells_why_a_rule_may_not_be_moved(rt: HostRuntime) -> Result<(), Fail> {
+    let sheet = b".a{top:0}.b{top:1px}.a{top:2px}@x;";
+    for (line, text) in [
+        (
+            "why 3 1",
+            &b"blocked\n.a{top:2px}\n.b{top:1px}\nchild 0 pseudo none\n0 1 - x\n1 1 * x class=a%20b\n"[..],
+        ),
+        ("why 1 1", b"free\n"),
+        ("why 4 1", b"kept 4\n"),
+    ] {
+        let ran = run_over(rt.alloc(), line, sheet, Outside::faultless())?;
+        ran.assert_is(&rt, Status::Done, text, b"");
+        assert!(rt; ran.held.is_some(), "{line}");
+    }
+    let ran = run_over(rt.alloc(), "why 1 5", sheet, Outside::faultless())?;
+    ran.assert_is(&rt, Status::NoItem(5), b"", b"no item 5\n");
     Ok(())
 }
 

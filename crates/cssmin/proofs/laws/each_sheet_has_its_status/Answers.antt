@@ -1,4 +1,4 @@
-use Rattle.cssmin.proofs.Forms.{told_dead, checked, completed, others_done, refused_for}
+use Rattle.cssmin.proofs.Forms.{told_why, told_style, told_dead, checked, completed, others_done, refused_for}
 use Rattle.cssmin.proofs.laws.each_sheet_has_its_status.Goals as goal
 
 pub returns-clause-refuses : goal.returns-clause-refuses
@@ -15,3 +15,9 @@ returns-clause-checked c = checked
 
 pub returns-clause-told_dead : goal.returns-clause-told_dead
 returns-clause-told_dead c = told_dead
+
+pub returns-clause-told_style : goal.returns-clause-told_style
+returns-clause-told_style c = told_style
+
+pub returns-clause-told_why : goal.returns-clause-told_why
+returns-clause-told_why c = told_why

@@ -1,4 +1,4 @@
-use Rattle.cssmin.proofs.Forms.{dead_did, check_did, cmp_did, min_did, usage_is}
+use Rattle.cssmin.proofs.Forms.{why_did, style_did, dead_did, check_did, cmp_did, min_did, usage_is}
 use Rattle.cssmin.proofs.laws.words_decide_usage.Goals as goal
 
 pub returns-clause-usage : goal.returns-clause-usage
@@ -15,3 +15,9 @@ returns-clause-check c = check_did
 
 pub returns-clause-dead : goal.returns-clause-dead
 returns-clause-dead c = dead_did
+
+pub returns-clause-style : goal.returns-clause-style
+returns-clause-style c = style_did
+
+pub returns-clause-why : goal.returns-clause-why
+returns-clause-why c = why_did
