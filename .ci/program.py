@@ -159,6 +159,9 @@ def try_pairs(tries):
 def try_logs(tries):
     log = b"vars 2 clauses 4\n1 2 0\n1 -2 0\n-1 2 0\n-1 -2 0\n1 0\n0\n"
     tries.check_read("a log", ["check"], log, 0, b"yes\n", b"", len(log))
+    written = tries.run(["cmp", "--log", ":nth-child(2n)+p", ":nth-child(2n)"], b"").stdout
+    tries.check_read("a log of two selectors", ["check"], written, 0, b"yes\n", b"", len(written))
+    tries.check_read("no log of two selectors", ["cmp", "--log", "a:link", "a:visited"], SHEET, 0, b"disjoint\n", b"", 0)
     short = log.replace(b"\n1 0\n", b"\n")
     tries.check_read("a log without a step", ["check"], short, 0, b"no 1\n", b"", len(short))
     bad = b"vars 1 clauses 1\n2 0\n"

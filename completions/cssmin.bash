@@ -6,7 +6,8 @@ _cssmin() {
     else
         case $command in
             min|style|check) words='--help' ;;
-            cmp|dead|why) words='--budget --help' ;;
+            cmp) words='--budget --log --help' ;;
+            dead|why) words='--budget --help' ;;
         esac
     fi
     COMPREPLY=($(compgen -W "$words" -- "${COMP_WORDS[COMP_CWORD]}"))

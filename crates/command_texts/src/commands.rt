@@ -1,6 +1,6 @@
 //! The commands of the program, as `clap` describes them.
 
-use clap::{Arg, Command, value_parser};
+use clap::{Arg, ArgAction, Command, value_parser};
 use command_words::MOST_BUDGET;
 use std::alloc::{AllocError, Global};
 
@@ -87,12 +87,17 @@ fn cmp_command<'a>(alloc: Global) -> Result<Command<'a>, AllocError> {
         .required(true)
         .help("A selector, which does not begin with `-`");
     let right = Arg::new(alloc, "RIGHT").required(true).help("Another one");
+    let log = Arg::new(alloc, "log")
+        .long("log")
+        .action(ArgAction::SetTrue)
+        .help("Write a log for `cssmin check` in the place of `disjoint`, where there is one");
     Command::new(alloc, "cmp")
         .about("Tell whether one element can match two selectors")
         .after_help(CMP_HELP)
         .arg(left)?
         .arg(right)?
-        .arg(budget(alloc))
+        .arg(budget(alloc))?
+        .arg(log)
 }
 
 const CHECK_HELP: &str = "\

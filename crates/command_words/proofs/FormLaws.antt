@@ -2,7 +2,7 @@
 use Rattle.std.proofs.Common.{◌≡◌, ◌↔◌, ℕ, List, [], ◌∷◌, Bool, true, false, cond, not, ◌&&◌, ◌||◌, ◌==◌, Option, Some, None, refl, sym, ◌∙◌, ap, subst}
 use Rattle.std.specs.Cmp.Lexicographic.{bytes_decides}
 use Rattle.std.specs.Prelude.{codes, drop, take}
-use Rattle.command_words.specs.Forms.{Arguments, Min, Cmp, Help, Version, alone, arguments, moved, most_number, arguments_of, asked, asks_help, command_named, form_of, is_help, is_operand, is_word, most_budget, named, number_up_to, with_budget, with_operand, with_word, with_words}
+use Rattle.command_words.specs.Forms.{Arguments, Min, Cmp, Help, Version, alone, arguments, moved, most_number, arguments_of, asked, asks_help, command_named, form_of, is_help, is_operand, is_word, most_budget, named, number_up_to, with_budget, with_log, with_operand, with_other_word, with_word, with_words}
 use Rattle.command_words.specs.declared.command.Topic.{Topic}
 use Rattle.command_words.specs.declared.command.Topic.TheVariants as topic
 
@@ -10,27 +10,39 @@ use Rattle.command_words.specs.declared.command.Topic.TheVariants as topic
 
 -- nothing stands behind the name of a command
 abbrev bare : Option Arguments
-bare = Some (arguments [] None)
+bare = Some (arguments [] None false)
 
 operand_is_not_bare : (word : List ℕ) (before : Option Arguments) → with_operand word before ≡ bare → ⊥
 operand_is_not_bare word None is = absurd (let bad : ⊥ = cc in bad)
-operand_is_not_bare word (Some (arguments [] budget)) is = absurd (let bad : ⊥ = cc in bad)
-operand_is_not_bare word (Some (arguments (first ∷ []) budget)) is = absurd (let bad : ⊥ = cc in bad)
-operand_is_not_bare word (Some (arguments (first ∷ second ∷ more) budget)) is = absurd (let bad : ⊥ = cc in bad)
+operand_is_not_bare word (Some (arguments [] budget log)) is = absurd (let bad : ⊥ = cc in bad)
+operand_is_not_bare word (Some (arguments (first ∷ []) budget log)) is = absurd (let bad : ⊥ = cc in bad)
+operand_is_not_bare word (Some (arguments (first ∷ second ∷ more) budget log)) is = absurd (let bad : ⊥ = cc in bad)
 
 budget_is_not_bare : (number : Option ℕ) (before : Option Arguments) → with_budget number before ≡ bare → ⊥
 budget_is_not_bare None before is = absurd (let bad : ⊥ = cc in bad)
 budget_is_not_bare (Some number) None is = absurd (let bad : ⊥ = cc in bad)
-budget_is_not_bare (Some number) (Some (arguments operands None)) is = absurd (let bad : ⊥ = cc in bad)
-budget_is_not_bare (Some number) (Some (arguments operands (Some other))) is = absurd (let bad : ⊥ = cc in bad)
+budget_is_not_bare (Some number) (Some (arguments operands None log)) is = absurd (let bad : ⊥ = cc in bad)
+budget_is_not_bare (Some number) (Some (arguments operands (Some other) log)) is = absurd (let bad : ⊥ = cc in bad)
 
-word_is_not_bare : (word : List ℕ) (before : Option Arguments) → with_word word before ≡ bare → ⊥
-word_is_not_bare word before is = by (is_word (take 9 word) (codes "--budget=")) (is_operand word) is
+log_is_not_bare : (before : Option Arguments) → with_log before ≡ bare → ⊥
+log_is_not_bare None is = absurd (let bad : ⊥ = cc in bad)
+log_is_not_bare (Some (arguments operands budget false)) is = absurd (let bad : ⊥ = cc in bad)
+log_is_not_bare (Some (arguments operands budget true)) is = absurd (let bad : ⊥ = cc in bad)
+
+other_word_is_not_bare : (word : List ℕ) (before : Option Arguments) → with_other_word word before ≡ bare → ⊥
+other_word_is_not_bare word before is = by (is_word (take 9 word) (codes "--budget=")) (is_operand word) is
   where
     by : (b c : Bool) → cond b (with_budget (number_up_to most_budget (drop 9 word)) before) (cond c (with_operand word before) None) ≡ bare → ⊥
     by true c is = budget_is_not_bare (number_up_to most_budget (drop 9 word)) before is
     by false true is = operand_is_not_bare word before is
     by false false is = absurd (let bad : ⊥ = cc in bad)
+
+word_is_not_bare : (word : List ℕ) (before : Option Arguments) → with_word word before ≡ bare → ⊥
+word_is_not_bare word before is = by (is_word word (codes "--log")) is
+  where
+    by : (b : Bool) → cond b (with_log before) (with_other_word word before) ≡ bare → ⊥
+    by true is = log_is_not_bare before is
+    by false is = other_word_is_not_bare word before is
 
 -- only no words stand for nothing
 words_are_bare : (before : Option Arguments) (words : List (List ℕ)) → with_words before words ≡ bare → (before ≡ bare) × (words ≡ [])
@@ -55,30 +67,35 @@ moved_is_not_min (Some from) (Some to) budget is = absurd (let bad : ⊥ = cc in
 asked_min : (about : Topic) (words : Option Arguments) → asked about words ≡ Some Min → (about ≡ topic.Min) × (words ≡ bare)
 asked_min topic.Program words is = absurd (let bad : ⊥ = cc in bad)
 asked_min topic.Min None is = absurd (let bad : ⊥ = cc in bad)
-asked_min topic.Min (Some (arguments [] None)) is = (refl, refl)
-asked_min topic.Min (Some (arguments [] (Some budget))) is = absurd (let bad : ⊥ = cc in bad)
-asked_min topic.Min (Some (arguments (first ∷ more) budget)) is = absurd (let bad : ⊥ = cc in bad)
+asked_min topic.Min (Some (arguments [] None true)) is = absurd (let bad : ⊥ = cc in bad)
+asked_min topic.Min (Some (arguments [] None false)) is = (refl, refl)
+asked_min topic.Min (Some (arguments [] (Some budget) log)) is = absurd (let bad : ⊥ = cc in bad)
+asked_min topic.Min (Some (arguments (first ∷ more) budget log)) is = absurd (let bad : ⊥ = cc in bad)
 asked_min topic.Dead None is = absurd (let bad : ⊥ = cc in bad)
-asked_min topic.Dead (Some (arguments [] budget)) is = absurd (let bad : ⊥ = cc in bad)
-asked_min topic.Dead (Some (arguments (first ∷ more) budget)) is = absurd (let bad : ⊥ = cc in bad)
+asked_min topic.Dead (Some (arguments [] budget true)) is = absurd (let bad : ⊥ = cc in bad)
+asked_min topic.Dead (Some (arguments [] budget false)) is = absurd (let bad : ⊥ = cc in bad)
+asked_min topic.Dead (Some (arguments (first ∷ more) budget log)) is = absurd (let bad : ⊥ = cc in bad)
 asked_min topic.Style None is = absurd (let bad : ⊥ = cc in bad)
-asked_min topic.Style (Some (arguments [] None)) is = absurd (let bad : ⊥ = cc in bad)
-asked_min topic.Style (Some (arguments [] (Some budget))) is = absurd (let bad : ⊥ = cc in bad)
-asked_min topic.Style (Some (arguments (first ∷ more) budget)) is = absurd (let bad : ⊥ = cc in bad)
+asked_min topic.Style (Some (arguments [] None true)) is = absurd (let bad : ⊥ = cc in bad)
+asked_min topic.Style (Some (arguments [] None false)) is = absurd (let bad : ⊥ = cc in bad)
+asked_min topic.Style (Some (arguments [] (Some budget) log)) is = absurd (let bad : ⊥ = cc in bad)
+asked_min topic.Style (Some (arguments (first ∷ more) budget log)) is = absurd (let bad : ⊥ = cc in bad)
 asked_min topic.Why None is = absurd (let bad : ⊥ = cc in bad)
-asked_min topic.Why (Some (arguments [] budget)) is = absurd (let bad : ⊥ = cc in bad)
-asked_min topic.Why (Some (arguments (from ∷ []) budget)) is = absurd (let bad : ⊥ = cc in bad)
-asked_min topic.Why (Some (arguments (from ∷ to ∷ []) budget)) is = absurd (moved_is_not_min (number_up_to most_number from) (number_up_to most_number to) budget is)
-asked_min topic.Why (Some (arguments (from ∷ to ∷ third ∷ more) budget)) is = absurd (let bad : ⊥ = cc in bad)
+asked_min topic.Why (Some (arguments [] budget log)) is = absurd (let bad : ⊥ = cc in bad)
+asked_min topic.Why (Some (arguments (from ∷ []) budget log)) is = absurd (let bad : ⊥ = cc in bad)
+asked_min topic.Why (Some (arguments (from ∷ to ∷ []) budget true)) is = absurd (let bad : ⊥ = cc in bad)
+asked_min topic.Why (Some (arguments (from ∷ to ∷ []) budget false)) is = absurd (moved_is_not_min (number_up_to most_number from) (number_up_to most_number to) budget is)
+asked_min topic.Why (Some (arguments (from ∷ to ∷ third ∷ more) budget log)) is = absurd (let bad : ⊥ = cc in bad)
 asked_min topic.Cmp None is = absurd (let bad : ⊥ = cc in bad)
-asked_min topic.Cmp (Some (arguments [] budget)) is = absurd (let bad : ⊥ = cc in bad)
-asked_min topic.Cmp (Some (arguments (left ∷ []) budget)) is = absurd (let bad : ⊥ = cc in bad)
-asked_min topic.Cmp (Some (arguments (left ∷ right ∷ []) budget)) is = absurd (let bad : ⊥ = cc in bad)
-asked_min topic.Cmp (Some (arguments (left ∷ right ∷ third ∷ more) budget)) is = absurd (let bad : ⊥ = cc in bad)
+asked_min topic.Cmp (Some (arguments [] budget log)) is = absurd (let bad : ⊥ = cc in bad)
+asked_min topic.Cmp (Some (arguments (left ∷ []) budget log)) is = absurd (let bad : ⊥ = cc in bad)
+asked_min topic.Cmp (Some (arguments (left ∷ right ∷ []) budget log)) is = absurd (let bad : ⊥ = cc in bad)
+asked_min topic.Cmp (Some (arguments (left ∷ right ∷ third ∷ more) budget log)) is = absurd (let bad : ⊥ = cc in bad)
 asked_min topic.Check None is = absurd (let bad : ⊥ = cc in bad)
-asked_min topic.Check (Some (arguments [] None)) is = absurd (let bad : ⊥ = cc in bad)
-asked_min topic.Check (Some (arguments [] (Some budget))) is = absurd (let bad : ⊥ = cc in bad)
-asked_min topic.Check (Some (arguments (first ∷ more) budget)) is = absurd (let bad : ⊥ = cc in bad)
+asked_min topic.Check (Some (arguments [] None true)) is = absurd (let bad : ⊥ = cc in bad)
+asked_min topic.Check (Some (arguments [] None false)) is = absurd (let bad : ⊥ = cc in bad)
+asked_min topic.Check (Some (arguments [] (Some budget) log)) is = absurd (let bad : ⊥ = cc in bad)
+asked_min topic.Check (Some (arguments (first ∷ more) budget log)) is = absurd (let bad : ⊥ = cc in bad)
 
 alone_is_not_min : (word : List ℕ) (words : List (List ℕ)) → alone word words ≡ Some Min → ⊥
 alone_is_not_min word [] is = by (is_help word || is_word word (codes "help")) (is_word word (codes "--version") || is_word word (codes "-V")) is
@@ -126,21 +143,23 @@ min_is_one_word words = (min_only words, λ is. subst (λ (ws : List (List ℕ))
 -- ---- Operands and options
 
 -- a word that may be an operand is no option
-operand_is_no_option : (word : List ℕ) → is_operand word ≡ true → (is_word word (codes "--budget") ≡ false) × (is_word (take 9 word) (codes "--budget=") ≡ false)
-operand_is_no_option [] may = (refl, refl)
+operand_is_no_option : (word : List ℕ) → is_operand word ≡ true
+    → (is_word word (codes "--budget") ≡ false) × (is_word (take 9 word) (codes "--budget=") ≡ false) × (is_word word (codes "--log") ≡ false)
+operand_is_no_option [] may = (refl, refl, refl)
 operand_is_no_option (c ∷ cs) may = by (c == 45) may
   where
-    by : (b : Bool) → not b ≡ true → ((b && is_word cs (codes "-budget")) ≡ false) × ((b && is_word (take 8 cs) (codes "-budget=")) ≡ false)
+    by : (b : Bool) → not b ≡ true → ((b && is_word cs (codes "-budget")) ≡ false) × ((b && is_word (take 8 cs) (codes "-budget=")) ≡ false) × ((b && is_word cs (codes "-log")) ≡ false)
     by true may = absurd (let bad : ⊥ = cc in bad)
-    by false may = (refl, refl)
+    by false may = (refl, refl, refl)
 
 operand_word : (word : List ℕ) (before : Option Arguments) → is_operand word ≡ true → with_word word before ≡ with_operand word before
-operand_word word before may = by _ _ _ _ (operand_is_no_option word may).1 may
+operand_word word before may = let no = operand_is_no_option word may in by _ _ _ _ _ _ no.2 no.1 may
   where
-    by : (b c : Bool) (x y : Option Arguments) → b ≡ false → c ≡ true → cond b x (cond c y None) ≡ y
-    by false true x y p q = refl
-    by true c x y p q = absurd (let bad : ⊥ = cc in bad)
-    by false false x y p q = absurd (let bad : ⊥ = cc in bad)
+    by : (a b c : Bool) (w x y : Option Arguments) → a ≡ false → b ≡ false → c ≡ true → cond a w (cond b x (cond c y None)) ≡ y
+    by false false true w x y p q r = refl
+    by true b c w x y p q r = absurd (let bad : ⊥ = cc in bad)
+    by false true c w x y p q r = absurd (let bad : ⊥ = cc in bad)
+    by false false false w x y p q r = absurd (let bad : ⊥ = cc in bad)
 
 operand_first : (word next : List ℕ) (words : List (List ℕ)) (before : Option Arguments) → is_operand word ≡ true → with_words before (word ∷ next ∷ words) ≡ with_words (with_operand word before) (next ∷ words)
 operand_first word next words before may = by _ _ _ (operand_is_no_option word may).0 ∙ ap (λ (read : Option Arguments). with_words read (next ∷ words)) (operand_word word before may)
@@ -150,6 +169,6 @@ operand_first word next words before may = by _ _ _ (operand_is_no_option word m
     by true x y p = absurd (let bad : ⊥ = cc in bad)
 
 -- two words behind `cmp` are compared
-pub cmp_compares : (left right : List ℕ) → is_operand left ≡ true → is_operand right ≡ true → form_of (codes "cmp" ∷ left ∷ right ∷ []) ≡ Some (Cmp left right None)
+pub cmp_compares : (left right : List ℕ) → is_operand left ≡ true → is_operand right ≡ true → form_of (codes "cmp" ∷ left ∷ right ∷ []) ≡ Some (Cmp left right None false)
 unfolding command_named
 cmp_compares left right p q = ap (asked topic.Cmp) (operand_first left right [] bare p ∙ operand_word right (with_operand left bare) q)

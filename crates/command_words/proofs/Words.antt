@@ -3,7 +3,7 @@ use Rattle.std.proofs.Common.{◌≡◌, ◌≤◌, ◌-◌, ◌+◌, ℕ, List,
 use Rattle.std.proofs.lemmas.Bool.{false≢true}
 use Rattle.std.proofs.lemmas.List.{take_all}
 use Rattle.std.specs.Prelude.{codes}
-use Rattle.command_words.specs.Forms.{Arguments, is_operand, is_word, most_budget, number_up_to, with_budget, with_word, with_words}
+use Rattle.command_words.specs.Forms.{Arguments, is_operand, is_word, most_budget, number_up_to, with_budget, with_other_word, with_word, with_words}
 
 -- what words behind the first ones are read as
 rest_is : {X : Type 0} (rest : List X) (n m : ℕ) → n ≡ m + length rest → take (n - m) rest ≡ rest
@@ -43,13 +43,20 @@ no_budget : (number : Option ℕ) → with_budget number None ≡ None
 no_budget None = refl
 no_budget (Some number) = refl
 
-no_word : (word : List ℕ) → with_word word None ≡ None
-no_word word = by (is_word (take 9 word) (codes "--budget=")) (is_operand word)
+no_other_word : (word : List ℕ) → with_other_word word None ≡ None
+no_other_word word = by (is_word (take 9 word) (codes "--budget=")) (is_operand word)
   where
     by : (b c : Bool) → cond b (with_budget (number_up_to most_budget (drop 9 word)) None) (cond {A = Option Arguments} c None None) ≡ None
     by true c = no_budget (number_up_to most_budget (drop 9 word))
     by false true = refl
     by false false = refl
+
+no_word : (word : List ℕ) → with_word word None ≡ None
+no_word word = by (is_word word (codes "--log"))
+  where
+    by : (b : Bool) → cond {A = Option Arguments} b None (with_other_word word None) ≡ None
+    by true = refl
+    by false = no_other_word word
 
 -- words behind one that does not fit
 pub none_left : (words : List (List ℕ)) → with_words None words ≡ None

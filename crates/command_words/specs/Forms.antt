@@ -11,7 +11,7 @@ pub data Form : Type 0 where
   Min : Form
   Style : Form
   Dead : (budget : Option ℕ) → Form
-  Cmp : (left right : List ℕ) (budget : Option ℕ) → Form
+  Cmp : (left right : List ℕ) (budget : Option ℕ) (log : Bool) → Form
   Check : Form
   Why : (from to : ℕ) (budget : Option ℕ) → Form
   Help : Topic → Form
@@ -48,26 +48,36 @@ number_up_to most word =
 
 -- ---- Operands and options
 
--- What may stand behind the name of a command: operands, in their order, and the budget, if one is named.
+-- What may stand behind the name of a command: operands, in their order, the budget, if one is named, and whether a log
+-- is asked for.
 pub data Arguments : Type 0 where
-  arguments : (operands : List (List ℕ)) (budget : Option ℕ) → Arguments
+  arguments : (operands : List (List ℕ)) (budget : Option ℕ) (log : Bool) → Arguments
 
 -- one operand more; no command takes three
 abbrev pub with_operand : List ℕ → Option Arguments → Option Arguments
-with_operand word (Some (arguments [] budget)) = Some (arguments (word ∷ []) budget)
-with_operand word (Some (arguments (first ∷ []) budget)) = Some (arguments (first ∷ word ∷ []) budget)
+with_operand word (Some (arguments [] budget log)) = Some (arguments (word ∷ []) budget log)
+with_operand word (Some (arguments (first ∷ []) budget log)) = Some (arguments (first ∷ word ∷ []) budget log)
 with_operand word before = None
 
 -- a budget, if none is named before
 abbrev pub with_budget : Option ℕ → Option Arguments → Option Arguments
-with_budget (Some number) (Some (arguments operands None)) = Some (arguments operands (Some number))
+with_budget (Some number) (Some (arguments operands None log)) = Some (arguments operands (Some number) log)
 with_budget number before = None
 
+-- a log, if none is asked for before
+abbrev pub with_log : Option Arguments → Option Arguments
+with_log (Some (arguments operands budget false)) = Some (arguments operands budget true)
+with_log before = None
+
 -- one word more: `--budget=N`, or an operand
-abbrev pub with_word : List ℕ → Option Arguments → Option Arguments
-with_word word before =
+abbrev pub with_other_word : List ℕ → Option Arguments → Option Arguments
+with_other_word word before =
     if is_word (take 9 word) (codes "--budget=") then with_budget (number_up_to most_budget (drop 9 word)) before
     else if is_operand word then with_operand word before else None
+
+-- the same, or `--log`
+abbrev pub with_word : List ℕ → Option Arguments → Option Arguments
+with_word word before = if is_word word (codes "--log") then with_log before else with_other_word word before
 
 -- More words, read from the left: the word behind `--budget` is its number.
 abbrev pub with_words : Option Arguments → List (List ℕ) → Option Arguments
@@ -79,7 +89,7 @@ with_words before (word ∷ next ∷ words) =
 
 -- what words behind the name of a command are: an option stands once at most, and anywhere
 abbrev pub arguments_of : List (List ℕ) → Option Arguments
-arguments_of words = with_words (Some (arguments [] None)) words
+arguments_of words = with_words (Some (arguments [] None false)) words
 
 -- ---- What words ask for
 
@@ -90,12 +100,12 @@ moved from to budget = None
 
 -- what a command with these operands and options asks for
 abbrev pub asked : Topic → Option Arguments → Option Form
-asked topic.Min (Some (arguments [] None)) = Some Min
-asked topic.Dead (Some (arguments [] budget)) = Some (Dead budget)
-asked topic.Style (Some (arguments [] None)) = Some Style
-asked topic.Cmp (Some (arguments (left ∷ right ∷ []) budget)) = Some (Cmp left right budget)
-asked topic.Check (Some (arguments [] None)) = Some Check
-asked topic.Why (Some (arguments (from ∷ to ∷ []) budget)) = moved (number_up_to most_number from) (number_up_to most_number to) budget
+asked topic.Min (Some (arguments [] None false)) = Some Min
+asked topic.Dead (Some (arguments [] budget false)) = Some (Dead budget)
+asked topic.Style (Some (arguments [] None false)) = Some Style
+asked topic.Cmp (Some (arguments (left ∷ right ∷ []) budget log)) = Some (Cmp left right budget log)
+asked topic.Check (Some (arguments [] None false)) = Some Check
+asked topic.Why (Some (arguments (from ∷ to ∷ []) budget false)) = moved (number_up_to most_number from) (number_up_to most_number to) budget
 asked about words = None
 
 -- the command of a name

@@ -1,5 +1,5 @@
 -- Laws on the forms of a command line.
-use Rattle.std.specs.Prelude.{◌≡◌, ◌↔◌, ℕ, true, List, [], ◌∷◌, Some, None, codes}
+use Rattle.std.specs.Prelude.{◌≡◌, ◌↔◌, ℕ, true, false, List, [], ◌∷◌, Some, None, codes}
 use Rattle.command_words.specs.Forms.{Min, Cmp, form_of, is_operand, most_budget}
 use Rattle.command_words.specs.declared.command.TheConstants.{MOST_BUDGET}
 
@@ -9,7 +9,7 @@ MinIsOneWord = (words : List (List ℕ)) → (form_of words ≡ Some Min) ↔ (w
 
 -- `cmp` and two words that do not begin with `-` compare them
 abbrev pub CmpComparesTwoWords : Type 0
-CmpComparesTwoWords = (left right : List ℕ) → is_operand left ≡ true → is_operand right ≡ true → form_of (codes "cmp" ∷ left ∷ right ∷ []) ≡ Some (Cmp left right None)
+CmpComparesTwoWords = (left right : List ℕ) → is_operand left ≡ true → is_operand right ≡ true → form_of (codes "cmp" ∷ left ∷ right ∷ []) ≡ Some (Cmp left right None false)
 
 -- the greatest budget
 abbrev pub MostBudgetIsDefined : Type 0

@@ -12,7 +12,7 @@ abbrev pub form : Command → Form
 form command.Min = Min
 form command.Style = Style
 form (command.Dead budget) = Dead budget
-form (command.Cmp left right budget) = Cmp left.now right.now budget
+form (command.Cmp left right budget log) = Cmp left.now right.now budget log
 form command.Check = Check
 form (command.Why from to budget) = Why from to budget
 form (command.Help about) = Help about
@@ -30,4 +30,4 @@ texts (operands.Two first second) = first.now ∷ second.now ∷ []
 
 abbrev pub arguments_if_some : Option read.Arguments → Option Arguments
 arguments_if_some None = None
-arguments_if_some (Some read) = Some (arguments (texts read.operands) read.budget)
+arguments_if_some (Some read) = Some (arguments (texts read.operands) read.budget read.log)

@@ -15,11 +15,12 @@ pub(crate) enum Operands<'a> {
     Two(&'a str, &'a str),
 }
 
-/// Operands, and the budget, if one is named.
+/// Operands, the budget, if one is named, and whether a log is asked for.
 #[derive(Clone, Copy, Debug)]
 pub(crate) struct Arguments<'a> {
     pub(crate) operands: Operands<'a>,
     pub(crate) budget: Option<u32>,
+    pub(crate) log: bool,
 }
 
 /// Whether a word may be an operand.
@@ -58,9 +59,23 @@ fn with_budget<'a>(number: &str, before: Arguments<'a>) -> Option<Arguments<'a>>
     }
 }
 
-/// The same with one word more.
-fn with_word<'a>(word: &'a str, before: Arguments<'a>) -> Option<Arguments<'a>>
-    ensures { arguments_if_some result ≡ forms.with_word word.now (arguments_if_some (Some before.entry)) }
+/// The same with a log, where none is asked for before.
+fn with_log<'a>(before: Arguments<'a>) -> Option<Arguments<'a>>
+    ensures { arguments_if_some result ≡ forms.with_log (arguments_if_some (Some before.entry)) }
+{
+    if before.log {
+        None
+    } else {
+        Some(Arguments {
+            log: true,
+            ..before
+        })
+    }
+}
+
+/// The same with one word that is not `--log` more.
+fn with_other_word<'a>(word: &'a str, before: Arguments<'a>) -> Option<Arguments<'a>>
+    ensures { arguments_if_some result ≡ forms.with_other_word word.now (arguments_if_some (Some before.entry)) }
 {
     match word.strip_prefix("--budget=") {
         Some(number) => with_budget(number, before),
@@ -71,6 +86,17 @@ fn with_word<'a>(word: &'a str, before: Arguments<'a>) -> Option<Arguments<'a>>
                 None
             }
         }
+    }
+}
+
+/// The same with one word more.
+fn with_word<'a>(word: &'a str, before: Arguments<'a>) -> Option<Arguments<'a>>
+    ensures { arguments_if_some result ≡ forms.with_word word.now (arguments_if_some (Some before.entry)) }
+{
+    if word == "--log" {
+        with_log(before)
+    } else {
+        with_other_word(word, before)
     }
 }
 
@@ -105,6 +131,7 @@ pub(crate) fn arguments_of<'a>(words: &'a [String]) -> Option<Arguments<'a>>
     let none = Arguments {
         operands: Operands::None,
         budget: None,
+        log: false,
     };
     with_words(none, words)
 }

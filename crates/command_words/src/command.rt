@@ -42,6 +42,8 @@ pub enum Command<'a> {
         right: &'a str,
         /// How many clauses may be learned for a pair, where the words say it: at most `MOST_BUDGET`.
         budget: Option<u32>,
+        /// Whether a log is to stand in the place of `disjoint`.
+        log: bool,
     },
     /// Check a log that refutes a formula.
     Check,

@@ -41,17 +41,18 @@ fn asked<'a>(about: Topic, words: Option<Arguments<'a>>) -> Option<Command<'a>>
     ensures { form_if_some result ≡ forms.asked about (arguments_if_some words.entry) }
 {
     let arguments = words?;
-    match (about, arguments.operands, arguments.budget) {
-        (Topic::Min, Operands::None, None) => Some(Command::Min),
-        (Topic::Style, Operands::None, None) => Some(Command::Style),
-        (Topic::Dead, Operands::None, budget) => Some(Command::Dead { budget }),
-        (Topic::Cmp, Operands::Two(left, right), budget) => Some(Command::Cmp {
+    match (about, arguments.operands, arguments.budget, arguments.log) {
+        (Topic::Min, Operands::None, None, false) => Some(Command::Min),
+        (Topic::Style, Operands::None, None, false) => Some(Command::Style),
+        (Topic::Dead, Operands::None, budget, false) => Some(Command::Dead { budget }),
+        (Topic::Cmp, Operands::Two(left, right), budget, log) => Some(Command::Cmp {
             left,
             right,
             budget,
+            log,
         }),
-        (Topic::Check, Operands::None, None) => Some(Command::Check),
-        (Topic::Why, Operands::Two(from, to), budget) => moved(from, to, budget),
+        (Topic::Check, Operands::None, None, false) => Some(Command::Check),
+        (Topic::Why, Operands::Two(from, to), budget, false) => moved(from, to, budget),
         _ => None,
     }
 }

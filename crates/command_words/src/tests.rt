@@ -25,31 +25,35 @@ fn reads_each_form(rt: HostRuntime) -> Result<(), Fail> {
         ("dead --help", "Some(Help(Dead))"),
         (
             "cmp a b",
-            "Some(Cmp { left: \"a\", right: \"b\", budget: None })",
+            "Some(Cmp { left: \"a\", right: \"b\", budget: None, log: false })",
         ),
         (
             "cmp a b --budget 0",
-            "Some(Cmp { left: \"a\", right: \"b\", budget: Some(0) })",
+            "Some(Cmp { left: \"a\", right: \"b\", budget: Some(0), log: false })",
         ),
         (
             "cmp a --budget 20000 b",
-            "Some(Cmp { left: \"a\", right: \"b\", budget: Some(20000) })",
+            "Some(Cmp { left: \"a\", right: \"b\", budget: Some(20000), log: false })",
         ),
         (
             "cmp --budget 2000 a>b .c",
-            "Some(Cmp { left: \"a>b\", right: \".c\", budget: Some(2000) })",
+            "Some(Cmp { left: \"a>b\", right: \".c\", budget: Some(2000), log: false })",
         ),
         (
             "cmp a b --budget=7",
-            "Some(Cmp { left: \"a\", right: \"b\", budget: Some(7) })",
+            "Some(Cmp { left: \"a\", right: \"b\", budget: Some(7), log: false })",
         ),
         (
             "cmp a --budget=70 b",
-            "Some(Cmp { left: \"a\", right: \"b\", budget: Some(70) })",
+            "Some(Cmp { left: \"a\", right: \"b\", budget: Some(70), log: false })",
         ),
         (
             "cmp --budget=1 min cmp",
-            "Some(Cmp { left: \"min\", right: \"cmp\", budget: Some(1) })",
+            "Some(Cmp { left: \"min\", right: \"cmp\", budget: Some(1), log: false })",
+        ),
+        (
+            "cmp --log a --budget 7 b",
+            "Some(Cmp { left: \"a\", right: \"b\", budget: Some(7), log: true })",
         ),
         ("--help", "Some(Help(Program))"),
         ("-h", "Some(Help(Program))"),
@@ -127,6 +131,10 @@ fn refuses_other_words(rt: HostRuntime) -> Result<(), Fail> {
         "cmp --budget a b 1",
         "cmp a --budget=3",
         "cmp -- a b",
+        "cmp a b --log --log",
+        "cmp a b --budget --log",
+        "cmp a --log",
+        "dead --log",
         "check a",
         "check --budget 1",
         "cmp -a b",
@@ -149,7 +157,7 @@ fn reads_empty_words(rt: HostRuntime) -> Result<(), Fail> {
     let text = format!(in alloc; "{command:?}")?;
     assert_eq!(rt;
         text.as_str(),
-        "Some(Cmp { left: \"\", right: \"\", budget: None })"
+        "Some(Cmp { left: \"\", right: \"\", budget: None, log: false })"
     );
     Ok(())
 }

@@ -1,5 +1,5 @@
 -- What a run did, by what its words ask for.
-use Rattle.std.proofs.Common.{◌≡◌, ◌⊎◌, ◌↔◌, inl, inr, ℕ, List, true, false, Option, Some, None, IsSomeAnd, refl, sym, ◌∙◌, ap, subst}
+use Rattle.std.proofs.Common.{Bool, ◌≡◌, ◌⊎◌, ◌↔◌, inl, inr, ℕ, List, true, false, Option, Some, None, IsSomeAnd, refl, sym, ◌∙◌, ap, subst}
 use Rattle.std.proofs.lemmas.Bool.{false≢true}
 use Rattle.std.specs.Prelude.{IsNone}
 use Rattle.command_words.specs.Forms.{Form, Min, Style, Dead, Cmp, Check, Why, Help, Version, form_of}
@@ -33,9 +33,9 @@ did words form status input output err held ran is = subst (λ (f : Option Form)
 pub min_did : (words : List (List ℕ)) (status : Status) (input output err : Change) (held : Option PairsParts) → Ran words status input output err held → form_of words ≡ Some Min → MinDoes status input output held
 min_did words status input output err held ran is = did words (Some Min) status input output err held ran is
 
-pub cmp_did : (words : List (List ℕ)) (left right : List ℕ) (budget : Option ℕ) (status : Status) (input output err : Change) (held : Option PairsParts) → Ran words status input output err held
-    → form_of words ≡ Some (Cmp left right budget) → CmpDoes left right budget status output held
-cmp_did words left right budget status input output err held ran is = did words (Some (Cmp left right budget)) status input output err held ran is
+pub cmp_did : (words : List (List ℕ)) (left right : List ℕ) (budget : Option ℕ) (log : Bool) (status : Status) (input output err : Change) (held : Option PairsParts) → Ran words status input output err held
+    → form_of words ≡ Some (Cmp left right budget log) → CmpDoes left right budget log status output held
+cmp_did words left right budget log status input output err held ran is = did words (Some (Cmp left right budget log)) status input output err held ran is
 
 pub check_did : (words : List (List ℕ)) (status : Status) (input output err : Change) (held : Option PairsParts) → Ran words status input output err held → form_of words ≡ Some Check → CheckDoes status input output held
 check_did words status input output err held ran is = did words (Some Check) status input output err held ran is
@@ -53,7 +53,7 @@ why_did words from to budget status input output err held ran is = did words (So
 
 no_usage : (form : Form) (input output : Change) (held : Option PairsParts) → Outcome form Usage input output held → ⊥
 no_usage Min input output held h = h.0
-no_usage (Cmp left right budget) input output held h = h
+no_usage (Cmp left right budget log) input output held h = h
 no_usage Check input output held h = h.0
 no_usage (Dead budget) input output held h = h.0
 no_usage Style input output held h = h.0
@@ -74,7 +74,7 @@ usage_is words status input output err held ran = usage_of (form_of words) statu
 read_fault_of : (form : Option Form) (input output : Change) (held : Option PairsParts) → Answers form ReadFault input output held → HasFailed input
 read_fault_of None input output held h = absurd (let bad : ⊥ = let same : ReadFault ≡ Usage = h.0 in cc in bad)
 read_fault_of (Some Min) input output held h = h.0
-read_fault_of (Some (Cmp left right budget)) input output held h = absurd h
+read_fault_of (Some (Cmp left right budget log)) input output held h = absurd h
 read_fault_of (Some Check) input output held h = h.0
 read_fault_of (Some (Dead budget)) input output held h = h.0
 read_fault_of (Some Style) input output held h = h.0
@@ -88,7 +88,7 @@ read_fault_is words status input output err held ran is = read_fault_of (form_of
 write_fault_of : (form : Option Form) (input output : Change) (held : Option PairsParts) → Answers form WriteFault input output held → HasFailed output
 write_fault_of None input output held h = absurd (let bad : ⊥ = let same : WriteFault ≡ Usage = h.0 in cc in bad)
 write_fault_of (Some Min) input output held h = h.front.0
-write_fault_of (Some (Cmp left right budget)) input output held h = h.2.0
+write_fault_of (Some (Cmp left right budget log)) input output held h = h.2.0
 write_fault_of (Some Check) input output held h = h.front.0
 write_fault_of (Some (Dead budget)) input output held h = h.front.0
 write_fault_of (Some Style) input output held h = h.front.0
@@ -180,20 +180,20 @@ writes_done kind ReadFault output h safe = absurd h
 writes_done kind WriteFault output h safe = absurd (safe h.2.0)
 writes_done kind NoMemory output h safe = inr refl
 
-cmp_done : (left right : List ℕ) (budget : Option ℕ) (status : Status) (output : Change) (held : Option PairsParts) → CmpDoes left right budget status output held → (HasFailed output → ⊥) → (status ≡ Done) ⊎ (status ≡ NoMemory)
-cmp_done left right budget Done output held h safe = inl refl
-cmp_done left right budget Usage output held h safe = absurd h
-cmp_done left right budget (SheetRefused fault) output held h safe = absurd h
-cmp_done left right budget (NoItem fault) output held h safe = absurd h
-cmp_done left right budget (DocRefused fault) output held h safe = absurd h
-cmp_done left right budget (LogRefused fault) output held h safe = absurd h
-cmp_done left right budget ReadFault output held h safe = absurd h
-cmp_done left right budget WriteFault output held h safe = absurd (safe h.2.0)
-cmp_done left right budget NoMemory output held h safe = inr refl
+cmp_done : (left right : List ℕ) (budget : Option ℕ) (log : Bool) (status : Status) (output : Change) (held : Option PairsParts) → CmpDoes left right budget log status output held → (HasFailed output → ⊥) → (status ≡ Done) ⊎ (status ≡ NoMemory)
+cmp_done left right budget log Done output held h safe = inl refl
+cmp_done left right budget log Usage output held h safe = absurd h
+cmp_done left right budget log (SheetRefused fault) output held h safe = absurd h
+cmp_done left right budget log (NoItem fault) output held h safe = absurd h
+cmp_done left right budget log (DocRefused fault) output held h safe = absurd h
+cmp_done left right budget log (LogRefused fault) output held h safe = absurd h
+cmp_done left right budget log ReadFault output held h safe = absurd h
+cmp_done left right budget log WriteFault output held h safe = absurd (safe h.2.0)
+cmp_done left right budget log NoMemory output held h safe = inr refl
 
 other_done : (form : Form) (status : Status) (input output : Change) (held : Option PairsParts) → Outcome form status input output held → needs_input (Some form) ≡ false → (HasFailed output → ⊥) → (status ≡ Done) ⊎ (status ≡ NoMemory)
 other_done Min status input output held h unneeded safe = absurd (false≢true (sym unneeded))
-other_done (Cmp left right budget) status input output held h unneeded safe = cmp_done left right budget status output held h safe
+other_done (Cmp left right budget log) status input output held h unneeded safe = cmp_done left right budget log status output held h safe
 other_done Check status input output held h unneeded safe = absurd (false≢true (sym unneeded))
 other_done (Dead budget) status input output held h unneeded safe = absurd (false≢true (sym unneeded))
 other_done Style status input output held h unneeded safe = absurd (false≢true (sym unneeded))
@@ -219,16 +219,16 @@ unrefusable kind ReadFault output is h = is
 unrefusable kind WriteFault output is h = is
 unrefusable kind NoMemory output is h = is
 
-cmp_unrefusable : (left right : List ℕ) (budget : Option ℕ) (status : Status) (output : Change) (held : Option PairsParts) → IsRefusal status → CmpDoes left right budget status output held → ⊥
-cmp_unrefusable left right budget Done output held is h = is
-cmp_unrefusable left right budget Usage output held is h = is
-cmp_unrefusable left right budget (SheetRefused fault) output held is h = h
-cmp_unrefusable left right budget (NoItem fault) output held is h = h
-cmp_unrefusable left right budget (DocRefused fault) output held is h = h
-cmp_unrefusable left right budget (LogRefused fault) output held is h = h
-cmp_unrefusable left right budget ReadFault output held is h = is
-cmp_unrefusable left right budget WriteFault output held is h = is
-cmp_unrefusable left right budget NoMemory output held is h = is
+cmp_unrefusable : (left right : List ℕ) (budget : Option ℕ) (log : Bool) (status : Status) (output : Change) (held : Option PairsParts) → IsRefusal status → CmpDoes left right budget log status output held → ⊥
+cmp_unrefusable left right budget log Done output held is h = is
+cmp_unrefusable left right budget log Usage output held is h = is
+cmp_unrefusable left right budget log (SheetRefused fault) output held is h = h
+cmp_unrefusable left right budget log (NoItem fault) output held is h = h
+cmp_unrefusable left right budget log (DocRefused fault) output held is h = h
+cmp_unrefusable left right budget log (LogRefused fault) output held is h = h
+cmp_unrefusable left right budget log ReadFault output held is h = is
+cmp_unrefusable left right budget log WriteFault output held is h = is
+cmp_unrefusable left right budget log NoMemory output held is h = is
 
 no_refusal_of_usage : (status : Status) → IsRefusal status → status ≡ Usage → ⊥
 no_refusal_of_usage status is same = subst IsRefusal same is
@@ -237,7 +237,7 @@ no_refusal_of_usage status is same = subst IsRefusal same is
 untold_of : (form : Option Form) (status : Status) (input output : Change) (held : Option PairsParts) → IsRefusal status → Answers form status input output held → Answers form NoMemory input output held
 untold_of None status input output held is h = absurd (no_refusal_of_usage status is h.0)
 untold_of (Some Min) status input output held is h = untold max_bytes Minifies MinRefuses status input output held is h
-untold_of (Some (Cmp left right budget)) status input output held is h = absurd (cmp_unrefusable left right budget status output held is h)
+untold_of (Some (Cmp left right budget log)) status input output held is h = absurd (cmp_unrefusable left right budget log status output held is h)
 untold_of (Some Check) status input output held is h = untold max_log_bytes Checks CheckRefuses status input output held is h
 untold_of (Some (Dead budget)) status input output held is h = untold max_bytes (TellsLives budget) MinRefuses status input output held is h
 untold_of (Some Style) status input output held is h = untold max_bytes TellsWinners StyleRefuses status input output held is h

@@ -1,5 +1,5 @@
 -- What a command did that writes a text which it made.
-use Rattle.std.proofs.Common.{ℕ, List, Option}
+use Rattle.std.proofs.Common.{Bool, ℕ, List, Option}
 use Rattle.overlap.specs.PairsParts.{PairsParts}
 use Rattle.cssmin.specs.Change.{Change}
 use Rattle.cssmin.specs.Commands.Cmp.{CmpDoes, IsAnswer}
@@ -18,14 +18,14 @@ wrote_some kind text ReadFault output is wrote = absurd wrote
 wrote_some kind text WriteFault output is wrote = (text, is, wrote)
 wrote_some kind text NoMemory output is wrote = absurd wrote
 
-pub wrote_answer : (left right : List ℕ) (budget : Option ℕ) (held : Option PairsParts) (text : List ℕ) (status : Status) (output : Change) → IsAnswer left right budget held text → Writes text status output
-    → CmpDoes left right budget status output held
-wrote_answer left right budget held text Done output is wrote = (text, is, wrote)
-wrote_answer left right budget held text Usage output is wrote = absurd wrote
-wrote_answer left right budget held text (SheetRefused fault) output is wrote = absurd wrote
-wrote_answer left right budget held text (NoItem fault) output is wrote = absurd wrote
-wrote_answer left right budget held text (DocRefused fault) output is wrote = absurd wrote
-wrote_answer left right budget held text (LogRefused fault) output is wrote = absurd wrote
-wrote_answer left right budget held text ReadFault output is wrote = absurd wrote
-wrote_answer left right budget held text WriteFault output is wrote = (text, is, wrote)
-wrote_answer left right budget held text NoMemory output is wrote = absurd wrote
+pub wrote_answer : (left right : List ℕ) (budget : Option ℕ) (log : Bool) (held : Option PairsParts) (text : List ℕ) (status : Status) (output : Change) → IsAnswer left right budget log held text → Writes text status output
+    → CmpDoes left right budget log status output held
+wrote_answer left right budget log held text Done output is wrote = (text, is, wrote)
+wrote_answer left right budget log held text Usage output is wrote = absurd wrote
+wrote_answer left right budget log held text (SheetRefused fault) output is wrote = absurd wrote
+wrote_answer left right budget log held text (NoItem fault) output is wrote = absurd wrote
+wrote_answer left right budget log held text (DocRefused fault) output is wrote = absurd wrote
+wrote_answer left right budget log held text (LogRefused fault) output is wrote = absurd wrote
+wrote_answer left right budget log held text ReadFault output is wrote = absurd wrote
+wrote_answer left right budget log held text WriteFault output is wrote = (text, is, wrote)
+wrote_answer left right budget log held text NoMemory output is wrote = absurd wrote

@@ -1,5 +1,5 @@
 -- What follows from the contract of a run.
-use Rattle.std.specs.Prelude.{◌≡◌, ◌⊎◌, ◌↔◌, ℕ, ◌<◌, false, List, Option, Some, None, IsSomeAnd, IsNone}
+use Rattle.std.specs.Prelude.{Bool, ◌≡◌, ◌⊎◌, ◌↔◌, ℕ, ◌<◌, false, List, Option, Some, None, IsSomeAnd, IsNone}
 use Rattle.css_io.specs.Io.{Rose, last_count}
 use Rattle.css_model.specs.declared.fault.SheetFault.{SheetFault}
 use Rattle.css_model.specs.Sheets.Limits.{max_bytes}
@@ -31,8 +31,8 @@ MinDoesItsWord = (words : List (List ℕ)) (status : Status) (input output err :
 -- words that compare do what `cmp` says
 abbrev pub CmpDoesItsWord : Type 0
 CmpDoesItsWord =
-    (words : List (List ℕ)) (left right : List ℕ) (budget : Option ℕ) (status : Status) (input output err : Change) (held : Option PairsParts) → Ran words status input output err held
-    → form_of words ≡ Some (Cmp left right budget) → CmpDoes left right budget status output held
+    (words : List (List ℕ)) (left right : List ℕ) (budget : Option ℕ) (log : Bool) (status : Status) (input output err : Change) (held : Option PairsParts) → Ran words status input output err held
+    → form_of words ≡ Some (Cmp left right budget log) → CmpDoes left right budget log status output held
 
 -- words that check do what `check` says
 abbrev pub CheckDoesItsWord : Type 0

@@ -23,7 +23,7 @@ abbrev pub Outcome : Form → Status → (input output : Change) → (held : Opt
 Outcome Min status input output held = MinDoes status input output held
 Outcome (Dead budget) status input output held = DeadDoes budget status input output held
 Outcome Style status input output held = StyleDoes status input output held
-Outcome (Cmp left right budget) status input output held = CmpDoes left right budget status output held
+Outcome (Cmp left right budget log) status input output held = CmpDoes left right budget log status output held
 Outcome Check status input output held = CheckDoes status input output held
 Outcome (Why from to budget) status input output held = WhyDoes from to budget status input output held
 Outcome (Help about) status input output held = WritesSome EndsLine status output × (held ≡ None)
@@ -40,7 +40,7 @@ needs_input None = false
 needs_input (Some Min) = true
 needs_input (Some (Dead budget)) = true
 needs_input (Some Style) = true
-needs_input (Some (Cmp left right budget)) = false
+needs_input (Some (Cmp left right budget log)) = false
 needs_input (Some Check) = true
 needs_input (Some (Why from to budget)) = true
 needs_input (Some (Help about)) = false

@@ -51,8 +51,9 @@ fn obey<S: Source, O: Sink>(
                 left,
                 right,
                 budget,
+                log,
             },
-        ) => cmp(alloc, left, right, budget, out, held),
+        ) => cmp(alloc, left, right, budget, log, out, held),
         Some(Command::Check) => perform(alloc, &Check, input, out, held),
         Some(Command::Why { from, to, budget }) => {
             perform(alloc, &Why { from, to, budget }, input, out, held)

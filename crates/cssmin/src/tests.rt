@@ -237,7 +237,7 @@ fn tells_of_itself(rt: HostRuntime) -> Result<(), Fail> {
 }
 
 // Pairs with their answers, worked by hand.
-const COMPARED: [(&str, &str); 14] = [
+const COMPARED: [(&str, &str); 16] = [
     ("cmp a:link a:visited --budget 0", "disjoint\n"),
     ("cmp a:link a:visited --budget=0", "disjoint\n"),
     (
@@ -261,6 +261,8 @@ const COMPARED: [(&str, &str); 14] = [
         "overlap\nchild 1 pseudo none\n0 1 * html\n",
     ),
     ("cmp a:is(b) c", "outside 1\n"),
+    ("cmp --log a:link a:visited", "disjoint\n"),
+    ("cmp --log a:is(b) c", "outside 1\n"),
     ("cmp c a:is(b)", "outside 1\n"),
     ("cmp a x|y", "outside 3\n"),
     ("cmp li:nth-child(33n) a", "outside 8\n"),
