@@ -1,0 +1,7 @@
+mod Greeted
+mod Members
+mod Moving
+mod Plannable
+mod Results
+mod Starting
+mod Taken

@@ -1,0 +1,4 @@
+pub mod Greeting
+pub mod PlanParts
+pub mod State
+pub mod Waking

@@ -1,0 +1,29 @@
+-- What always holds of a plan.
+use Rattle.std.specs.Prelude.{ℕ, List}
+use Rattle.hold_laws.specs.Leads.{Lead}
+use Rattle.lead_laws.specs.Beside.{AreHomes}
+use Rattle.lead_laws.specs.Known.{IsKnown}
+use Rattle.lead_laws.specs.MarkNames.{IsMarked}
+use Rattle.plan_board.specs.MarkList.{labels_of}
+use Rattle.plan_laws.specs.Plannable.{IsPlannable}
+use Rattle.rule_tables.specs.Tables.{Cover, labelled}
+use Rattle.step_laws.specs.Free.{Answered}
+use Rattle.wall_laws.specs.Holding.{Aside}
+use Rattle.plan_state.specs.PlanParts.{PlanParts}
+
+-- a board whose sheet can be planned, with what goes with it
+pub record IsBoard (source : List ℕ) (p : PlanParts) : Type 0 where
+  pub plannable : IsPlannable source p.board.items
+  pub marked : IsMarked p.board
+  pub covered : Cover p.tables (labelled p.board.items (labels_of p.board.marks))
+  pub homes : AreHomes p.board.marks p.homes
+
+-- Each step of the sheet that saves is led by one of these turns, or set aside with what blocks it.
+pub record IsLedBy (answers : List Answered) (source : List ℕ) (p : PlanParts) (leads : List Lead) : Type 0 where
+  pub board : IsBoard source p
+  pub aside : List Aside
+  pub known : IsKnown answers source p.board leads aside p.entries
+
+-- and so by those of the plan
+abbrev pub IsState : List Answered → List ℕ → PlanParts → Type 0
+IsState answers source p = IsLedBy answers source p p.leads

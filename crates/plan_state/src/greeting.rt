@@ -1,0 +1,146 @@
+//! What a plan does for the items that are born.
+
+ghost use Rattle.std.specs.Prelude.{◌≡◌, ◌≢◌, ◌<◌, ◌≤◌, ◌∷◌, [], ℕ, List, OnOk, Some, length, slice_get};
+ghost use Rattle.std.specs.List.{AllPairs};
+ghost use Rattle.css_model.specs.declared.sheet.Item.TheVariants as kinds;
+ghost use Rattle.css_model.specs.Sheets.RuleParts.{RuleParts};
+ghost use Rattle.plan_state.specs.Greeting as spec;
+ghost use Rattle.lead_laws.specs.MarkNames.{IsMarked};
+ghost use Rattle.lead_plan.specs.Told.{lead_told};
+ghost use Rattle.rule_tables.specs.Tables as covering;
+
+use css_model::{Item, MAX_BYTES};
+use lead_plan::{Kind, Lead, Waiting};
+use plan_board::{Board, Mark};
+use rule_tables::Tables;
+use std::alloc::AllocError;
+use std::cmp::Reverse;
+
+/// The turn that comes before all steps of the item of this birth.
+fn first_lead(owner: u32) -> Lead
+    ensures { lead_told result ≡ spec.first_lead owner }
+{
+    Lead {
+        saving: Reverse(MAX_BYTES + 1),
+        kind: Kind::DeclCut,
+        first: 0,
+        second: 0,
+        owner,
+        alone: false,
+    }
+}
+
+/// Puts a label under a birth.
+fn put_home(homes: &mut Vec<u64>, mark: &Mark) -> Result<(), AllocError>
+    ensures put { OnOk result (slice_get homes.new.items mark.now.birth ≡ Some mark.now.label) }
+    ensures others { OnOk result ((b l : ℕ) → b ≢ mark.now.birth → slice_get homes.old.items b ≡ Some l → slice_get homes.new.items b ≡ Some l) }
+{
+    let birth = mark.birth as usize;
+    if homes.len() <= birth {
+        homes.resize(birth + 1, 0)?;
+    }
+    homes[birth] = mark.label;
+    Ok(())
+}
+
+/// Has the tables cover an item, if it is a rule.
+fn cover(tables: &mut Tables, item: &Item, label: u64) -> Result<(), AllocError>
+    ensures stay { OnOk result ((rules : List covering.Labelled) → covering.Cover tables.old rules → covering.Cover tables.new rules) }
+    ensures covered { OnOk result ((r : RuleParts) → item.now ≡ kinds.Rule r → covering.Cover tables.new (covering.with_label r label ∷ [])) }
+{
+    match item {
+        Item::Rule(rule) => tables.insert(rule, label),
+        _ => Ok(()),
+    }
+}
+
+/// The mark of this number.
+fn mark_at(marks: &[Mark], number: usize) -> &Mark
+    requires { number < length marks.now }
+    ensures { slice_get marks.now number ≡ Some result.now }
+{
+    &marks[number]
+}
+
+/// The item of this number.
+fn item_at(items: &[Item], number: usize) -> &Item
+    requires { number < length items.now }
+    ensures { slice_get items.now number ≡ Some result.now }
+{
+    &items[number]
+}
+
+/// Lets a turn before all steps of an item lead them, with its label under its birth, and has the tables cover it.
+fn greet_item(
+    mark: &Mark,
+    item: &Item,
+    tables: &mut Tables,
+    waiting: &mut Waiting,
+    homes: &mut Vec<u64>,
+) -> Result<(), AllocError>
+    ensures greeted { OnOk result (spec.IsGreeted tables.new waiting.new homes.new.items mark.now item.now) }
+    ensures stay { OnOk result (spec.StayBut mark.now.birth tables.old waiting.old homes.old.items tables.new waiting.new homes.new.items) }
+{
+    put_home(homes, mark)?;
+    cover(tables, item, mark.label)?;
+    waiting.add(first_lead(mark.birth))
+}
+
+/// The same, if the item was born at `next` or later.
+fn greet_if_new(
+    next: u32,
+    mark: &Mark,
+    item: &Item,
+    tables: &mut Tables,
+    waiting: &mut Waiting,
+    homes: &mut Vec<u64>,
+) -> Result<(), AllocError>
+    ensures greeted { OnOk result (next ≤ mark.now.birth → spec.IsGreeted tables.new waiting.new homes.new.items mark.now item.now) }
+    ensures stay { OnOk result (spec.StayBut mark.now.birth tables.old waiting.old homes.old.items tables.new waiting.new homes.new.items) }
+    ensures early { OnOk result (spec.StayBefore next tables.old waiting.old homes.old.items tables.new waiting.new homes.new.items) }
+{
+    if mark.birth < next {
+        return Ok(());
+    }
+    greet_item(mark, item, tables, waiting, homes)
+}
+
+/// Does so for each item, with the mark of the same number.
+fn greet_each(
+    next: u32,
+    marks: &[Mark],
+    items: &[Item],
+    tables: &mut Tables,
+    waiting: &mut Waiting,
+    homes: &mut Vec<u64>,
+) -> Result<(), AllocError>
+    requires as_many { length marks.now ≡ length items.now }
+    requires differ { AllPairs (λ m n. m.birth ≢ n.birth) marks.now }
+    ensures greeted { OnOk result (spec.AreGreeted next marks.now items.now tables.new waiting.new homes.new.items) }
+    ensures stay { OnOk result (spec.StayBefore next tables.old waiting.old homes.old.items tables.new waiting.new homes.new.items) }
+{
+    'numbers: for number in 0..marks.len() {
+        let mark = mark_at(marks, number);
+        let item = item_at(items, number);
+        greet_if_new(next, mark, item, tables, waiting, homes)?;
+    }
+    Ok(())
+}
+
+/// Does so for all items of a board that were born at `next` or later.
+pub(crate) fn greet(
+    board: &Board,
+    next: u32,
+    tables: &mut Tables,
+    waiting: &mut Waiting,
+    homes: &mut Vec<u64>,
+) -> Result<(), AllocError>
+    ensures marked { OnOk result (IsMarked board.now) }
+    ensures greeted { OnOk result (spec.AreGreeted next board.now.marks board.now.items tables.new waiting.new homes.new.items) }
+    ensures stay { OnOk result (spec.StayBefore next tables.old waiting.old homes.old.items tables.new waiting.new homes.new.items) }
+{
+    let marks = board.marks();
+    let sheet = board.sheet();
+    greet_each(next, marks, &sheet.items, tables, waiting, homes)?;
+    Ok(())
+}

@@ -1,0 +1,10 @@
+//! The state of a plan by turns that lead: a sheet with its marks and tables, the turns that lead, and what is set
+//! aside. It stays one when a step is taken.
+#![tactic(auto)]
+
+mod greeting;
+mod plan;
+mod taking;
+mod waking;
+
+pub use plan::Plan;

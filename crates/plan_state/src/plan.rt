@@ -1,0 +1,71 @@
+//! A plan while it works.
+
+ghost use Rattle.std.specs.Prelude.{◌≡◌, ◌≤◌, IfOk, List, ℕ, length};
+ghost use Rattle.css_model.specs.Sheets.Limits.{max_items};
+ghost use Rattle.plan_state.specs.State.{IsState};
+ghost use Rattle.plan_laws.specs.Plannable.{IsPlannable};
+ghost use Rattle.step_laws.specs.Free.{Answered};
+
+use crate::greeting::greet;
+use css_model::Sheet;
+use lead_laws::{cover_is_of_each, start_is_known};
+use lead_plan::{Aside, Waiting};
+use plan_board::Board;
+use rule_tables::Tables;
+use std::alloc::{AllocError, Global};
+use std::marker::Model;
+
+/// A sheet that is planned, with what is held of its steps.
+#[derive(Drop)]
+pub struct Plan {
+    /// The sheet with its marks.
+    pub board: Board,
+    /// They cover the rules of the sheet.
+    pub tables: Tables,
+    /// The turns that lead.
+    pub waiting: Waiting,
+    /// What is set aside, under the digests of the pairs that block it.
+    pub aside: Aside,
+    /// The label of the item of each birth, while there is one.
+    pub homes: Vec<u64>,
+}
+
+impl Model for Plan {
+    ghost use Rattle.plan_state.specs.PlanParts.{PlanParts};
+
+    ghost Value = { PlanParts };
+
+    ghost view = { λ p. record {
+      board = p.board;
+      tables = p.tables;
+      leads = p.waiting;
+      entries = p.aside;
+      homes = p.homes.items;
+    } };
+}
+
+impl Plan {
+    /// A plan of a sheet of which nothing is known.
+    pub fn new(alloc: Global, sheet: Sheet) -> Result<Plan, AllocError>
+        requires few_items { length sheet.items ≤ max_items }
+        ensures items { IfOk result (λ p. p.board.items ≡ sheet.items) }
+        ensures state { IfOk result (λ p. (answers : List Answered) (source : List ℕ) → IsPlannable source sheet.items
+            → IsState answers source p) }
+    {
+        start_is_known();
+        cover_is_of_each();
+        let board = Board::new(alloc, sheet)?;
+        let mut tables = Tables::new(alloc, &[], &[])?;
+        let mut waiting = Waiting::new(alloc);
+        let mut homes = Vec::new(alloc);
+        greet(&board, 0, &mut tables, &mut waiting, &mut homes)?;
+        let aside = Aside::new(alloc);
+        Ok(Plan {
+            board,
+            tables,
+            waiting,
+            aside,
+            homes,
+        })
+    }
+}

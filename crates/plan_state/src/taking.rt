@@ -1,0 +1,91 @@
+//! A step taken in a plan.
+
+ghost use Rattle.std.specs.Prelude.{◌≡◌, ◌<◌, ◌+◌, ◌^◌, IfOk, IsTrue, List, ℕ, length};
+ghost use Rattle.css_model.specs.Sheets.Limits.{max_items};
+ghost use Rattle.plan_state.specs.State.{IsState};
+ghost use Rattle.order_laws.specs.Edits.{Edit, edited};
+ghost use Rattle.plan_board.specs.Marking.{HasLabelFor};
+ghost use Rattle.plan_laws.specs.Plannable.{IsPlannable};
+ghost use Rattle.step_laws.specs.Free.{Answered};
+ghost use Rattle.step_laws.specs.Leading.{Takes};
+ghost use Rattle.step_laws.specs.Steps.{HasStep, IsStep};
+
+use crate::greeting::greet;
+use crate::plan::Plan;
+use crate::waking::wake_moved;
+use css_model::MAX_ITEMS;
+use hold_laws::sheets_have_room;
+use lead_laws::{cover_goes_on, homes_go_on, taken_is_known};
+use merge_steps::apply;
+use plan_board::Board;
+use std::alloc::{AllocError, Global};
+use step_laws::{Step, each_is_made_of_itself, steps_make_of};
+
+/// Whether a step can be taken in place: a sheet may have two more items, and labels and births are left.
+fn has_room(board: &Board, step: &Step) -> bool
+    ensures items { IsTrue result → length board.now.items + 1 < max_items }
+    ensures label { IsTrue result → HasLabelFor board.now.marks step.now }
+    ensures births { IsTrue result → board.now.next + 4 < 2 ^ 32 }
+{
+    let sheet = board.sheet();
+    sheet.items.len() + 1 < MAX_ITEMS as usize
+        && board.next() < u32::MAX - 4
+        && board.has_label_for(step)
+}
+
+impl Plan {
+    /// The plan after a step that is taken in place.
+    fn take_in_place(self, alloc: Global, step: &Step) -> Result<Plan, AllocError>
+        requires is_step { HasStep self.board.items step.now }
+        requires items { length self.board.items + 1 < max_items }
+        requires label { HasLabelFor self.board.marks step.now }
+        requires births { self.board.next + 4 < 2 ^ 32 }
+        ensures items { IfOk result (λ p. (e : Edit) → IsStep self.board.items step.now e → p.board.items ≡ edited e self.board.items) }
+        ensures state { IfOk result (λ p. (answers : List Answered) (source : List ℕ) → IsState answers source self
+            → ((e : Edit) → IsStep self.board.items step.now e → Takes answers source self.board.items (edited e self.board.items))
+            → IsState answers source p) }
+    {
+        sheets_have_room();
+        taken_is_known();
+        cover_goes_on();
+        homes_go_on();
+        each_is_made_of_itself();
+        steps_make_of();
+        let Plan {
+            board,
+            mut tables,
+            mut waiting,
+            aside,
+            mut homes,
+        } = self;
+        wake_moved(alloc, &aside, &mut waiting, board.sheet(), step)?;
+        let next = board.next();
+        let board = board.take(alloc, step)?;
+        greet(&board, next, &mut tables, &mut waiting, &mut homes)?;
+        Ok(Plan {
+            board,
+            tables,
+            waiting,
+            aside,
+            homes,
+        })
+    }
+
+    /// The plan after its next step. Where the step cannot be taken in place, it begins anew.
+    pub fn take(self, alloc: Global, step: &Step) -> Result<Plan, AllocError>
+        requires is_step { HasStep self.board.items step.now }
+        requires plannable { (source : List ℕ) × IsPlannable source self.board.items }
+        ensures items { IfOk result (λ p. (e : Edit) → IsStep self.board.items step.now e → p.board.items ≡ edited e self.board.items) }
+        ensures state { IfOk result (λ p. (answers : List Answered) (source : List ℕ) → IsState answers source self
+            → ((e : Edit) → IsStep self.board.items step.now e → Takes answers source self.board.items (edited e self.board.items))
+            → IsState answers source p) }
+    {
+        if has_room(&self.board, step) {
+            return self.take_in_place(alloc, step);
+        }
+        each_is_made_of_itself();
+        steps_make_of();
+        let sheet = apply(alloc, self.board.sheet(), step)?;
+        Plan::new(alloc, sheet)
+    }
+}

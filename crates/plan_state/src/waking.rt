@@ -1,0 +1,189 @@
+//! What leads again where a step moves pairs.
+
+ghost use Rattle.std.specs.Prelude.{◌≡◌, ◌∷◌, [], IfNone, IfOk, IfSome, OnOk, Some, map, slice_get, true};
+ghost use Rattle.std.specs.List.{Contains};
+ghost use Rattle.css_model.specs.Cascade.Order.{Pair};
+ghost use Rattle.css_model.specs.declared.sheet.Item.TheVariants as kinds;
+ghost use Rattle.css_model.specs.Sheets.RuleParts.{RuleParts};
+ghost use Rattle.hold_laws.specs.Leads as held;
+ghost use Rattle.plan_state.specs.Waking as spec;
+ghost use Rattle.lead_plan.specs.declared.lead.Lead as declared;
+ghost use Rattle.order_laws.specs.Edits.{Edit, is_moved};
+ghost use Rattle.step_laws.specs.Steps.{HasStep, IsStep};
+
+use css_model::{Decl, DeclItem, Item, Rule, SelItem, Selector, Sheet};
+use lead_laws::entries_are_found;
+use lead_plan::{Aside, Lead, Waiting};
+use rule_tables::{decl_digest, selector_digest};
+use std::alloc::{AllocError, Global};
+use step_laws::{Step, steps_rearrange};
+
+/// Lets a lead lead again, alone.
+fn lead_alone(waiting: &mut Waiting, lead: &Lead) -> Result<(), AllocError>
+    ensures stay { OnOk result ((l : held.Lead) → Contains waiting.old l → Contains waiting.new l) }
+    ensures awake { OnOk result (Contains waiting.new (spec.alone lead.now)) }
+{
+    waiting.add(Lead {
+        alone: true,
+        ..*lead
+    })
+}
+
+/// Lets leads lead again, each alone.
+fn lead_all_alone(waiting: &mut Waiting, leads: &[Lead]) -> Result<(), AllocError>
+    ensures stay { OnOk result ((l : held.Lead) → Contains waiting.old l → Contains waiting.new l) }
+    ensures awake { OnOk result ((l : declared.Lead) → Contains leads.now l → Contains waiting.new (spec.alone l)) }
+{
+    let mut rest = leads;
+    'rest: while let Some((first, behind)) = rest.split_first() {
+        lead_alone(waiting, first)?;
+        rest = behind;
+    }
+    Ok(())
+}
+
+/// The leads that are set aside under the digests of a pair.
+fn leads_of(
+    alloc: Global,
+    aside: &Aside,
+    selector: &Selector,
+    decl: &Decl,
+) -> Result<Vec<Lead>, AllocError>
+    ensures { IfOk result (λ leads. spec.HasLeadsUnder aside.now leads.items selector.now decl.now) }
+{
+    // A law; it does nothing.
+    entries_are_found();
+    aside.under(alloc, selector_digest(selector), decl_digest(decl))
+}
+
+/// Lets those lead again, each alone, that are set aside under the digests of a pair.
+fn wake_pair(
+    alloc: Global,
+    aside: &Aside,
+    waiting: &mut Waiting,
+    selector: &Selector,
+    decl: &Decl,
+) -> Result<(), AllocError>
+    ensures stay { OnOk result ((l : held.Lead) → Contains waiting.old l → Contains waiting.new l) }
+    ensures awake { OnOk result (spec.IsAwake aside.now waiting.new selector.now decl.now) }
+{
+    let leads = leads_of(alloc, aside, selector, decl)?;
+    lead_all_alone(waiting, &leads)?;
+    Ok(())
+}
+
+/// The same for the pairs of a selector and some declarations.
+fn wake_decls(
+    alloc: Global,
+    aside: &Aside,
+    waiting: &mut Waiting,
+    selector: &Selector,
+    decls: &[DeclItem],
+) -> Result<(), AllocError>
+    ensures stay { OnOk result ((l : held.Lead) → Contains waiting.old l → Contains waiting.new l) }
+    ensures awake { OnOk result (spec.AreAwake aside.now waiting.new (selector.now ∷ []) (map (λ d. d.decl) decls.now)) }
+{
+    let mut rest = decls;
+    'rest: while let Some((first, behind)) = rest.split_first() {
+        wake_pair(alloc, aside, waiting, selector, &first.decl)?;
+        rest = behind;
+    }
+    Ok(())
+}
+
+/// The same for the pairs of some selectors and some declarations.
+fn wake_pairs(
+    alloc: Global,
+    aside: &Aside,
+    waiting: &mut Waiting,
+    selectors: &[SelItem],
+    decls: &[DeclItem],
+) -> Result<(), AllocError>
+    ensures stay { OnOk result ((l : held.Lead) → Contains waiting.old l → Contains waiting.new l) }
+    ensures awake { OnOk result (spec.AreAwake aside.now waiting.new (map (λ s. s.selector) selectors.now) (map (λ d. d.decl) decls.now)) }
+{
+    let mut rest = selectors;
+    'rest: while let Some((first, behind)) = rest.split_first() {
+        wake_decls(alloc, aside, waiting, &first.selector, decls)?;
+        rest = behind;
+    }
+    Ok(())
+}
+
+/// The same for the pairs of a rule.
+fn wake_pairs_of(
+    alloc: Global,
+    aside: &Aside,
+    waiting: &mut Waiting,
+    rule: &Rule,
+) -> Result<(), AllocError>
+    ensures stay { OnOk result ((l : held.Lead) → Contains waiting.old l → Contains waiting.new l) }
+    ensures awake { OnOk result (spec.IsRuleAwake aside.now waiting.new rule.now) }
+{
+    wake_pairs(alloc, aside, waiting, &rule.selectors, &rule.decls)?;
+    Ok(())
+}
+
+/// The same for the pairs of the item of this number, if it is a rule.
+fn wake_rule(
+    alloc: Global,
+    aside: &Aside,
+    waiting: &mut Waiting,
+    sheet: &Sheet,
+    number: u32,
+) -> Result<(), AllocError>
+    ensures stay { OnOk result ((l : held.Lead) → Contains waiting.old l → Contains waiting.new l) }
+    ensures awake { OnOk result ((r : RuleParts) → slice_get sheet.now.items number ≡ Some (kinds.Rule r) → spec.IsRuleAwake aside.now waiting.new r) }
+{
+    let Some(rule) = find_rule(sheet, number) else {
+        return Ok(());
+    };
+    wake_pairs_of(alloc, aside, waiting, rule)?;
+    Ok(())
+}
+
+/// The rule of this number, if a rule stands there.
+fn find_rule(sheet: &Sheet, number: u32) -> Option<&Rule>
+    ensures some { IfSome result (λ rule. slice_get sheet.now.items number ≡ Some (kinds.Rule rule.now)) }
+    ensures none { IfNone result ((r : RuleParts) → slice_get sheet.now.items number ≡ Some (kinds.Rule r) → ⊥) }
+{
+    match sheet.items.get(number as usize) {
+        Some(Item::Rule(rule)) => Some(rule),
+        _ => None,
+    }
+}
+
+/// The numbers of the items that a step moves pairs out of: the first one, and the last one.
+fn moved_out(step: &Step) -> (u32, u32)
+    ensures first { result.0 ≡ spec.first_out step.now }
+    ensures last { result.1 ≡ spec.last_out step.now }
+{
+    match *step {
+        Step::CutDecl { item, .. } | Step::CutSel { item, .. } => (item, item),
+        Step::JoinSelUp { lower, .. } | Step::JoinDeclUp { lower, .. } => (lower, lower),
+        Step::JoinSelDown { upper, .. } | Step::JoinDeclDown { upper, .. } => (upper, upper),
+        Step::Share { upper, lower } => (upper, lower),
+    }
+}
+
+/// Lets those lead again, each alone, that are set aside under the digests of a pair that a step moves.
+pub(crate) fn wake_moved(
+    alloc: Global,
+    aside: &Aside,
+    waiting: &mut Waiting,
+    sheet: &Sheet,
+    step: &Step,
+) -> Result<(), AllocError>
+    ensures stay { OnOk result ((l : held.Lead) → Contains waiting.old l → Contains waiting.new l) }
+    ensures awake { OnOk result ((e : Edit) → IsStep sheet.now.items step.now e → (p : Pair) → is_moved e.moved p ≡ true
+        → spec.IsAwake aside.now waiting.new p.selector p.decl) }
+{
+    steps_rearrange();
+    let (first, last) = moved_out(step);
+    wake_rule(alloc, aside, waiting, sheet, first)?;
+    if first == last {
+        return Ok(());
+    }
+    wake_rule(alloc, aside, waiting, sheet, last)?;
+    Ok(())
+}
