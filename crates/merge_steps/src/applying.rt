@@ -5,11 +5,24 @@ ghost use Rattle.css_model.specs.Sheets.Limits.{max_items};
 ghost use Rattle.order_laws.specs.Edits.{Edit, edited};
 ghost use Rattle.step_laws.specs.Steps.{HasStep, IsStep};
 
-use crate::edits::{changed, changes_of};
+use crate::edits::{Change, changed, changes_of};
 use css_model::Sheet;
 use std::alloc::{AllocError, Global};
 use step_laws::Step;
 use step_savings::{items_of, rule_at};
+
+/// What becomes of the items that a step of a sheet takes, by their numbers: of one item, or of two, the upper one
+/// first. The memory is that of what comes.
+#[tactic(auto, using(step_savings::proofs::ForCallers::first_rule, step_savings::proofs::ForCallers::last_rule, step_savings::proofs::ForCallers::has_part, step_savings::proofs::ForCallers::edit_is))]
+pub fn changes(alloc: Global, sheet: &Sheet, step: &Step) -> Result<Vec<Change>, AllocError>
+    requires { HasStep sheet.now.items step.now }
+    ensures { IfOk result (λ changes. (e : Edit) → IsStep sheet.now.items step.now e → changes.items ≡ e.changes) }
+{
+    let (first, last) = items_of(step);
+    let upper = rule_at(sheet, first);
+    let lower = rule_at(sheet, last);
+    changes_of(alloc, step, upper, lower)
+}
 
 /// The sheet after one of its steps: a copy, with what the step makes of its rules in their places.
 #[tactic(auto, using(step_savings::proofs::ForCallers::first_rule, step_savings::proofs::ForCallers::last_rule, step_savings::proofs::ForCallers::has_part, step_savings::proofs::ForCallers::edited_is))]

@@ -18,9 +18,11 @@ use step_laws::Step;
 
 /// The item of this number becomes these items.
 #[derive(Debug, Drop)]
-pub(crate) struct Change {
-    at: u32,
-    by: Vec<Item>,
+pub struct Change {
+    /// The number of the item, from 0.
+    pub at: u32,
+    /// What stands in its place, in order.
+    pub by: Vec<Item>,
 }
 
 impl Model for Change {

@@ -8,7 +8,8 @@ mod members;
 mod parts;
 mod possible;
 
-pub use applying::apply;
+pub use applying::{apply, changes};
+pub use edits::Change;
 pub use listing::steps;
 pub use possible::is_step;
 pub use step_laws::Step;
