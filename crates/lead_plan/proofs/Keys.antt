@@ -28,12 +28,12 @@ use Rattle.wall_laws.specs.Holding.{turn_of}
 abbrev kind_cmp : Kind → Kind → Ordering
 kind_cmp = (kind_ord.ghosts).cmp
 
-abbrev lead_cmp : Lead → Lead → Ordering
+abbrev pub lead_cmp : Lead → Lead → Ordering
 lead_cmp = (lead_ord.ghosts).cmp
 
 -- ---- Kinds
 
-abbrev kind_number : Kind → ℕ
+abbrev pub kind_number : Kind → ℕ
 kind_number DeclCut = 0
 kind_number SelCut = 1
 kind_number SelJoinUp = 2
@@ -62,7 +62,7 @@ same_kind DeclJoinDown DeclJoinDown e = refl
 same_kind Sharing Sharing e = refl
 same_kind a b e = absurd (omega (arith, e))
 
-rank_of : (k : Kind) (x y : ℕ) → rank (step_of_kind k x y) ≡ kind_number k ∷ x ∷ y ∷ []
+pub rank_of : (k : Kind) (x y : ℕ) → rank (step_of_kind k x y) ≡ kind_number k ∷ x ∷ y ∷ []
 rank_of DeclCut x y = refl
 rank_of SelCut x y = refl
 rank_of SelJoinUp x y = refl
@@ -82,7 +82,7 @@ same x y e = grind (arith, nat_tests)
 is_same : (x y : ℕ) → nat_cmp x y ≡ Equal → x ≡ y
 is_same x y e = grind (arith, nat_tests)
 
-exceeding : (x y : ℕ) (xs ys : List ℕ) → exceeds (x ∷ xs) (y ∷ ys) ≡ true → (y < x) ⊎ ((x ≡ y) × (exceeds xs ys ≡ true))
+pub exceeding : (x y : ℕ) (xs ys : List ℕ) → exceeds (x ∷ xs) (y ∷ ys) ≡ true → (y < x) ⊎ ((x ≡ y) × (exceeds xs ys ≡ true))
 exceeding x y xs ys h = grind (arith, nat_tests)
 
 one_on : (x y : ℕ) (o : Ordering) (xs ys : List ℕ) → ordering_then (nat_cmp x y) o ≡ Less → exceeds (x ∷ xs) (y ∷ ys) ≡ true → (o ≡ Less) × (exceeds xs ys ≡ true)
@@ -129,7 +129,7 @@ same_bool false true e = absurd (cc)
 same_bool true false e = absurd (cc)
 same_bool true true e = refl
 
-same_told : (a b : Lead) → lead_cmp a b ≡ Equal → lead_told a ≡ lead_told b
+pub same_told : (a b : Lead) → lead_cmp a b ≡ Equal → lead_told a ≡ lead_told b
 same_told a b e =
     let s = then_equal (nat_cmp b.saving.0 a.saving.0) (ordering_then (kind_cmp a.kind b.kind) (ordering_then (nat_cmp a.first b.first) (ordering_then (nat_cmp a.second b.second) (ordering_then (nat_cmp a.owner b.owner) (bool_cmp a.alone b.alone))))) e in
     let k = then_equal (kind_cmp a.kind b.kind) (ordering_then (nat_cmp a.first b.first) (ordering_then (nat_cmp a.second b.second) (ordering_then (nat_cmp a.owner b.owner) (bool_cmp a.alone b.alone)))) s.1 in
@@ -154,7 +154,7 @@ same_told a b e =
 
 -- ---- A lead more
 
-abbrev told_all : List Lead → List held.Lead
+abbrev pub told_all : List Lead → List held.Lead
 told_all ks = map lead_told ks
 
 pub is_added : (k : Lead) (ks : List Lead) → Contains (told_all (insert_key lead_cmp ks k)) (lead_told k)

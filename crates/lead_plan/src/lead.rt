@@ -1,5 +1,10 @@
 //! Turns that lead.
 
+ghost use Rattle.std.specs.Prelude.{◌<◌, ◌^◌};
+ghost use Rattle.lead_plan.specs.Told.{lead_told};
+ghost use Rattle.lead_plan.specs.Weights.{weight};
+ghost use Rattle.plan_laws.specs.Cover.{IsSooner};
+
 use std::cmp::Reverse;
 
 /// The kinds of steps, in the order of steps.
@@ -36,4 +41,22 @@ pub struct Lead {
     pub owner: u32,
     /// Whether it leads the one step alone.
     pub alone: bool,
+}
+
+/// A number of the code has 64 bits. It does nothing.
+fn number_fits(number: u64)
+    ensures { number < 2 ^ 64 }
+{}
+
+/// A lead whose turn comes later weighs less, and each weighs something. It does nothing but read the
+/// numbers of the leads, which have 64 bits.
+#[tactic(auto, using(crate::proofs::Weighing::weighs_less, crate::proofs::Weighing::weighs_some))]
+pub fn later_weighs_less(one: &Lead, other: &Lead)
+    ensures less { IsSooner (lead_told one.now).turn (lead_told other.now).turn → weight (lead_told other.now) < weight (lead_told one.now) }
+    ensures some { 0 < weight (lead_told one.now) }
+{
+    number_fits(one.first);
+    number_fits(one.second);
+    number_fits(other.first);
+    number_fits(other.second);
 }

@@ -1,9 +1,10 @@
 //! The turns that lead, in the order in which they come.
 
-ghost use Rattle.std.specs.Prelude.{◌≡◌, ◌⊎◌, [], ◌∷◌, IfNone, IfSome, OnErr, OnOk};
+ghost use Rattle.std.specs.Prelude.{◌≡◌, ◌⊎◌, ◌+◌, ◌≤◌, [], ◌∷◌, IfNone, IfSome, OnErr, OnOk};
 ghost use Rattle.std.specs.List.{Contains};
 ghost use Rattle.hold_laws.specs.Leads as held;
 ghost use Rattle.lead_plan.specs.Told.{lead_told};
+ghost use Rattle.lead_plan.specs.Weights.{total, weight};
 ghost use Rattle.plan_laws.specs.Cover.{IsSooner};
 
 use crate::lead::Lead;
@@ -43,6 +44,7 @@ impl Waiting {
         ensures stay { (l : held.Lead) → Contains self.old l → Contains self.new l }
         ensures added { OnOk result (Contains self.new (lead_told lead)) }
         ensures only { (l : held.Lead) → Contains self.new l → Contains self.old l ⊎ (l ≡ lead_told lead) }
+        ensures weighs { OnOk result (total self.new ≤ total self.old + weight (lead_told lead)) }
     {
         self.leads.insert(lead)?;
         Ok(())

@@ -1,0 +1,99 @@
+-- Leads that come later weigh less.
+use Rattle.std.proofs.Common.{◌≡◌, ◌⊎◌, ℕ, ◌+◌, ◌*◌, ◌-◌, ◌^◌, ◌<◌, ◌≤◌, true, List, [], ◌∷◌, sym, ap, subst, inl, inr, arith}
+use Rattle.std.specs.declared.cmp.Ordering.{Ordering}
+use Rattle.std.specs.declared.cmp.Ordering.TheVariants.{Less, Equal, Greater}
+use Rattle.std.specs.Ordering.{match_ordering}
+use Rattle.std.specs.BTreeSet.{insert_key}
+use Rattle.css_model.specs.Cascade.Winner.{exceeds}
+use Rattle.lead_plan.specs.declared.lead.Kind.{Kind}
+use Rattle.lead_plan.specs.declared.lead.Kind.TheVariants.{DeclCut, SelCut, SelJoinUp, SelJoinDown, DeclJoinUp, DeclJoinDown, Sharing}
+use Rattle.lead_plan.specs.declared.lead.Lead.{Lead}
+use Rattle.lead_plan.specs.Told.{step_of_kind, lead_told}
+use Rattle.lead_plan.specs.Weights.{weight_of, weight, total}
+use Rattle.lead_plan.proofs.Keys.{kind_number, rank_of, exceeding, lead_cmp, told_all}
+use Rattle.plan_laws.specs.Cover.{IsSooner}
+use Rattle.step_laws.specs.Steps.{rank}
+
+-- ---- One lead
+
+few_kinds : (k : Kind) → kind_number k ≤ 6
+few_kinds DeclCut = omega arith
+few_kinds SelCut = omega arith
+few_kinds SelJoinUp = omega arith
+few_kinds SelJoinDown = omega arith
+few_kinds DeclJoinUp = omega arith
+few_kinds DeclJoinDown = omega arith
+few_kinds Sharing = omega arith
+
+abbrev number : ℕ → ℕ → ℕ → ℕ → ℕ
+number n k x y = ((n * 7 + (6 - k)) * 2 ^ 64 + (2 ^ 64 - (x + 1))) * 2 ^ 64 + (2 ^ 64 - y)
+
+weight_is : (l : Lead) → weight (lead_told l) ≡ number l.saving.0 (kind_number l.kind) l.first l.second
+weight_is l = ap (weight_of l.saving.0) (rank_of l.kind l.first l.second)
+
+by_saving : (n m k j x y z w : ℕ) → k ≤ 6 → j ≤ 6 → x < 2 ^ 64 → y < 2 ^ 64 → z < 2 ^ 64 → w < 2 ^ 64 → m < n → number m j z w < number n k x y
+by_saving n m k j x y z w a b c d e f less = omega (arith, a, b, c, d, e, f, less)
+
+by_kind : (n k j x y z w : ℕ) → k ≤ 6 → j ≤ 6 → x < 2 ^ 64 → y < 2 ^ 64 → z < 2 ^ 64 → w < 2 ^ 64 → k < j → number n j z w < number n k x y
+by_kind n k j x y z w a b c d e f less = omega (arith, a, b, c, d, e, f, less)
+
+by_first : (n k x y z w : ℕ) → k ≤ 6 → x < 2 ^ 64 → y < 2 ^ 64 → z < 2 ^ 64 → w < 2 ^ 64 → x < z → number n k z w < number n k x y
+by_first n k x y z w a c d e f less = omega (arith, a, c, d, e, f, less)
+
+by_second : (n k x y w : ℕ) → k ≤ 6 → x < 2 ^ 64 → y < 2 ^ 64 → w < 2 ^ 64 → y < w → number n k x w < number n k x y
+by_second n k x y w a c d f less = omega (arith, a, c, d, f, less)
+
+by_rank : (n k j x y z w : ℕ) → k ≤ 6 → j ≤ 6 → x < 2 ^ 64 → y < 2 ^ 64 → z < 2 ^ 64 → w < 2 ^ 64 → exceeds (j ∷ z ∷ w ∷ []) (k ∷ x ∷ y ∷ []) ≡ true → number n j z w < number n k x y
+by_rank n k j x y z w a b c d e f over = kinds (exceeding j k (z ∷ w ∷ []) (x ∷ y ∷ []) over)
+  where
+    none : (exceeds [] [] ≡ true) → number n j z w < number n k x y
+    none h = absurd (cc)
+
+    seconds : j ≡ k → z ≡ x → (y < w) ⊎ ((w ≡ y) × (exceeds [] [] ≡ true)) → number n j z w < number n k x y
+    seconds p q (inl less) = subst (λ i. number n i z w < number n k x y) (sym p) (subst (λ i. number n k i w < number n k x y) (sym q) (by_second n k x y w a c d f less))
+    seconds p q (inr h) = none h.1
+
+    firsts : j ≡ k → (x < z) ⊎ ((z ≡ x) × (exceeds (w ∷ []) (y ∷ []) ≡ true)) → number n j z w < number n k x y
+    firsts p (inl less) = subst (λ i. number n i z w < number n k x y) (sym p) (by_first n k x y z w a c d e f less)
+    firsts p (inr h) = seconds p h.0 (exceeding w y [] [] h.1)
+
+    kinds : (k < j) ⊎ ((j ≡ k) × (exceeds (z ∷ w ∷ []) (x ∷ y ∷ []) ≡ true)) → number n j z w < number n k x y
+    kinds (inl less) = by_kind n k j x y z w a b c d e f less
+    kinds (inr h) = firsts h.0 (exceeding z x (w ∷ []) (y ∷ []) h.1)
+
+pub weighs_less : (one other : Lead) → one.first < 2 ^ 64 → one.second < 2 ^ 64 → other.first < 2 ^ 64 → other.second < 2 ^ 64 → IsSooner (lead_told one).turn (lead_told other).turn →
+    weight (lead_told other) < weight (lead_told one)
+weighs_less one other c d e f sooner = subst (λ n. n < weight (lead_told one)) (sym (weight_is other)) (subst (λ n. number other.saving.0 (kind_number other.kind) other.first other.second < n) (sym (weight_is one)) (which sooner))
+  where
+    a : kind_number one.kind ≤ 6
+    a = few_kinds one.kind
+
+    b : kind_number other.kind ≤ 6
+    b = few_kinds other.kind
+
+    which : IsSooner (lead_told one).turn (lead_told other).turn → number other.saving.0 (kind_number other.kind) other.first other.second < number one.saving.0 (kind_number one.kind) one.first one.second
+    which (inl less) = by_saving one.saving.0 other.saving.0 (kind_number one.kind) (kind_number other.kind) one.first one.second other.first other.second a b c d e f less
+    which (inr (equal, over)) =
+        let ranks : exceeds (kind_number other.kind ∷ other.first ∷ other.second ∷ []) (kind_number one.kind ∷ one.first ∷ one.second ∷ []) ≡ true =
+        subst (λ (xs : List ℕ). exceeds xs (kind_number one.kind ∷ one.first ∷ one.second ∷ []) ≡ true) (rank_of other.kind other.first other.second)
+        (subst (λ (ys : List ℕ). exceeds (rank (step_of_kind other.kind other.first other.second)) ys ≡ true) (rank_of one.kind one.first one.second) over) in
+        subst (λ n. number n (kind_number other.kind) other.first other.second < number one.saving.0 (kind_number one.kind) one.first one.second) equal
+        (by_rank one.saving.0 (kind_number one.kind) (kind_number other.kind) one.first one.second other.first other.second a b c d e f ranks)
+
+some_number : (n k x y : ℕ) → y < 2 ^ 64 → 0 < number n k x y
+some_number n k x y d = omega (arith, d)
+
+pub weighs_some : (one : Lead) → one.second < 2 ^ 64 → 0 < weight (lead_told one)
+weighs_some one d = subst (λ n. 0 < n) (sym (weight_is one)) (some_number one.saving.0 (kind_number one.kind) one.first one.second d)
+
+-- ---- A lead more
+
+pub added_weighs : (k : Lead) (ks : List Lead) → total (told_all (insert_key lead_cmp ks k)) ≤ total (told_all ks) + weight (lead_told k)
+added_weighs k [] = omega arith
+added_weighs k (x ∷ ks) = which (lead_cmp k x) (added_weighs k ks)
+  where
+    which : (o : Ordering) → total (told_all (insert_key lead_cmp ks k)) ≤ total (told_all ks) + weight (lead_told k) →
+        total (told_all (match_ordering o (k ∷ x ∷ ks) (x ∷ ks) (x ∷ insert_key lead_cmp ks k))) ≤ total (told_all (x ∷ ks)) + weight (lead_told k)
+    which Less rest = omega arith
+    which Equal rest = omega arith
+    which Greater rest = omega (arith, rest)

@@ -1,0 +1,17 @@
+-- How much a lead weighs: the more, the more turns may come behind its own (own).
+use Rattle.std.specs.Prelude.{ℕ, ◌+◌, ◌-◌, ◌*◌, ◌^◌, List, [], ◌∷◌}
+use Rattle.hold_laws.specs.Leads as held
+use Rattle.step_laws.specs.Steps.{rank}
+
+-- by how much the turn saves, the number of its kind, and its two numbers, which the code has in 64 bits
+abbrev pub weight_of : ℕ → List ℕ → ℕ
+weight_of saving (kind ∷ first ∷ second ∷ []) = ((saving * 7 + (6 - kind)) * 2 ^ 64 + (2 ^ 64 - (first + 1))) * 2 ^ 64 + (2 ^ 64 - second)
+weight_of saving numbers = 0
+
+abbrev pub weight : held.Lead → ℕ
+weight l = weight_of l.turn.saving (rank l.turn.step)
+
+-- all of some leads together
+abbrev pub total : List held.Lead → ℕ
+total [] = 0
+total (l ∷ leads) = weight l + total leads
