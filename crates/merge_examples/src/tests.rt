@@ -3,11 +3,11 @@
 use cnf::NO_LIMIT;
 use merge_text::{MergedText, merge_text};
 use overlap::Pairs;
-use pair_judge::PairJudge;
 use sheet_read::SheetError;
 use std::alloc::Global;
 use std::process::Abort;
 use std::test::Fail;
+use step_obstacles::PairObstacles;
 
 /// The usual sheet of a page.
 const PAGE: &[u8] = b"/* base */
@@ -63,8 +63,8 @@ a,.link{color:#06c;text-decoration:none}\
 
 /// Merges a source, with no answers at first.
 fn merged(alloc: Global, source: &[u8]) -> Result<MergedText, SheetError> {
-    let mut judge = PairJudge::new(alloc, Pairs::new(alloc, NO_LIMIT));
-    merge_text(alloc, &mut judge, source)
+    let mut obstacles = PairObstacles::new(alloc, Pairs::new(alloc, NO_LIMIT));
+    merge_text(alloc, &mut obstacles, source)
 }
 
 /// A source becomes this text, of so many items in place of those that it has, by so many steps.

@@ -1,2 +1,3 @@
+mod Gains
 mod Looking
 mod NextSheets

@@ -1,18 +1,21 @@
 //! The next step of a sheet, by a look at each of its steps.
 
-ghost use Rattle.std.specs.Prelude.{◌≡◌, ◌↔◌, ◌+◌, ◌<◌, ◌≤◌, Option, IfOk, length};
+ghost use Rattle.std.specs.Prelude.{◌≡◌, ◌↔◌, ℕ, ◌+◌, ◌<◌, ◌≤◌, List, Option, true, false, IfOk, length};
 ghost use Rattle.std.specs.List.{AllPairs, Contains};
 ghost use Rattle.merge_plan.specs.Best.{IsBestOf, IsNextFound, saved_by};
 ghost use Rattle.plan_laws.specs.Plannable.{IsPlannable};
-ghost use Rattle.step_laws.specs.Free.{AreAmong};
-ghost use Rattle.step_laws.specs.Steps.{HasStep, StandsBefore};
+ghost use Rattle.order_laws.specs.Edits.{Edit};
+ghost use Rattle.step_laws.specs.Free.{AreAmong, IsBlocked, IsFree};
+ghost use Rattle.step_laws.specs.Steps.{HasStep, IsStep, StandsBefore};
 ghost use Rattle.step_laws.specs.declared.step.Step as declared;
 
-use crate::judge::Judge;
+use crate::savings::saved;
 use css_model::Sheet;
 use merge_steps::steps;
+use obstacles::Obstacles;
 use std::alloc::{AllocError, Global};
 use step_laws::{Step, parts_are_few};
+use wall_laws::hindered_is_blocked;
 
 /// A free step, and how much it saves.
 #[derive(Clone, Copy, Debug, PartialEq, Eq)]
@@ -31,9 +34,25 @@ fn saved_by(best: &Option<Found>) -> u32
     }
 }
 
+/// Whether a step of a sheet is free. It is blocked where it is not.
+fn is_free<O: Obstacles>(obstacles: &mut O, sheet: &Sheet, step: &Step) -> Result<bool, AllocError>
+    requires is_step { HasStep sheet.now.items step.now }
+    requires plannable { (source : List ℕ) × IsPlannable source sheet.now.items }
+    ensures asked { AreAmong (O.answers obstacles.old) (O.answers obstacles.new) }
+    ensures same_budget { O.budget obstacles.new ≡ O.budget obstacles.old }
+    ensures free { IfOk result (λ b. b ≡ true → (e : Edit) → IsStep sheet.now.items step.now e → IsFree (O.answers obstacles.new) sheet.now.items e) }
+    ensures blocked { IfOk result (λ b. b ≡ false → (e : Edit) → IsStep sheet.now.items step.now e → IsBlocked (O.answers obstacles.new) sheet.now.items e) }
+{
+    hindered_is_blocked();
+    match obstacles.obstacle(sheet, step)? {
+        None => Ok(true),
+        Some(_) => Ok(false),
+    }
+}
+
 /// The best free step of the first ones of a list and of the one behind them.
-fn look<J: Judge>(
-    judge: &mut J,
+fn look<O: Obstacles>(
+    obstacles: &mut O,
     source: &[u8],
     sheet: &Sheet,
     list: &[Step],
@@ -44,16 +63,17 @@ fn look<J: Judge>(
     requires steps { (k : declared.Step) → Contains list.now k → HasStep sheet.now.items k }
     requires ascends { AllPairs StandsBefore list.now }
     requires here { number < length list.now }
-    requires best { IsBestOf (J.answers judge.old) source.now sheet.now.items list.now number best }
-    ensures asked { AreAmong (J.answers judge.old) (J.answers judge.new) }
-    ensures best { IfOk result (λ best. IsBestOf (J.answers judge.new) source.now sheet.now.items list.now (number + 1) best) }
+    requires best { IsBestOf (O.answers obstacles.old) source.now sheet.now.items list.now number best }
+    ensures asked { AreAmong (O.answers obstacles.old) (O.answers obstacles.new) }
+    ensures same_budget { O.budget obstacles.new ≡ O.budget obstacles.old }
+    ensures best { IfOk result (λ best. IsBestOf (O.answers obstacles.new) source.now sheet.now.items list.now (number + 1) best) }
 {
     let step = list[number];
-    let saved = judge.saved(source, sheet, &step);
+    let saved = saved(source, sheet, &step);
     if saved <= saved_by(&best) {
         return Ok(best);
     }
-    if judge.is_free(source, sheet, &step)? {
+    if is_free(obstacles, sheet, &step)? {
         Ok(Some(Found { step, saved }))
     } else {
         Ok(best)
@@ -62,8 +82,8 @@ fn look<J: Judge>(
 
 #[tactic(auto, using(crate::proofs::Looking::none_looked))]
 /// The best free step of a list, if one is free.
-fn best_of<J: Judge>(
-    judge: &mut J,
+fn best_of<O: Obstacles>(
+    obstacles: &mut O,
     source: &[u8],
     sheet: &Sheet,
     list: &[Step],
@@ -71,29 +91,31 @@ fn best_of<J: Judge>(
     requires plannable { IsPlannable source.now sheet.now.items }
     requires steps { (k : declared.Step) → Contains list.now k → HasStep sheet.now.items k }
     requires ascends { AllPairs StandsBefore list.now }
-    ensures asked { AreAmong (J.answers judge.old) (J.answers judge.new) }
-    ensures best { IfOk result (λ best. IsBestOf (J.answers judge.new) source.now sheet.now.items list.now (length list.now) best) }
+    ensures asked { AreAmong (O.answers obstacles.old) (O.answers obstacles.new) }
+    ensures same_budget { O.budget obstacles.new ≡ O.budget obstacles.old }
+    ensures best { IfOk result (λ best. IsBestOf (O.answers obstacles.new) source.now sheet.now.items list.now (length list.now) best) }
 {
     let mut best = None;
     for number in 0..list.len() {
-        best = look(judge, source, sheet, list, number, best)?;
+        best = look(obstacles, source, sheet, list, number, best)?;
     }
     Ok(best)
 }
 
 #[tactic(auto, using(crate::proofs::Looking::all_looked, crate::proofs::NextSheets::few_parts))]
 /// The next step of a sheet, if one is left that is free and saves.
-pub(crate) fn next_step<J: Judge>(
+pub(crate) fn next_step<O: Obstacles>(
     alloc: Global,
-    judge: &mut J,
+    obstacles: &mut O,
     source: &[u8],
     sheet: &Sheet,
 ) -> Result<Option<Found>, AllocError>
     requires plannable { IsPlannable source.now sheet.now.items }
-    ensures asked { AreAmong (J.answers judge.old) (J.answers judge.new) }
-    ensures next { IfOk result (λ best. IsNextFound (J.answers judge.new) source.now sheet.now.items best) }
+    ensures asked { AreAmong (O.answers obstacles.old) (O.answers obstacles.new) }
+    ensures same_budget { O.budget obstacles.new ≡ O.budget obstacles.old }
+    ensures next { IfOk result (λ best. IsNextFound (O.answers obstacles.new) source.now sheet.now.items best) }
 {
     parts_are_few();
     let list = steps(alloc, sheet)?;
-    best_of(judge, source, sheet, list.as_slice())
+    best_of(obstacles, source, sheet, list.as_slice())
 }

@@ -3,8 +3,8 @@
 #![tactic(auto)]
 
 mod best;
-mod judge;
 mod merging;
+mod savings;
 
-pub use judge::Judge;
 pub use merging::{Merged, merge};
+pub use savings::saved;

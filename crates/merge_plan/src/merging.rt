@@ -1,14 +1,14 @@
 //! Steps taken one after the other.
 
-ghost use Rattle.std.specs.Prelude.{IfNone, IfOk, IfSome};
+ghost use Rattle.std.specs.Prelude.{◌≡◌, IfNone, IfOk, IfSome};
 ghost use Rattle.plan_laws.specs.Plannable.{IsPlannable};
 ghost use Rattle.step_laws.specs.Free.{AreAmong};
 ghost use Rattle.step_laws.specs.Leading.{IsDone, Leads, Takes};
 
 use crate::best::next_step;
-use crate::judge::Judge;
 use css_model::Sheet;
 use merge_steps::apply;
+use obstacles::Obstacles;
 use std::alloc::{AllocError, Global};
 use step_laws::{each_is_made_of_itself, steps_make_of};
 
@@ -23,45 +23,47 @@ pub struct Merged {
 
 #[tactic(auto, using(crate::proofs::NextSheets::taken, crate::proofs::NextSheets::taken_plannable))]
 /// The sheet after the next step, if there is one.
-fn next_sheet<J: Judge>(
+fn next_sheet<O: Obstacles>(
     alloc: Global,
-    judge: &mut J,
+    obstacles: &mut O,
     source: &[u8],
     sheet: &Sheet,
 ) -> Result<Option<Sheet>, AllocError>
     requires plannable { IsPlannable source.now sheet.now.items }
-    ensures asked { AreAmong (J.answers judge.old) (J.answers judge.new) }
-    ensures took { IfOk result (λ next. IfSome next (λ new. Takes (J.answers judge.new) source.now sheet.now.items new.items)) }
+    ensures asked { AreAmong (O.answers obstacles.old) (O.answers obstacles.new) }
+    ensures same_budget { O.budget obstacles.new ≡ O.budget obstacles.old }
+    ensures took { IfOk result (λ next. IfSome next (λ new. Takes (O.answers obstacles.new) source.now sheet.now.items new.items)) }
     ensures plannable { IfOk result (λ next. IfSome next (λ new. IsPlannable source.now new.items)) }
-    ensures done { IfOk result (λ next. IfNone next (IsDone (J.answers judge.new) source.now sheet.now.items)) }
+    ensures done { IfOk result (λ next. IfNone next (IsDone (O.answers obstacles.new) source.now sheet.now.items)) }
 {
     steps_make_of();
     each_is_made_of_itself();
-    let Some(found) = next_step(alloc, judge, source, sheet)? else {
+    let Some(found) = next_step(alloc, obstacles, source, sheet)? else {
         return Ok(None);
     };
     let new = apply(alloc, sheet, &found.step)?;
     Ok(Some(new))
 }
 
-/// Merges a sheet: takes steps, each the next one by the answers that the judge holds afterwards, until nothing
+/// Merges a sheet: takes steps, each the next one by the answers that `obstacles` holds afterwards, until nothing
 /// is left to do. The sheet is one whose parts are those of the source, which is read without a fault, and it
-/// keeps the limits of a sheet. All that was answered stays, also after `AllocError`.
-pub fn merge<J: Judge>(
+/// keeps the limits of a sheet. All that was answered stays, and the budget, also after `AllocError`.
+pub fn merge<O: Obstacles>(
     alloc: Global,
-    judge: &mut J,
+    obstacles: &mut O,
     source: &[u8],
     sheet: Sheet,
 ) -> Result<Merged, AllocError>
     requires plannable { IsPlannable source.now sheet.items }
-    ensures asked { AreAmong (J.answers judge.old) (J.answers judge.new) }
-    ensures leads { IfOk result (λ m. Leads (J.answers judge.new) source.now m.taken sheet.items m.sheet.items) }
-    ensures done { IfOk result (λ m. IsDone (J.answers judge.new) source.now m.sheet.items) }
+    ensures asked { AreAmong (O.answers obstacles.old) (O.answers obstacles.new) }
+    ensures same_budget { O.budget obstacles.new ≡ O.budget obstacles.old }
+    ensures leads { IfOk result (λ m. Leads (O.answers obstacles.new) source.now m.taken sheet.items m.sheet.items) }
+    ensures done { IfOk result (λ m. IsDone (O.answers obstacles.new) source.now m.sheet.items) }
 {
     let mut sheet = sheet;
     let mut taken: u32 = 0;
     'steps: loop {
-        match next_sheet(alloc, judge, source, &sheet)? {
+        match next_sheet(alloc, obstacles, source, &sheet)? {
             Some(new) => {
                 sheet = new;
                 taken += 1;

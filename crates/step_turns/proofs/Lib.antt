@@ -1,4 +1,3 @@
-mod Gains
 mod Looking
 mod NamedSteps
 mod Owned

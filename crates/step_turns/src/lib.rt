@@ -1,13 +1,11 @@
-//! What the steps of a board save, which step a lead names, and the next turn of an owner.
+//! Which step a lead names, and the next turn of an owner.
 #![tactic(auto)]
 
 mod cuts;
 mod naming;
 mod next;
 mod order;
-mod savings;
 mod trying;
 
 pub use naming::step_of_lead;
 pub use next::next_lead;
-pub use savings::saved;

@@ -16,8 +16,8 @@ ghost use Rattle.step_turns.specs.Named.{IsStepOf, Names, NamesNone};
 ghost use Rattle.step_turns.specs.Seconds.{HasSecond, second_name};
 
 use crate::cuts::is_step_of;
-use crate::savings::saved;
 use lead_plan::{Kind, Lead};
+use merge_plan::saved;
 use plan_board::Board;
 use rule_tables::Tables;
 use step_laws::{Step, parts_are_few};

@@ -11,9 +11,9 @@ ghost use Rattle.step_turns.specs.Named.{IsLaterTurn, IsOwnedBy};
 
 use crate::cuts::is_step_of;
 use crate::order::{is_sooner, lead_of};
-use crate::savings::saved;
 use hold_laws::turns_are_ordered;
 use lead_plan::Lead;
+use merge_plan::saved;
 use plan_board::Board;
 use rule_tables::Tables;
 use step_laws::Step;

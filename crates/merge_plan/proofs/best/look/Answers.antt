@@ -14,18 +14,18 @@ saved-saved-requires-clause-is_step g c =
 pub returns-then-saved-saved_by-clause-best : goal.returns-then-saved-saved_by-clause-best
 returns-then-saved-saved_by-clause-best g c =
     let no_more : c.saved-saved.result ≤ saved_by c.args.best = omega (arith, c.if-saved-saved_by.true, c.saved_by.ensures) in
-    passed c.args.source.now c.args.sheet.now.items c.args.list.now (g.J.Judge.answers c.args.judge.now) c.args.number c.args.best (slice_index_or c.args.list.now c.args.number (CutDecl 0 0)) c.saved-saved.result
+    passed c.args.source.now c.args.sheet.now.items c.args.list.now (g.O.Obstacles.answers c.args.obstacles.now) c.args.number c.args.best (slice_index_or c.args.list.now c.args.number (CutDecl 0 0)) c.saved-saved.result
     c.requires.ascends (slice_get-get_or c.args.list.now c.args.number (CutDecl 0 0) c.requires.here) c.saved-saved.ensures no_more c.requires.best
 
 pub returns-then-branch-clause-best : goal.returns-then-branch-clause-best
 returns-then-branch-clause-best g c =
     let ahead : saved_by c.args.best < c.saved-saved.result = omega (arith, c.if-saved-saved_by.false, c.saved_by.ensures) in
-    better c.args.source.now c.args.sheet.now.items c.args.list.now (g.J.Judge.answers c.args.judge.now) (g.J.Judge.answers c.is_free.new.self) c.in_ok-is_free.ensures.asked c.args.number c.args.best
+    better c.args.source.now c.args.sheet.now.items c.args.list.now (g.O.Obstacles.answers c.args.obstacles.now) (g.O.Obstacles.answers c.is_free.new.obstacles) c.in_ok-is_free.ensures.asked c.args.number c.args.best
     (slice_index_or c.args.list.now c.args.number (CutDecl 0 0)) c.saved-saved.result (slice_get-get_or c.args.list.now c.args.number (CutDecl 0 0) c.requires.here)
     (c.requires.steps (slice_index_or c.args.list.now c.args.number (CutDecl 0 0)) (Contains-get_or c.args.list.now c.args.number (CutDecl 0 0) c.requires.here))
     c.saved-saved.ensures ahead (c.in_ok-is_free.ensures.free c.if-branch.true) c.requires.best
 
 pub returns-else-branch-clause-best : goal.returns-else-branch-clause-best
 returns-else-branch-clause-best g c =
-    hindered c.args.source.now c.args.sheet.now.items c.args.list.now (g.J.Judge.answers c.args.judge.now) (g.J.Judge.answers c.is_free.new.self) c.in_ok-is_free.ensures.asked c.args.number c.args.best
+    hindered c.args.source.now c.args.sheet.now.items c.args.list.now (g.O.Obstacles.answers c.args.obstacles.now) (g.O.Obstacles.answers c.is_free.new.obstacles) c.in_ok-is_free.ensures.asked c.args.number c.args.best
     (slice_index_or c.args.list.now c.args.number (CutDecl 0 0)) (slice_get-get_or c.args.list.now c.args.number (CutDecl 0 0) c.requires.here) (c.in_ok-is_free.ensures.blocked c.if-branch.false) c.requires.best

@@ -1,4 +1,4 @@
-use Rattle.std.proofs.Common.{◌+◌, ◌≤◌}
+use Rattle.std.proofs.Common.{◌≡◌, ◌+◌, ◌≤◌}
 use Rattle.merge_plan.proofs.merging.merge.Given as goal
 use Rattle.plan_laws.specs.Plannable.{IsPlannable}
 use Rattle.step_laws.specs.Free.{AreAmong}
@@ -8,9 +8,10 @@ use Rattle.step_laws.specs.Sizes.{size}
 -- the steps so far led here, each by a byte or more
 abbrev pub invariant-steps : goal.invariant-steps
 invariant-steps g l = record {
-  asked : AreAmong (g.J.Judge.answers l.fn.judge) (g.J.Judge.answers l.judge);
+  asked : AreAmong (g.O.Obstacles.answers l.fn.obstacles) (g.O.Obstacles.answers l.obstacles);
+  same_budget : g.O.Obstacles.budget l.obstacles ≡ g.O.Obstacles.budget l.fn.obstacles;
   plannable : IsPlannable l.source l.sheet.items;
-  leads : Leads (g.J.Judge.answers l.judge) l.source l.taken l.fn.sheet.items l.sheet.items;
+  leads : Leads (g.O.Obstacles.answers l.obstacles) l.source l.taken l.fn.sheet.items l.sheet.items;
   room : l.taken + size l.source l.sheet.items ≤ size l.source l.fn.sheet.items;
 }
 

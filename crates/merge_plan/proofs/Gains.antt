@@ -9,7 +9,7 @@ use Rattle.merge_plan.specs.Planning.{IsSaving}
 use Rattle.order_laws.specs.Edits.{Edit, edited}
 use Rattle.plan_laws.specs.Plannable.{IsPlannable}
 use Rattle.step_laws.specs.declared.step.Step.{Step}
-use Rattle.step_laws.specs.Sizes.{size, Saves}
+use Rattle.step_laws.specs.Sizes.{size}
 use Rattle.step_laws.specs.Steps.{HasStep, IsStep}
 
 -- a number of bytes that is told is saved, and no more are

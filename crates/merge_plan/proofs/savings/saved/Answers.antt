@@ -3,8 +3,8 @@ use Rattle.std.specs.Prelude.{◌≤ℤ◌}
 use Rattle.std.proofs.lemmas.Int.{to_z-of_z}
 use mir.Val.{SFits}
 use Rattle.css_model.specs.Sheets.Limits.{max_bytes}
-use Rattle.step_turns.proofs.savings.saved.Goals as goal
-use Rattle.step_turns.proofs.Gains.{not_above, saved}
+use Rattle.merge_plan.proofs.savings.saved.Goals as goal
+use Rattle.merge_plan.proofs.Gains.{not_above, saved}
 
 pub gain-requires : goal.gain-requires
 gain-requires c =

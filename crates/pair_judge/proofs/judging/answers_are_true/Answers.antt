@@ -1,5 +1,0 @@
-use Rattle.pair_judge.proofs.judging.answers_are_true.Goals as goal
-use Rattle.pair_judge.proofs.Answering.{true_answers}
-
-pub returns : goal.returns
-returns c = true_answers c.apart_selectors_do_not_meet.ensures c.args.pairs.now c.are_true.ensures
