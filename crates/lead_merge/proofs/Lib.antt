@@ -1,0 +1,5 @@
+mod Aside
+mod Followed
+mod Passed
+mod Results
+mod Tried

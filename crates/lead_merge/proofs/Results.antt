@@ -1,0 +1,15 @@
+-- Facts of what a call returned, put together.
+use Rattle.std.specs.Prelude.{Result, Ok, Err, IfOk, OnOk}
+
+module _ {A E : Type 0} where
+  pub ok_both : (r : Result A E) (P Q R : A → Type 0) → ((a : A) → P a → Q a → R a) → IfOk r P → IfOk r Q → IfOk r R
+  ok_both (Ok a) P Q R f p q = f a p q
+  ok_both (Err e) P Q R f p q = tt
+
+  pub on_ok : (r : Result A E) (P Q : Type 0) → (P → Q) → OnOk r P → OnOk r Q
+  on_ok (Ok a) P Q f p = f p
+  on_ok (Err e) P Q f p = tt
+
+  pub on_both : (r : Result A E) (P Q R : Type 0) → (P → Q → R) → OnOk r P → OnOk r Q → OnOk r R
+  on_both (Ok a) P Q R f p q = f p q
+  on_both (Err e) P Q R f p q = tt

@@ -1,0 +1,10 @@
+//! Merging by turns that lead: steps are taken one after the other, each the first of the free ones, until none is left.
+#![tactic(auto)]
+
+mod following;
+mod merging;
+mod passing;
+mod setting_aside;
+mod trying;
+
+pub use merging::merge;

@@ -1,0 +1,71 @@
+//! Steps taken one after the other.
+
+ghost use Rattle.std.specs.Prelude.{◌≡◌, IfNone, IfOk, IfSome, OnOk};
+ghost use Rattle.lead_merge.specs.Following.{IsNextFound};
+ghost use Rattle.plan_laws.specs.Plannable.{IsPlannable};
+ghost use Rattle.plan_state.specs.State.{IsState};
+ghost use Rattle.step_laws.specs.Free.{AreAmong};
+ghost use Rattle.step_laws.specs.Leading.{IsDone, Leads};
+
+use crate::trying::try_lead;
+use css_model::Sheet;
+use hold_laws::no_lead_is_done;
+use merge_plan::Merged;
+use obstacles::Obstacles;
+use plan_state::Plan;
+use std::alloc::{AllocError, Global};
+use step_laws::{Step, each_is_made_of_itself, steps_make_of};
+
+/// The next step of a plan, if one is left that is free and saves. Leads that come before it are passed.
+fn next_step<O: Obstacles>(
+    alloc: Global,
+    obstacles: &mut O,
+    source: &[u8],
+    plan: &mut Plan,
+) -> Result<Option<Step>, AllocError>
+    requires { IsState (O.answers obstacles.old) source.now plan.old }
+    ensures asked { AreAmong (O.answers obstacles.old) (O.answers obstacles.new) }
+    ensures same_budget { O.budget obstacles.new ≡ O.budget obstacles.old }
+    ensures board { OnOk result (plan.new.board ≡ plan.old.board) }
+    ensures state { OnOk result (IsState (O.answers obstacles.new) source.now plan.new) }
+    ensures found { IfOk result (λ next. IfSome next (IsNextFound (O.answers obstacles.new) source.now plan.old.board.items)) }
+    ensures done { IfOk result (λ next. IfNone next (IsDone (O.answers obstacles.new) source.now plan.old.board.items)) }
+{
+    no_lead_is_done();
+    'leads: while let Some(lead) = plan.waiting.take_first() {
+        if let Some(step) = try_lead(alloc, obstacles, source, plan, &lead)? {
+            return Ok(Some(step));
+        }
+    }
+    Ok(None)
+}
+
+/// Merges a sheet: takes steps, each the next one by the answers that are held afterwards, until nothing is left to do.
+/// The sheet is one whose parts are those of the source, which is read without a fault, and it keeps the limits of a
+/// sheet. All that was answered stays, and the budget, also after `AllocError`.
+pub fn merge<O: Obstacles>(
+    alloc: Global,
+    obstacles: &mut O,
+    source: &[u8],
+    sheet: Sheet,
+) -> Result<Merged, AllocError>
+    requires plannable { IsPlannable source.now sheet.items }
+    ensures asked { AreAmong (O.answers obstacles.old) (O.answers obstacles.new) }
+    ensures same_budget { O.budget obstacles.new ≡ O.budget obstacles.old }
+    ensures leads { IfOk result (λ m. Leads (O.answers obstacles.new) source.now m.taken sheet.items m.sheet.items) }
+    ensures done { IfOk result (λ m. IsDone (O.answers obstacles.new) source.now m.sheet.items) }
+{
+    let mut plan = Plan::new(alloc, sheet)?;
+    let mut taken: u32 = 0;
+    'steps: loop {
+        match next_step(alloc, obstacles, source, &mut plan)? {
+            Some(step) => {
+                plan = plan.take(alloc, &step)?;
+                taken += 1;
+            }
+            None => break,
+        }
+    }
+    let sheet = plan.board.into_sheet();
+    Ok(Merged { sheet, taken })
+}

@@ -1,0 +1,114 @@
+//! Leads that are set aside, under the pairs that block their steps.
+
+ghost use Rattle.std.specs.Prelude.{◌≡◌, OnOk, Some, slice_get};
+ghost use Rattle.std.specs.List.{Contains};
+ghost use Rattle.css_model.specs.Cascade.Order.{Pair};
+ghost use Rattle.css_model.specs.declared.sheet.DeclItem as declared_item;
+ghost use Rattle.css_model.specs.declared.sheet.SelItem as declared;
+ghost use Rattle.lead_laws.specs.Remembering.{entry_of, pairs_of, HasEntryOf};
+ghost use Rattle.lead_plan.specs.declared.aside.Entry.{Entry};
+ghost use Rattle.lead_plan.specs.Told.{lead_told};
+ghost use Rattle.obstacles.specs.Blocking.{IsAt, IsOther, Names};
+ghost use Rattle.obstacles.specs.declared.obstacle.Other.TheVariants as others;
+ghost use Rattle.obstacles.specs.declared.obstacle.PairPlace as declared_place;
+ghost use Rattle.wall_laws.specs.Holding.{Hindrance};
+
+use css_model::{Decl, Rule, Selector, Sheet};
+use lead_plan::{Aside, Lead};
+use obstacles::{Obstacle, Other, PairPlace};
+use plan_state::Plan;
+use rule_tables::{decl_digest, selector_digest};
+use std::alloc::AllocError;
+use step_savings::rule_at;
+
+/// The selector of this number.
+fn selector_of(rule: &Rule, number: u32) -> &Selector
+    requires { (s : declared.SelItem) × (slice_get rule.now.selectors number ≡ Some s) }
+    ensures { (s : declared.SelItem) → slice_get rule.now.selectors number ≡ Some s → result.now ≡ s.selector }
+{
+    match rule.selectors.get(number as usize) {
+        Some(item) => &item.selector,
+        None => unreachable!(),
+    }
+}
+
+/// The declaration of this number.
+fn decl_of(rule: &Rule, number: u32) -> &Decl
+    requires { (d : declared_item.DeclItem) × (slice_get rule.now.decls number ≡ Some d) }
+    ensures { (d : declared_item.DeclItem) → slice_get rule.now.decls number ≡ Some d → result.now ≡ d.decl }
+{
+    match rule.decls.get(number as usize) {
+        Some(item) => &item.decl,
+        None => unreachable!(),
+    }
+}
+
+/// Sets a lead aside under a pair.
+fn put_under(
+    aside: &mut Aside,
+    selector: &Selector,
+    decl: &Decl,
+    lead: &Lead,
+) -> Result<(), AllocError>
+    ensures more { (x : Entry) → Contains aside.old x → Contains aside.new x }
+    ensures put { OnOk result (Contains aside.new (entry_of (record { selector = selector.now; decl = decl.now }) lead.now)) }
+{
+    aside.put(selector_digest(selector), decl_digest(decl), *lead)
+}
+
+/// Sets a lead aside under the pair at a place of a sheet.
+fn put_pair(
+    aside: &mut Aside,
+    sheet: &Sheet,
+    place: &PairPlace,
+    lead: &Lead,
+) -> Result<(), AllocError>
+    requires { (p : Pair) × IsAt sheet.now.items place.now p }
+    ensures more { (x : Entry) → Contains aside.old x → Contains aside.new x }
+    ensures put { OnOk result ((p : Pair) → IsAt sheet.now.items place.now p → Contains aside.new (entry_of p lead.now)) }
+{
+    let rule = rule_at(sheet, place.item);
+    let selector = selector_of(rule, place.sel);
+    let decl = decl_of(rule, place.decl);
+    put_under(aside, selector, decl, lead)
+}
+
+/// Sets a lead aside under the pair that something else is, if it is one.
+fn put_other(aside: &mut Aside, sheet: &Sheet, other: &Other, lead: &Lead) -> Result<(), AllocError>
+    requires { (by : Hindrance) × IsOther sheet.now.items other.now by }
+    ensures more { (x : Entry) → Contains aside.old x → Contains aside.new x }
+    ensures put { OnOk result ((place : declared_place.PairPlace) (p : Pair) → other.now ≡ others.Pair place → IsAt sheet.now.items place p
+        → Contains aside.new (entry_of p lead.now)) }
+{
+    match other {
+        Other::Pair(place) => put_pair(aside, sheet, place, lead),
+        Other::Kept(_) => Ok(()),
+    }
+}
+
+/// Sets a lead aside under each pair of what an obstacle of a sheet names.
+fn put_named(
+    aside: &mut Aside,
+    sheet: &Sheet,
+    obstacle: &Obstacle,
+    lead: &Lead,
+) -> Result<(), AllocError>
+    requires { (by : Hindrance) × Names sheet.now.items obstacle.now by }
+    ensures more { (x : Entry) → Contains aside.old x → Contains aside.new x }
+    ensures put { OnOk result ((by : Hindrance) → Names sheet.now.items obstacle.now by → (p : Pair) → Contains (pairs_of by) p
+        → HasEntryOf aside.new p (lead_told lead.now).turn) }
+{
+    put_pair(aside, sheet, &obstacle.moved, lead)?;
+    put_other(aside, sheet, &obstacle.other, lead)
+}
+
+/// Sets a lead aside under each pair of what an obstacle names. All else of the plan stays.
+pub(crate) fn put_aside(plan: &mut Plan, lead: &Lead, obstacle: &Obstacle) -> Result<(), AllocError>
+    requires { (by : Hindrance) × Names plan.old.board.items obstacle.now by }
+    ensures same { OnOk result (plan.new ≡ record plan.old { entries = plan.new.entries }) }
+    ensures more { OnOk result ((x : Entry) → Contains plan.old.entries x → Contains plan.new.entries x) }
+    ensures put { OnOk result ((by : Hindrance) → Names plan.old.board.items obstacle.now by → (p : Pair) → Contains (pairs_of by) p
+        → HasEntryOf plan.new.entries p (lead_told lead.now).turn) }
+{
+    put_named(&mut plan.aside, plan.board.sheet(), obstacle, lead)
+}
