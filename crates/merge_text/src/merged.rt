@@ -12,9 +12,10 @@ ghost use Rattle.step_laws.specs.Free.{AreAmong};
 
 use css_model::Sheet;
 use css_print::print_sheet;
+use lead_merge::merge;
 use limit_laws::planned_comes_from;
 use merge_laws::{leading_makes_of, planned_is_merged, read_is_plannable, read_keeps_the_limits};
-use merge_plan::{Merged, merge};
+use merge_plan::Merged;
 use obstacles::Obstacles;
 use print_laws::printed_reads_back;
 use sheet_laws::read_is_sound;
