@@ -91,7 +91,7 @@ def unknown(word, tip=b""):
 
 def unexpected(word):
     """What is told of a word behind `min` that it does not take."""
-    return b"error: unexpected argument '%s' found\n\nUsage: cssmin min\n%s" % (word, MORE)
+    return b"error: unexpected argument '%s' found\n\nUsage: cssmin min [OPTIONS]\n%s" % (word, MORE)
 
 
 def try_words(tries):
@@ -102,6 +102,7 @@ def try_words(tries):
         ("a budget too great", ["cmp", "a", "b", "--budget", "20001"],
             b"error: invalid value '20001' for '--budget <N>': 20001 is not in 0..=20000\n" + MORE),
         ("a leading zero", ["cmp", "a", "b", "--budget", "07"], USAGE),
+        ("a leading zero behind min", ["min", "--budget", "07"], USAGE),
         ("help and more", ["min", "--help", "--report"], USAGE),
         ("a word that is no UTF-8", [b"\xff"], NO_WORD),
         ("a word that is no UTF-8 behind min", ["min", b"\xff"], NO_WORD),
@@ -195,6 +196,9 @@ def try_moves(tries):
 def try_sheets(tries):
     tries.check_read("a sheet", ["min"], SHEET, 0, PRINTED, b"", len(SHEET))
     tries.check_read("an empty sheet", ["min"], b"", 0, b"", b"", 0)
+    apart = b".a{color:red}.b{top:0}.a{left:0}"
+    for words in [["min"], ["min", "--budget", "0"], ["min", "--budget=20000"]]:
+        tries.check_read("rules that are no neighbours", words, apart, 0, b".b{top:0}.a{color:red;left:0}", b"", len(apart))
     broken = b'a{b:"x'
     tries.check_read("a broken sheet", ["min"], broken, 3, b"", b"refused: EndInside at 4\n", len(broken))
     long = b"a" * (MAX_BYTES + 2)
@@ -267,9 +271,9 @@ def main():
     try_lives(tries)
     try_sheets(tries)
     try_streams(tries)
-    # A sheet that joins, so that each kind of memory is taken.
-    rules = b"".join(b".a%d , #b { top : %dpx ; }\n.a%d,#b{left:0}\n" % (i, i, i) for i in range(500))
-    joined = b"".join(b".a%d,#b{top:%dpx;left:0}" % (i, i) for i in range(500))
+    # A sheet that is merged, so that each kind of memory is taken.
+    rules = b"".join(b".a%d { top : %dpx ; }\n.a%d{color:c%d}\n" % (i, i, i, i) for i in range(20))
+    joined = b"".join(b".a%d{top:%dpx;color:c%d}" % (i, i, i) for i in range(20))
     try_memory(tries, rules, joined)
     try_examples(tries)
     print(f"{tries.cases} runs of the program, {tries.wrong} differences")

@@ -5,9 +5,9 @@ _cssmin() {
         words='min cmp dead style why check help --help --version'
     else
         case $command in
-            min|style|check) words='--help' ;;
+            style|check) words='--help' ;;
             cmp) words='--budget --log --help' ;;
-            dead|why) words='--budget --help' ;;
+            min|dead|why) words='--budget --help' ;;
         esac
     fi
     COMPREPLY=($(compgen -W "$words" -- "${COMP_WORDS[COMP_CWORD]}"))

@@ -9,5 +9,5 @@ complete -c cssmin -n __fish_use_subcommand -a check -d 'Check a log that refute
 complete -c cssmin -n __fish_use_subcommand -a help -d 'Tell how it is used'
 complete -c cssmin -n __fish_use_subcommand -s V -l version -d 'Tell the version'
 complete -c cssmin -s h -l help -d 'Tell how it is used'
-complete -c cssmin -n '__fish_seen_subcommand_from cmp dead why' -l budget -x -d 'Give up after so many learned clauses'
+complete -c cssmin -n '__fish_seen_subcommand_from min cmp dead why' -l budget -x -d 'Give up after so many learned clauses'
 complete -c cssmin -n '__fish_seen_subcommand_from cmp' -l log -d 'Write a log in the place of disjoint'

@@ -17,7 +17,8 @@ Exit status: 0 done, 2 wrong words, 3 the sheet is refused, 4 the input could no
 No file names are taken: name the sheet by `<`, and the target by `>`, which must be another file.";
 
 const MIN_HELP: &str = "\
-The sheet is read from standard input to its end, and the smaller one is written to standard output.
+The sheet is read from standard input to its end, and the smaller one is written to standard output:
+rules are merged across the whole sheet, as long as that saves bytes and changes no winner.
 Nothing is written where the sheet is refused (status 3, and a line `refused: KIND at N` on standard
 error, N in bytes from 0).";
 
@@ -75,10 +76,11 @@ fn style_command<'a>(alloc: Global) -> Command<'a> {
 }
 
 /// The command `min`.
-fn min_command<'a>(alloc: Global) -> Command<'a> {
+fn min_command<'a>(alloc: Global) -> Result<Command<'a>, AllocError> {
     Command::new(alloc, "min")
         .about("Make a style sheet smaller, with the same winners of the cascade")
         .after_help(MIN_HELP)
+        .arg(budget(alloc))
 }
 
 /// The command `cmp`.
@@ -157,7 +159,7 @@ pub(crate) fn program<'a>(alloc: Global, version: &'a str) -> Result<Command<'a>
         .version(version)
         .after_help(PROGRAM_HELP)
         .subcommand_required(true)
-        .subcommand(min_command(alloc))?
+        .subcommand(min_command(alloc)?)?
         .subcommand(cmp_command(alloc)?)?
         .subcommand(style_command(alloc))?
         .subcommand(dead_command(alloc)?)?

@@ -44,7 +44,7 @@ For more information, try '--help'.
             "min --report",
             b"error: unexpected argument '--report' found
 
-Usage: cssmin min
+Usage: cssmin min [OPTIONS]
 
 For more information, try '--help'.
 ",
@@ -67,6 +67,7 @@ For more information, try '--help'.
 ",
         ),
         ("cmp a b --budget 07", USAGE),
+        ("min --budget 07", USAGE),
         ("min --help --report", USAGE),
         ("--version", USAGE),
     ] {

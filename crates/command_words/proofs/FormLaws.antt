@@ -58,18 +58,19 @@ words_are_bare before (word ∷ next ∷ words) is =
     by true budget other is = absurd (budget_is_not_bare (number_up_to most_budget next) before (budget is).0)
     by false budget other is = absurd (word_is_not_bare word before (other is).0)
 
-moved_is_not_min : (from to budget : Option ℕ) → moved from to budget ≡ Some Min → ⊥
+moved_is_not_min : (from to budget : Option ℕ) → moved from to budget ≡ Some (Min None) → ⊥
 moved_is_not_min None to budget is = absurd (let bad : ⊥ = cc in bad)
 moved_is_not_min (Some from) None budget is = absurd (let bad : ⊥ = cc in bad)
 moved_is_not_min (Some from) (Some to) budget is = absurd (let bad : ⊥ = cc in bad)
 
--- only `min` minifies, and only with nothing behind it
-asked_min : (about : Topic) (words : Option Arguments) → asked about words ≡ Some Min → (about ≡ topic.Min) × (words ≡ bare)
+-- only `min` minifies with no budget, and only with nothing behind it
+asked_min : (about : Topic) (words : Option Arguments) → asked about words ≡ Some (Min None) → (about ≡ topic.Min) × (words ≡ bare)
 asked_min topic.Program words is = absurd (let bad : ⊥ = cc in bad)
 asked_min topic.Min None is = absurd (let bad : ⊥ = cc in bad)
 asked_min topic.Min (Some (arguments [] None true)) is = absurd (let bad : ⊥ = cc in bad)
 asked_min topic.Min (Some (arguments [] None false)) is = (refl, refl)
-asked_min topic.Min (Some (arguments [] (Some budget) log)) is = absurd (let bad : ⊥ = cc in bad)
+asked_min topic.Min (Some (arguments [] (Some budget) true)) is = absurd (let bad : ⊥ = cc in bad)
+asked_min topic.Min (Some (arguments [] (Some budget) false)) is = absurd (let bad : ⊥ = cc in bad)
 asked_min topic.Min (Some (arguments (first ∷ more) budget log)) is = absurd (let bad : ⊥ = cc in bad)
 asked_min topic.Dead None is = absurd (let bad : ⊥ = cc in bad)
 asked_min topic.Dead (Some (arguments [] budget true)) is = absurd (let bad : ⊥ = cc in bad)
@@ -97,20 +98,20 @@ asked_min topic.Check (Some (arguments [] None false)) is = absurd (let bad : �
 asked_min topic.Check (Some (arguments [] (Some budget) log)) is = absurd (let bad : ⊥ = cc in bad)
 asked_min topic.Check (Some (arguments (first ∷ more) budget log)) is = absurd (let bad : ⊥ = cc in bad)
 
-alone_is_not_min : (word : List ℕ) (words : List (List ℕ)) → alone word words ≡ Some Min → ⊥
+alone_is_not_min : (word : List ℕ) (words : List (List ℕ)) → alone word words ≡ Some (Min None) → ⊥
 alone_is_not_min word [] is = by (is_help word || is_word word (codes "help")) (is_word word (codes "--version") || is_word word (codes "-V")) is
   where
-    by : (b c : Bool) → cond b (Some (Help topic.Program)) (cond c (Some Version) None) ≡ Some Min → ⊥
+    by : (b c : Bool) → cond b (Some (Help topic.Program)) (cond c (Some Version) None) ≡ Some (Min None) → ⊥
     by true c is = absurd (let bad : ⊥ = cc in bad)
     by false true is = absurd (let bad : ⊥ = cc in bad)
     by false false is = absurd (let bad : ⊥ = cc in bad)
 alone_is_not_min word (next ∷ words) is = absurd (let bad : ⊥ = cc in bad)
 
-named_min : (command : Option Topic) (name : List ℕ) (words : List (List ℕ)) → named command name words ≡ Some Min → (command ≡ Some topic.Min) × (words ≡ [])
+named_min : (command : Option Topic) (name : List ℕ) (words : List (List ℕ)) → named command name words ≡ Some (Min None) → (command ≡ Some topic.Min) × (words ≡ [])
 named_min None name words is = absurd (alone_is_not_min name words is)
 named_min (Some about) name words is = by (asks_help words) is
   where
-    by : (b : Bool) → cond b (Some (Help about)) (asked about (arguments_of words)) ≡ Some Min → (Some about ≡ Some topic.Min) × (words ≡ [])
+    by : (b : Bool) → cond b (Some (Help about)) (asked about (arguments_of words)) ≡ Some (Min None) → (Some about ≡ Some topic.Min) × (words ≡ [])
     by true is = absurd (let bad : ⊥ = cc in bad)
     by false is = let parts = asked_min about (arguments_of words) is in (ap Some parts.0, (words_are_bare bare words parts.1).1)
 
@@ -127,18 +128,18 @@ command_min name is = by (is_word name (codes "min")) (is_word name (codes "dead
     by false false false false false true test is = absurd (let bad : ⊥ = cc in bad)
     by false false false false false false test is = absurd (let bad : ⊥ = cc in bad)
 
-min_only : (words : List (List ℕ)) → form_of words ≡ Some Min → words ≡ codes "min" ∷ []
+min_only : (words : List (List ℕ)) → form_of words ≡ Some (Min None) → words ≡ codes "min" ∷ []
 min_only [] is = absurd (let bad : ⊥ = cc in bad)
 min_only (name ∷ words) is =
     let parts = named_min (command_named name) name words is in
     let first : name ≡ codes "min" = command_min name parts.0 in let behind : words ≡ [] = parts.1 in cc
 
-min_alone : form_of (codes "min" ∷ []) ≡ Some Min
+min_alone : form_of (codes "min" ∷ []) ≡ Some (Min None)
 unfolding command_named
 min_alone = refl
 
-pub min_is_one_word : (words : List (List ℕ)) → (form_of words ≡ Some Min) ↔ (words ≡ codes "min" ∷ [])
-min_is_one_word words = (min_only words, λ is. subst (λ (ws : List (List ℕ)). form_of ws ≡ Some Min) (sym is) min_alone)
+pub min_is_one_word : (words : List (List ℕ)) → (form_of words ≡ Some (Min None)) ↔ (words ≡ codes "min" ∷ [])
+min_is_one_word words = (min_only words, λ is. subst (λ (ws : List (List ℕ)). form_of ws ≡ Some (Min None)) (sym is) min_alone)
 
 -- ---- Operands and options
 

@@ -8,7 +8,7 @@ use Rattle.command_words.specs.declared.command.Topic.TheVariants as topic
 -- What words ask for: what a command does, with its operands and options, how the program or a command is used, or
 -- the version.
 pub data Form : Type 0 where
-  Min : Form
+  Min : (budget : Option ℕ) → Form
   Style : Form
   Dead : (budget : Option ℕ) → Form
   Cmp : (left right : List ℕ) (budget : Option ℕ) (log : Bool) → Form
@@ -100,7 +100,7 @@ moved from to budget = None
 
 -- what a command with these operands and options asks for
 abbrev pub asked : Topic → Option Arguments → Option Form
-asked topic.Min (Some (arguments [] None false)) = Some Min
+asked topic.Min (Some (arguments [] budget false)) = Some (Min budget)
 asked topic.Dead (Some (arguments [] budget false)) = Some (Dead budget)
 asked topic.Style (Some (arguments [] None false)) = Some Style
 asked topic.Cmp (Some (arguments (left ∷ right ∷ []) budget log)) = Some (Cmp left right budget log)

@@ -3,9 +3,9 @@ use Rattle.std.specs.Prelude.{◌≡◌, ◌↔◌, ℕ, true, false, List, [], 
 use Rattle.command_words.specs.Forms.{Min, Cmp, form_of, is_operand, most_budget}
 use Rattle.command_words.specs.declared.command.TheConstants.{MOST_BUDGET}
 
--- exactly the one word `min` minifies
+-- exactly the one word `min` minifies with no budget named
 abbrev pub MinIsOneWord : Type 0
-MinIsOneWord = (words : List (List ℕ)) → (form_of words ≡ Some Min) ↔ (words ≡ codes "min" ∷ [])
+MinIsOneWord = (words : List (List ℕ)) → (form_of words ≡ Some (Min None)) ↔ (words ≡ codes "min" ∷ [])
 
 -- `cmp` and two words that do not begin with `-` compare them
 abbrev pub CmpComparesTwoWords : Type 0

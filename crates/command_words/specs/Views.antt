@@ -9,7 +9,7 @@ use Rattle.command_words.specs.declared.arguments.Operands.TheVariants as operan
 
 -- the form of a command: its texts in place of the places where they stand
 abbrev pub form : Command → Form
-form command.Min = Min
+form (command.Min budget) = Min budget
 form command.Style = Style
 form (command.Dead budget) = Dead budget
 form (command.Cmp left right budget log) = Cmp left.now right.now budget log

@@ -26,7 +26,10 @@ pub enum Topic {
 #[derive(Clone, Copy, Debug)]
 pub enum Command<'a> {
     /// Minify a style sheet.
-    Min,
+    Min {
+        /// How many clauses may be learned for a pair, where the words say it: at most `MOST_BUDGET`.
+        budget: Option<u32>,
+    },
     /// Tell which selectors of a style sheet match nothing.
     Dead {
         /// How many clauses may be learned for a pair, where the words say it: at most `MOST_BUDGET`.

@@ -2,7 +2,7 @@
 
 ghost use Rattle.command_words.specs.Laws.{CmpComparesTwoWords, MinIsOneWord, MostBudgetIsDefined};
 
-/// Exactly the one word `min` minifies.
+/// Exactly the one word `min` minifies with no budget named.
 #[tactic(auto, using(crate::proofs::FormLaws::min_is_one_word))]
 pub fn min_is_one_word()
     ensures { MinIsOneWord }

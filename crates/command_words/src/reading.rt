@@ -42,7 +42,7 @@ fn asked<'a>(about: Topic, words: Option<Arguments<'a>>) -> Option<Command<'a>>
 {
     let arguments = words?;
     match (about, arguments.operands, arguments.budget, arguments.log) {
-        (Topic::Min, Operands::None, None, false) => Some(Command::Min),
+        (Topic::Min, Operands::None, budget, false) => Some(Command::Min { budget }),
         (Topic::Style, Operands::None, None, false) => Some(Command::Style),
         (Topic::Dead, Operands::None, budget, false) => Some(Command::Dead { budget }),
         (Topic::Cmp, Operands::Two(left, right), budget, log) => Some(Command::Cmp {

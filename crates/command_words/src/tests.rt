@@ -17,7 +17,9 @@ fn shown(alloc: Global, line: &str) -> Result<String, AllocError> {
 #[test]
 fn reads_each_form(rt: HostRuntime) -> Result<(), Fail> {
     for (line, form) in [
-        ("min", "Some(Min)"),
+        ("min", "Some(Min { budget: None })"),
+        ("min --budget 9", "Some(Min { budget: Some(9) })"),
+        ("min --budget=20000", "Some(Min { budget: Some(20000) })"),
         ("style", "Some(Style)"),
         ("style -h", "Some(Help(Style))"),
         ("dead", "Some(Dead { budget: None })"),
@@ -92,6 +94,8 @@ fn refuses_other_words(rt: HostRuntime) -> Result<(), Fail> {
         "min --budget 20001",
         "min --budget 07",
         "min --budget --report",
+        "min --budget 1 --budget=1",
+        "min --log",
         "min --help --report",
         "min --version",
         "min help",

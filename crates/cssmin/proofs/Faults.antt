@@ -1,4 +1,4 @@
--- A sheet has one fault at most, and none where it is minified.
+-- A sheet has one fault at most, and none where it is merged.
 use Rattle.std.proofs.Common.{◌≡◌, ◌<◌, Bool, true, false, cond, List, ℕ, Result, Ok, Err, IsOk, length, nat_lt, refl, sym, ◌∙◌, subst, arith}
 use Rattle.std.proofs.lemmas.Bool.{false≢true}
 use Rattle.css_model.specs.declared.fault.FaultKind.TheVariants.{TooLong}
@@ -6,7 +6,9 @@ use Rattle.css_model.specs.declared.fault.SheetFault.{SheetFault}
 use Rattle.css_model.specs.Sheets.Limits.{max_bytes}
 use Rattle.css_model.specs.declared.sheet.Item.{Item}
 use Rattle.css_model.specs.Sheets.Sheet.{sheet_of}
-use Rattle.minify.specs.Minified.{HasFault, HasNoFault, IsMinified}
+use Rattle.merge_laws.specs.Merged.{IsMerged}
+use Rattle.step_laws.specs.Free.{Answered}
+use Rattle.cssmin.specs.SheetFaults.{HasFault, HasNoFault}
 
 by_test : {X : Type 0} → (b : Bool) (x y : X) → b ≡ true → cond b x y ≡ x
 by_test true x y test = refl
@@ -33,6 +35,6 @@ pub fault_or_none : (read : List ℕ) (f : SheetFault) → HasFault read f → H
 unfolding HasFault HasNoFault
 fault_or_none read f fault none = absurd (false≢true (subst (λ (r : Result (List Item) SheetFault). IsOk r) fault none))
 
-pub minified_no_fault : (read text : List ℕ) (f : SheetFault) → IsMinified read text → HasFault read f → ⊥
+pub merged_no_fault : (answers : List Answered) (read text : List ℕ) (f : SheetFault) → IsMerged answers read text → HasFault read f → ⊥
 unfolding HasFault
-minified_no_fault read text f is fault = let same : ◌≡◌ {A = Result (List Item) SheetFault} (Ok is.old) (Err f) = sym is.old_read ∙ fault in cc
+merged_no_fault answers read text f is fault = let same : ◌≡◌ {A = Result (List Item) SheetFault} (Ok is.old) (Err f) = sym is.old_read ∙ fault in cc

@@ -6,22 +6,22 @@ use Rattle.command_words.specs.Forms.{Form, Min, Style, Dead, Cmp, Check, Why, H
 use Rattle.css_model.specs.declared.fault.SheetFault.{SheetFault}
 use Rattle.css_model.specs.Sheets.Limits.{max_bytes}
 use Rattle.log_text.specs.CheckedTexts.{max_log_bytes}
-use Rattle.minify.specs.Minified.{HasFault, HasNoFault}
 use Rattle.overlap.specs.PairsParts.{PairsParts}
 use Rattle.cssmin.specs.Change.{Change, HasFailed}
 use Rattle.cssmin.specs.Commands.Check.{CheckDoes, CheckRefuses, Checks}
 use Rattle.cssmin.specs.Commands.Cmp.{CmpDoes}
 use Rattle.cssmin.specs.Commands.Dead.{DeadDoes, TellsLives}
-use Rattle.cssmin.specs.Commands.Min.{Minifies, MinDoes, MinRefuses}
+use Rattle.cssmin.specs.Commands.Min.{Merges, MinDoes, MinRefuses}
 use Rattle.cssmin.specs.Commands.Style.{StyleDoes, StyleRefuses, TellsWinners}
 use Rattle.cssmin.specs.Commands.Why.{ExplainsMove, WhyDoes, WhyRefuses}
 use Rattle.cssmin.specs.Run.{Answers, Outcome, Ran, needs_input}
+use Rattle.cssmin.specs.SheetFaults.{HasFault, HasNoFault}
 use Rattle.cssmin.specs.Status.{IsRefusal}
 use Rattle.cssmin.specs.Tasks.{Began, Did, IsRefused}
 use Rattle.cssmin.specs.Writing.{WritesSome}
 use Rattle.cssmin.specs.declared.status.Status.{Status}
 use Rattle.cssmin.specs.declared.status.Status.TheVariants.{Done, Usage, SheetRefused, NoItem, DocRefused, LogRefused, ReadFault, WriteFault, NoMemory}
-use Rattle.cssmin.proofs.Faults.{one_fault, fault_or_none, minified_no_fault}
+use Rattle.cssmin.proofs.Faults.{one_fault, fault_or_none, merged_no_fault}
 use Rattle.cssmin.proofs.Outcomes.{completes, refuses, untold}
 
 -- ---- What the words ask for
@@ -30,8 +30,8 @@ use Rattle.cssmin.proofs.Outcomes.{completes, refuses, untold}
 did : (words : List (List ℕ)) (form : Option Form) (status : Status) (input output err : Change) (held : Option PairsParts) → Ran words status input output err held → form_of words ≡ form → Answers form status input output held
 did words form status input output err held ran is = subst (λ (f : Option Form). Answers f status input output held) is ran.answers
 
-pub min_did : (words : List (List ℕ)) (status : Status) (input output err : Change) (held : Option PairsParts) → Ran words status input output err held → form_of words ≡ Some Min → MinDoes status input output held
-min_did words status input output err held ran is = did words (Some Min) status input output err held ran is
+pub min_did : (words : List (List ℕ)) (budget : Option ℕ) (status : Status) (input output err : Change) (held : Option PairsParts) → Ran words status input output err held → form_of words ≡ Some (Min budget) → MinDoes budget status input output held
+min_did words budget status input output err held ran is = did words (Some (Min budget)) status input output err held ran is
 
 pub cmp_did : (words : List (List ℕ)) (left right : List ℕ) (budget : Option ℕ) (log : Bool) (status : Status) (input output err : Change) (held : Option PairsParts) → Ran words status input output err held
     → form_of words ≡ Some (Cmp left right budget log) → CmpDoes left right budget log status output held
@@ -52,7 +52,7 @@ why_did words from to budget status input output err held ran is = did words (So
 -- ---- Usage
 
 no_usage : (form : Form) (input output : Change) (held : Option PairsParts) → Outcome form Usage input output held → ⊥
-no_usage Min input output held h = h.0
+no_usage (Min budget) input output held h = h.0
 no_usage (Cmp left right budget log) input output held h = h
 no_usage Check input output held h = h.0
 no_usage (Dead budget) input output held h = h.0
@@ -73,7 +73,7 @@ usage_is words status input output err held ran = usage_of (form_of words) statu
 
 read_fault_of : (form : Option Form) (input output : Change) (held : Option PairsParts) → Answers form ReadFault input output held → HasFailed input
 read_fault_of None input output held h = absurd (let bad : ⊥ = let same : ReadFault ≡ Usage = h.0 in cc in bad)
-read_fault_of (Some Min) input output held h = h.0
+read_fault_of (Some (Min budget)) input output held h = h.0
 read_fault_of (Some (Cmp left right budget log)) input output held h = absurd h
 read_fault_of (Some Check) input output held h = h.0
 read_fault_of (Some (Dead budget)) input output held h = h.0
@@ -87,7 +87,7 @@ read_fault_is words status input output err held ran is = read_fault_of (form_of
 
 write_fault_of : (form : Option Form) (input output : Change) (held : Option PairsParts) → Answers form WriteFault input output held → HasFailed output
 write_fault_of None input output held h = absurd (let bad : ⊥ = let same : WriteFault ≡ Usage = h.0 in cc in bad)
-write_fault_of (Some Min) input output held h = h.front.0
+write_fault_of (Some (Min budget)) input output held h = h.front.0
 write_fault_of (Some (Cmp left right budget log)) input output held h = h.2.0
 write_fault_of (Some Check) input output held h = h.front.0
 write_fault_of (Some (Dead budget)) input output held h = h.front.0
@@ -100,17 +100,17 @@ pub write_fault_is : (words : List (List ℕ)) (status : Status) (input output e
 write_fault_is words status input output err held ran is = write_fault_of (form_of words) input output held (subst (λ (s : Status). Answers (form_of words) s input output held) is ran.answers)
 
 -- `min` by its status
-by_status : (words : List (List ℕ)) (wanted status : Status) (input output err : Change) (held : Option PairsParts) → Ran words status input output err held → form_of words ≡ Some Min → status ≡ wanted → MinDoes wanted input output held
-by_status words wanted status input output err held ran min is = subst (λ (s : Status). MinDoes s input output held) is (min_did words status input output err held ran min)
+by_status : (words : List (List ℕ)) (budget : Option ℕ) (wanted status : Status) (input output err : Change) (held : Option PairsParts) → Ran words status input output err held → form_of words ≡ Some (Min budget) → status ≡ wanted → MinDoes budget wanted input output held
+by_status words budget wanted status input output err held ran min is = subst (λ (s : Status). MinDoes budget s input output held) is (min_did words budget status input output err held ran min)
 
-pub done_is : (words : List (List ℕ)) (status : Status) (input output err : Change) (held : Option PairsParts) → Ran words status input output err held → form_of words ≡ Some Min → status ≡ Done → Did Minifies input output held
-done_is words status input output err held ran min is = by_status words Done status input output err held ran min is
+pub done_is : (words : List (List ℕ)) (budget : Option ℕ) (status : Status) (input output err : Change) (held : Option PairsParts) → Ran words status input output err held → form_of words ≡ Some (Min budget) → status ≡ Done → Did (Merges budget) input output held
+done_is words budget status input output err held ran min is = by_status words budget Done status input output err held ran min is
 
-pub refused_is : (words : List (List ℕ)) (status : Status) (input output err : Change) (held : Option PairsParts) (fault : SheetFault) → Ran words status input output err held → form_of words ≡ Some Min → status ≡ SheetRefused fault → IsRefused max_bytes (λ read. HasFault read fault) input
-refused_is words status input output err held fault ran min is = (by_status words (SheetRefused fault) status input output err held ran min is).1
+pub refused_is : (words : List (List ℕ)) (budget : Option ℕ) (status : Status) (input output err : Change) (held : Option PairsParts) (fault : SheetFault) → Ran words status input output err held → form_of words ≡ Some (Min budget) → status ≡ SheetRefused fault → IsRefused max_bytes (λ read. HasFault read fault) input
+refused_is words budget status input output err held fault ran min is = (by_status words budget (SheetRefused fault) status input output err held ran min is).1
 
-pub front_is : (words : List (List ℕ)) (status : Status) (input output err : Change) (held : Option PairsParts) → Ran words status input output err held → form_of words ≡ Some Min → status ≡ WriteFault → Began Minifies input output held
-front_is words status input output err held ran min is = by_status words WriteFault status input output err held ran min is
+pub front_is : (words : List (List ℕ)) (budget : Option ℕ) (status : Status) (input output err : Change) (held : Option PairsParts) → Ran words status input output err held → form_of words ≡ Some (Min budget) → status ≡ WriteFault → Began (Merges budget) input output held
+front_is words budget status input output err held ran min is = by_status words budget WriteFault status input output err held ran min is
 
 -- ---- Which status comes
 
@@ -142,16 +142,16 @@ unrefused : (left : Option (List ℕ)) → IsSomeAnd left HasNoFault → IsSomeA
 unrefused None has = absurd has
 unrefused (Some read) has = λ other cause. no_refusal read other has cause
 
-pub refused_for : (words : List (List ℕ)) (status : Status) (input output err : Change) (held : Option PairsParts) (fault : SheetFault) → Ran words status input output err held
-    → form_of words ≡ Some Min → IsSomeAnd input.old (λ bytes. HasFault bytes fault) → (HasFailed input → ⊥) → (status ≡ SheetRefused fault) ⊎ (status ≡ NoMemory)
-refused_for words status input output err held fault ran min has sure =
-    refuses max_bytes Minifies MinRefuses (SheetRefused fault) status input output held (min_did words status input output err held ran min)
-    (λ read text held made has. minified_no_fault read text fault made.0 has) (λ read other cause has. one_refusal read other fault cause has) has sure
+pub refused_for : (words : List (List ℕ)) (budget : Option ℕ) (status : Status) (input output err : Change) (held : Option PairsParts) (fault : SheetFault) → Ran words status input output err held
+    → form_of words ≡ Some (Min budget) → IsSomeAnd input.old (λ bytes. HasFault bytes fault) → (HasFailed input → ⊥) → (status ≡ SheetRefused fault) ⊎ (status ≡ NoMemory)
+refused_for words budget status input output err held fault ran min has sure =
+    refuses max_bytes (Merges budget) MinRefuses (SheetRefused fault) status input output held (min_did words budget status input output err held ran min)
+    (λ read text held made has. merged_no_fault _ read text fault made.merged has) (λ read other cause has. one_refusal read other fault cause has) has sure
 
-pub completed : (words : List (List ℕ)) (status : Status) (input output err : Change) (held : Option PairsParts) → Ran words status input output err held
-    → form_of words ≡ Some Min → IsSomeAnd input.old HasNoFault → (HasFailed input → ⊥) → (HasFailed output → ⊥) → (status ≡ Done) ⊎ (status ≡ NoMemory)
-completed words status input output err held ran min has sure safe =
-    completes max_bytes Minifies MinRefuses status input output held (min_did words status input output err held ran min) (unrefused input.old has) sure safe
+pub completed : (words : List (List ℕ)) (budget : Option ℕ) (status : Status) (input output err : Change) (held : Option PairsParts) → Ran words status input output err held
+    → form_of words ≡ Some (Min budget) → IsSomeAnd input.old HasNoFault → (HasFailed input → ⊥) → (HasFailed output → ⊥) → (status ≡ Done) ⊎ (status ≡ NoMemory)
+completed words budget status input output err held ran min has sure safe =
+    completes max_bytes (Merges budget) MinRefuses status input output held (min_did words budget status input output err held ran min) (unrefused input.old has) sure safe
 
 pub checked : (words : List (List ℕ)) (status : Status) (input output err : Change) (held : Option PairsParts) → Ran words status input output err held
     → form_of words ≡ Some Check → IsSomeAnd input.old (λ read. (other : Status) → CheckRefuses other read → ⊥) → (HasFailed input → ⊥) → (HasFailed output → ⊥) → (status ≡ Done) ⊎ (status ≡ NoMemory)
@@ -192,7 +192,7 @@ cmp_done left right budget log WriteFault output held h safe = absurd (safe h.2.
 cmp_done left right budget log NoMemory output held h safe = inr refl
 
 other_done : (form : Form) (status : Status) (input output : Change) (held : Option PairsParts) → Outcome form status input output held → needs_input (Some form) ≡ false → (HasFailed output → ⊥) → (status ≡ Done) ⊎ (status ≡ NoMemory)
-other_done Min status input output held h unneeded safe = absurd (false≢true (sym unneeded))
+other_done (Min budget) status input output held h unneeded safe = absurd (false≢true (sym unneeded))
 other_done (Cmp left right budget log) status input output held h unneeded safe = cmp_done left right budget log status output held h safe
 other_done Check status input output held h unneeded safe = absurd (false≢true (sym unneeded))
 other_done (Dead budget) status input output held h unneeded safe = absurd (false≢true (sym unneeded))
@@ -236,7 +236,7 @@ no_refusal_of_usage status is same = subst IsRefusal same is
 -- want of memory may come in place of a refusal
 untold_of : (form : Option Form) (status : Status) (input output : Change) (held : Option PairsParts) → IsRefusal status → Answers form status input output held → Answers form NoMemory input output held
 untold_of None status input output held is h = absurd (no_refusal_of_usage status is h.0)
-untold_of (Some Min) status input output held is h = untold max_bytes Minifies MinRefuses status input output held is h
+untold_of (Some (Min budget)) status input output held is h = untold max_bytes (Merges budget) MinRefuses status input output held is h
 untold_of (Some (Cmp left right budget log)) status input output held is h = absurd (cmp_unrefusable left right budget log status output held is h)
 untold_of (Some Check) status input output held is h = untold max_log_bytes Checks CheckRefuses status input output held is h
 untold_of (Some (Dead budget)) status input output held is h = untold max_bytes (TellsLives budget) MinRefuses status input output held is h

@@ -1,3 +1,4 @@
+mod Budgets
 mod Faults
 mod Forms
 mod Outcomes

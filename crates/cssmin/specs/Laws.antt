@@ -3,17 +3,21 @@ use Rattle.std.specs.Prelude.{Bool, ◌≡◌, ◌⊎◌, ◌↔◌, ℕ, ◌<�
 use Rattle.css_io.specs.Io.{Rose, last_count}
 use Rattle.css_model.specs.declared.fault.SheetFault.{SheetFault}
 use Rattle.css_model.specs.Sheets.Limits.{max_bytes}
+use Rattle.cnf.specs.declared.lit.Lit.{Lit}
+use Rattle.css_model.specs.Documents.SelectorParts.{SelectorParts}
+use Rattle.overlap.specs.declared.answer.Answer.TheVariants.{Spent}
+use Rattle.overlap.specs.Remembered.{IsAnswered}
 use Rattle.command_words.specs.Forms.{Form, Min, Style, Dead, Cmp, Check, Why, form_of}
-use Rattle.minify.specs.Minified.{HasFault, HasNoFault}
 use Rattle.overlap.specs.PairsParts.{PairsParts}
 use Rattle.cssmin.specs.Change.{Change, HasFailed}
 use Rattle.cssmin.specs.Commands.Check.{CheckDoes, CheckRefuses}
 use Rattle.cssmin.specs.Commands.Cmp.{CmpDoes}
 use Rattle.cssmin.specs.Commands.Dead.{DeadDoes}
-use Rattle.cssmin.specs.Commands.Min.{Minifies, MinDoes, MinRefuses}
+use Rattle.cssmin.specs.Commands.Min.{Merges, MinDoes, MinRefuses}
 use Rattle.cssmin.specs.Commands.Style.{StyleDoes, StyleRefuses}
 use Rattle.cssmin.specs.Commands.Why.{WhyDoes, WhyRefuses}
 use Rattle.cssmin.specs.Run.{Ran, needs_input}
+use Rattle.cssmin.specs.SheetFaults.{HasFault, HasNoFault}
 use Rattle.cssmin.specs.Tasks.{Began, Did, IsRefused}
 use Rattle.cssmin.specs.declared.status.Status.{Status}
 use Rattle.cssmin.specs.declared.status.Status.TheVariants.{Done, Usage, SheetRefused, ReadFault, WriteFault, NoMemory}
@@ -26,7 +30,7 @@ OtherWordsAreUsage = (words : List (List ℕ)) (status : Status) (input output e
 
 -- words that minify do what `min` says
 abbrev pub MinDoesItsWord : Type 0
-MinDoesItsWord = (words : List (List ℕ)) (status : Status) (input output err : Change) (held : Option PairsParts) → Ran words status input output err held → form_of words ≡ Some Min → MinDoes status input output held
+MinDoesItsWord = (words : List (List ℕ)) (budget : Option ℕ) (status : Status) (input output err : Change) (held : Option PairsParts) → Ran words status input output err held → form_of words ≡ Some (Min budget) → MinDoes budget status input output held
 
 -- words that compare do what `cmp` says
 abbrev pub CmpDoesItsWord : Type 0
@@ -52,14 +56,20 @@ WhyDoesItsWord = (words : List (List ℕ)) (from to : ℕ) (budget : Option ℕ)
 
 -- ---- `min`, by its status
 
--- the text that was written minifies the bytes that were read, all that were left
-abbrev pub DoneIsMinified : Type 0
-DoneIsMinified = (words : List (List ℕ)) (status : Status) (input output err : Change) (held : Option PairsParts) → Ran words status input output err held → form_of words ≡ Some Min → status ≡ Done → Did Minifies input output held
+-- the text that was written is that of the sheet that was read, all that was left, merged by the answers that are held
+abbrev pub DoneIsMerged : Type 0
+DoneIsMerged = (words : List (List ℕ)) (budget : Option ℕ) (status : Status) (input output err : Change) (held : Option PairsParts) → Ran words status input output err held → form_of words ≡ Some (Min budget) → status ≡ Done → Did (Merges budget) input output held
+
+-- where the words name no budget, no pair is answered so that the budget was spent
+abbrev pub NoBudgetIsSpent : Type 0
+NoBudgetIsSpent =
+    (words : List (List ℕ)) (status : Status) (input output err : Change) (held : Option PairsParts) (pairs : PairsParts) (x y : SelectorParts) (ledger : List (List Lit)) → Ran words status input output err held
+    → form_of words ≡ Some (Min None) → held ≡ Some pairs → IsAnswered pairs.answers x y (Spent ledger) → ⊥
 
 -- a sheet is refused only for a fault that it has
 abbrev pub RefusedHasTheFault : Type 0
 RefusedHasTheFault =
-    (words : List (List ℕ)) (status : Status) (input output err : Change) (held : Option PairsParts) (fault : SheetFault) → Ran words status input output err held → form_of words ≡ Some Min → status ≡ SheetRefused fault → IsRefused max_bytes (λ read. HasFault read fault) input
+    (words : List (List ℕ)) (budget : Option ℕ) (status : Status) (input output err : Change) (held : Option PairsParts) (fault : SheetFault) → Ran words status input output err held → form_of words ≡ Some (Min budget) → status ≡ SheetRefused fault → IsRefused max_bytes (λ read. HasFault read fault) input
 
 -- a read fault comes only where a read failed
 abbrev pub ReadFaultHasFailed : Type 0
@@ -72,21 +82,21 @@ WriteFaultHasFailed = (words : List (List ℕ)) (status : Status) (input output 
 -- after a write fault of `min` a front of the text stands there
 abbrev pub WriteFaultLeavesAFront : Type 0
 WriteFaultLeavesAFront =
-    (words : List (List ℕ)) (status : Status) (input output err : Change) (held : Option PairsParts) → Ran words status input output err held → form_of words ≡ Some Min → status ≡ WriteFault → Began Minifies input output held
+    (words : List (List ℕ)) (budget : Option ℕ) (status : Status) (input output err : Change) (held : Option PairsParts) → Ran words status input output err held → form_of words ≡ Some (Min budget) → status ≡ WriteFault → Began (Merges budget) input output held
 
 -- ---- Which status comes
 
 -- a sheet with a fault is refused for it, where no read failed and the memory sufficed
 abbrev pub FaultIsRefused : Type 0
 FaultIsRefused =
-    (words : List (List ℕ)) (status : Status) (input output err : Change) (held : Option PairsParts) (fault : SheetFault) → Ran words status input output err held
-    → form_of words ≡ Some Min → IsSomeAnd input.old (λ bytes. HasFault bytes fault) → (HasFailed input → ⊥) → (status ≡ SheetRefused fault) ⊎ (status ≡ NoMemory)
+    (words : List (List ℕ)) (budget : Option ℕ) (status : Status) (input output err : Change) (held : Option PairsParts) (fault : SheetFault) → Ran words status input output err held
+    → form_of words ≡ Some (Min budget) → IsSomeAnd input.old (λ bytes. HasFault bytes fault) → (HasFailed input → ⊥) → (status ≡ SheetRefused fault) ⊎ (status ≡ NoMemory)
 
--- a sheet without a fault is minified, where no read or write failed and the memory sufficed
+-- a sheet without a fault is merged, where no read or write failed and the memory sufficed
 abbrev pub FaultlessIsDone : Type 0
 FaultlessIsDone =
-    (words : List (List ℕ)) (status : Status) (input output err : Change) (held : Option PairsParts) → Ran words status input output err held
-    → form_of words ≡ Some Min → IsSomeAnd input.old HasNoFault → (HasFailed input → ⊥) → (HasFailed output → ⊥) → (status ≡ Done) ⊎ (status ≡ NoMemory)
+    (words : List (List ℕ)) (budget : Option ℕ) (status : Status) (input output err : Change) (held : Option PairsParts) → Ran words status input output err held
+    → form_of words ≡ Some (Min budget) → IsSomeAnd input.old HasNoFault → (HasFailed input → ⊥) → (HasFailed output → ⊥) → (status ≡ Done) ⊎ (status ≡ NoMemory)
 
 -- a log that is not refused is checked, where no read or write failed and the memory sufficed
 abbrev pub LogIsChecked : Type 0

@@ -2,6 +2,7 @@ pub mod Change
 pub mod Commands
 pub mod Laws
 pub mod Run
+pub mod SheetFaults
 pub mod Status
 pub mod Tasks
 pub mod Telling

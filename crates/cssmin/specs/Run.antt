@@ -20,7 +20,7 @@ use Rattle.cssmin.specs.declared.status.Status.TheVariants.{Usage}
 -- What a run that ended with this status did to the input and the output, and which answers it holds, by
 -- what its words ask for. Each case says that the status is not `Usage`.
 abbrev pub Outcome : Form → Status → (input output : Change) → (held : Option PairsParts) → Type 0
-Outcome Min status input output held = MinDoes status input output held
+Outcome (Min budget) status input output held = MinDoes budget status input output held
 Outcome (Dead budget) status input output held = DeadDoes budget status input output held
 Outcome Style status input output held = StyleDoes status input output held
 Outcome (Cmp left right budget log) status input output held = CmpDoes left right budget log status output held
@@ -37,7 +37,7 @@ Answers (Some form) status input output held = Outcome form status input output 
 -- whether the input is needed
 abbrev pub needs_input : Option Form → Bool
 needs_input None = false
-needs_input (Some Min) = true
+needs_input (Some (Min budget)) = true
 needs_input (Some (Dead budget)) = true
 needs_input (Some Style) = true
 needs_input (Some (Cmp left right budget log)) = false

@@ -15,7 +15,8 @@ pub(crate) fn words_decide_usage()
 
 /// What each status says of the input and the output.
 pub(crate) fn each_status_has_its_cause()
-    ensures done { laws.DoneIsMinified }
+    ensures done { laws.DoneIsMerged }
+    ensures unspent { laws.NoBudgetIsSpent }
     ensures refused { laws.RefusedHasTheFault }
     ensures read_fault { laws.ReadFaultHasFailed }
     ensures write_fault { laws.WriteFaultHasFailed }

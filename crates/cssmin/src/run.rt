@@ -43,7 +43,7 @@ fn obey<S: Source, O: Sink>(
     ensures out_later { O.faults out.old ≤ O.faults out.new }
 {
     match command {
-        Some(Command::Min) => perform(alloc, &Min, input, out, held),
+        Some(Command::Min { budget }) => perform(alloc, &Min { budget }, input, out, held),
         Some(Command::Dead { budget }) => perform(alloc, &Dead { budget }, input, out, held),
         Some(Command::Style) => perform(alloc, &Style, input, out, held),
         Some(

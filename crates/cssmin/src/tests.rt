@@ -128,12 +128,63 @@ fn run_min(alloc: Global, text: &[u8], outside: Outside) -> Result<Ran, AllocErr
     run_over(alloc, "min", text, outside)
 }
 
+// Sheets with what becomes of them, worked by hand.
+const MERGED: [(&str, &str); 11] = [
+    ("", ""),
+    ("a { color : red ; }", "a{color:red}"),
+    // Up is blocked, since both properties are of one family; down is free.
+    (
+        ".a{color:red}.b{top:0}.a{left:0}",
+        ".b{top:0}.a{color:red;left:0}",
+    ),
+    // Both are free and save as much; up is the first.
+    (
+        "div{color:red}span{color:blue}div{color:green}",
+        "div{color:red;color:green}span{color:blue}",
+    ),
+    ("a{top:0}b{top:0}", "a,b{top:0}"),
+    (".a{color:red;color:red}", ".a{color:red}"),
+    (
+        ".a{color:red}.c:focus-visible{top:0}.a{color:green}",
+        ".a{color:red;color:green}.c:focus-visible{top:0}",
+    ),
+    ("a,b,a{top:0}", "b,a{top:0}"),
+    (".a,.b{top:0}.a{top:0}", ".a,.b{top:0}"),
+    (
+        ".a{top:0;color:red;clear:both}.b{color:red;clear:both;width:1px}",
+        ".a{top:0}.a,.b{color:red;clear:both}.b{width:1px}",
+    ),
+    // The root has no parent, so the two selectors do not meet.
+    (
+        ".a>.b{top:0}.c:root{top:1px}.a>.b{top:2px}",
+        ".a>.b{top:0;top:2px}.c:root{top:1px}",
+    ),
+];
+
+// Sheets that stay as they are, worked by hand.
+const UNMERGED: [&str; 8] = [
+    ".a{top:0}.b{top:1px}.a{top:2px}",
+    ".a{background:red;background:linear-gradient(red,blue)}",
+    ".a{color:red}.c:focus-visible{color:blue}.a{color:green}",
+    ".a{top:0}@media print{.b{top:1px}}.a{top:2px}",
+    ".a>.b{top:0}.c.d{top:1px}.a>.b{top:2px}",
+    ".a{margin:0;margin-left:1px}.b{margin:0}",
+    "a{top:0}@import \"x\";a{top:0}",
+    "a{top:0;&:hover{left:0}}a{left:1px}",
+];
+
 #[test]
-fn minifies(rt: HostRuntime) -> Result<(), Fail> {
-    for (text, printed) in [(&b""[..], &b""[..]), (SHEET, PRINTED)] {
-        let ran = run_min(rt.alloc(), text, Outside::faultless())?;
-        ran.assert_is(&rt, Status::Done, printed, b"");
-        assert!(rt; ran.held.is_none());
+fn merges(rt: HostRuntime) -> Result<(), Fail> {
+    for (text, merged) in MERGED {
+        for line in ["min", "min --budget 20000"] {
+            let ran = run_over(rt.alloc(), line, text.as_bytes(), Outside::faultless())?;
+            ran.assert_is(&rt, Status::Done, merged.as_bytes(), b"");
+            assert!(rt; ran.held.is_some(), "{line}");
+        }
+    }
+    for text in UNMERGED {
+        let ran = run_min(rt.alloc(), text.as_bytes(), Outside::faultless())?;
+        ran.assert_is(&rt, Status::Done, text.as_bytes(), b"");
     }
     Ok(())
 }
@@ -196,6 +247,9 @@ fn other_words_read_nothing(rt: HostRuntime) -> Result<(), Fail> {
         "--report",
         "cmp a",
         "min --help --report",
+        "min --budget 20001",
+        "min --budget 07",
+        "trial",
     ] {
         let mut outside = Outside::faultless();
         outside.err_room = 1000;

@@ -36,7 +36,7 @@ impl Task for Dead {
         too_long_sheet()
     }
 
-    #[tactic(auto, unfolding(minify::specs::Minified::HasFault))]
+    #[tactic(auto, unfolding(crate::specs::SheetFaults::HasFault))]
     fn answer(&self, alloc: Global, bytes: &[u8]) -> Result<Answer, Status> {
         let mut pairs = unasked(alloc, self.budget);
         match dead_lines(alloc, &mut pairs, bytes) {
