@@ -1,0 +1,12 @@
+//! Blocks of media whose bodies are sheets of their own: which ones are opened, and how a sheet is printed in
+//! which they are.
+#![tactic(auto)]
+
+mod blocks;
+mod lexing;
+mod media;
+mod opening;
+mod reading;
+
+pub use media::Media;
+pub use opening::open_media;
