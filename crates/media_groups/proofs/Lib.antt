@@ -2,3 +2,4 @@ mod Counts
 mod Parts
 mod Places
 mod Sorting
+mod Texts

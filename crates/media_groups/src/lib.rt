@@ -6,7 +6,9 @@ mod blocks;
 mod lexing;
 mod media;
 mod opening;
+mod printing;
 mod reading;
 
 pub use media::Media;
 pub use opening::open_media;
+pub use printing::print_opened;
