@@ -2,4 +2,5 @@ mod Counts
 mod Parts
 mod Places
 mod Sorting
+mod Staying
 mod Texts

@@ -1,4 +1,5 @@
 pub mod Ahead
+pub mod Laws
 pub mod Opened
 pub mod Printed
 pub mod Sorted

@@ -3,12 +3,17 @@
 #![tactic(auto)]
 
 mod blocks;
+mod laws;
 mod lexing;
 mod media;
 mod opening;
 mod printing;
 mod reading;
 
+pub use laws::{blocks_stay, opened_blocks_are_sheets};
 pub use media::Media;
 pub use opening::open_media;
 pub use printing::print_opened;
+
+#[cfg(test)]
+mod tests;
