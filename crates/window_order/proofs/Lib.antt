@@ -1,0 +1,4 @@
+mod KeptOrder
+mod LastFound
+mod StandingTests
+mod WindowTests

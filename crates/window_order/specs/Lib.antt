@@ -1,0 +1,5 @@
+pub mod Between
+pub mod Found
+pub mod Reversed
+pub mod Standing
+pub mod Weighing

@@ -1,0 +1,15 @@
+//! The order of pairs and kept items in the part of a sheet that a step changes, before and after the step.
+#![tactic(auto)]
+
+mod kept;
+mod members;
+mod order;
+mod pair;
+mod reversing;
+mod standing;
+mod weighing;
+mod window;
+
+pub use pair::PairRef;
+pub use weighing::{decls_weigh, same_specificity, weighs_kept};
+pub use window::Window;

@@ -1,0 +1,32 @@
+//! The part of a sheet that a step changes.
+
+ghost use Rattle.std.specs.Prelude.{◌≡◌, ◌≤◌, ◌<◌, [], length, slice_range};
+ghost use Rattle.css_model.specs.Sheets.KeptItems.{kept_items};
+ghost use Rattle.window_order.specs.Between.{AreBetween};
+
+use css_model::Item;
+
+/// The items of a sheet from the first to the last one that a step changes, in three parts: the first item, if there
+/// is one, what lies between, and the last item; and what stands in the places of the first and the last item
+/// afterwards. The numbers are those of items.
+#[derive(Clone, Copy)]
+pub struct Window<'a> {
+    /// The items of the sheet.
+    pub items: &'a [Item],
+    /// Where it begins.
+    pub start: usize,
+    /// Where the middle part begins.
+    pub middle: usize,
+    /// The last item.
+    pub last: usize,
+    /// What stands in the place of the first item.
+    pub first_left: &'a [Item],
+    /// What stands in the place of the last item.
+    pub last_left: &'a [Item],
+    ghost start_first: { start ≤ middle },
+    ghost middle_first: { middle ≤ last },
+    ghost within: { last < length items.now },
+    ghost between: { AreBetween items.now start middle last },
+    ghost first_plain: { kept_items (slice_range items.now start middle) ≡ [] },
+    ghost left_plain: { kept_items first_left.now ≡ [] },
+}
