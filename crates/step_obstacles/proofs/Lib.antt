@@ -1,4 +1,10 @@
+mod Askable
+mod Deciding
 mod HeldAnswers
-mod Naming
-mod Telling
-mod Walking
+mod KeptPlaces
+mod Looking
+mod Moving
+mod Named
+mod PairAnswers
+mod Turning
+mod WindowFacts

@@ -1,2 +1,4 @@
+pub mod Among
 pub mod Blocked
-pub mod Listed
+pub mod StepWindow
+pub mod Turns

@@ -1,21 +1,21 @@
-//! Whether what may block a step does, by the answer for two selectors.
+//! Whether a moved pair and what it faces block.
 
-ghost use Rattle.std.specs.Prelude.{◌≡◌, IfOk};
-ghost use Rattle.std.specs.List.{AllByRecursion};
-ghost use Rattle.css_model.specs.Cascade.Order.{Pair};
+ghost use Rattle.std.specs.Prelude.{◌≡◌, IfOk, true};
 ghost use Rattle.css_model.specs.Selectors.Profile.{IsInProfile};
-ghost use Rattle.obstacles.specs.Blocking.{IsAt};
 ghost use Rattle.overlap.specs.Remembered.{IsHeld};
-ghost use Rattle.print_laws.specs.Profile.{HasSelectorsInProfile};
 ghost use Rattle.sheet_order.specs.Allowing.{Stays};
 ghost use Rattle.sheet_order.specs.Laws.{is_apart};
-ghost use Rattle.step_obstacles.specs.Blocked.{AreAnswered, IsToldOf, NamesSome};
+ghost use Rattle.step_obstacles.specs.Blocked.{AreAnswered, IsTold};
+ghost use Rattle.step_obstacles.specs.Turns.{Faces, hindrance_of};
+ghost use Rattle.wall_laws.specs.Holding.{OfPair};
+ghost use Rattle.window_order.specs.Weighing.{DeclsWeigh};
 
-use crate::places::selector_at;
-use css_model::{Selector, Sheet};
-use obstacles::{Obstacle, Other, PairPlace};
+use crate::facing::Facing;
+use css_model::Selector;
 use overlap::{Answer, Pairs};
+use profile_laws::profile_keeps_the_limits;
 use std::alloc::AllocError;
+use window_order::{PairRef, Window, same_specificity};
 
 /// Whether an answer says that the selectors are apart.
 fn says_apart(answer: &Answer) -> bool
@@ -36,6 +36,16 @@ fn are_apart(pairs: &Pairs, x: &Selector, y: &Selector) -> bool
     }
 }
 
+/// Whether two selectors are held to be apart already.
+fn known_apart(pairs: &Pairs, x: &Selector, y: &Selector) -> bool
+    ensures { result ≡ true → AreAnswered pairs.now.answers x.now y.now true }
+{
+    match pairs.known(x, y) {
+        Some(answer) => says_apart(answer),
+        None => false,
+    }
+}
+
 /// Whether two selectors are answered to be apart, which is asked for.
 #[tactic(auto, using(crate::proofs::HeldAnswers::asked_stays))]
 fn asked_apart(pairs: &mut Pairs, x: &Selector, y: &Selector) -> Result<bool, AllocError>
@@ -48,41 +58,48 @@ fn asked_apart(pairs: &mut Pairs, x: &Selector, y: &Selector) -> Result<bool, Al
     Ok(are_apart(pairs, x, y))
 }
 
-/// Whether the selectors of the pairs at two places are answered to be apart.
-#[tactic(auto, using(crate::proofs::HeldAnswers::in_profile))]
-fn places_apart(
+/// Whether two pairs block whose declarations weigh. Their selectors are asked for only where they are reversed.
+#[tactic(auto, using(crate::proofs::HeldAnswers::stays_itself))]
+fn pairs_block(
     pairs: &mut Pairs,
-    sheet: &Sheet,
-    moved: &PairPlace,
-    other: &PairPlace,
+    window: &Window<'_>,
+    p: &PairRef<'_>,
+    q: &PairRef<'_>,
 ) -> Result<bool, AllocError>
-    requires first { (p : Pair) × IsAt sheet.now.items moved.now p }
-    requires second { (q : Pair) × IsAt sheet.now.items other.now q }
-    requires profile { AllByRecursion HasSelectorsInProfile sheet.now.items }
+    requires weigh { DeclsWeigh p.now.decl q.now.decl }
+    requires first { IsInProfile p.now.selector }
+    requires second { IsInProfile q.now.selector }
     ensures stays { Stays pairs.old pairs.new }
-    ensures answered { IfOk result (λ apart. (p q : Pair) → IsAt sheet.now.items moved.now p → IsAt sheet.now.items other.now q →
-        AreAnswered pairs.new.answers p.selector q.selector apart) }
+    ensures told { IfOk result (λ b. IsTold pairs.new.answers window.now (OfPair p.now q.now) b) }
 {
-    let x = selector_at(sheet, moved);
-    let y = selector_at(sheet, other);
-    asked_apart(pairs, x, y)
+    profile_keeps_the_limits();
+    if !same_specificity(p.selector, q.selector) {
+        return Ok(false);
+    }
+    if known_apart(pairs, p.selector, q.selector) {
+        return Ok(false);
+    }
+    if !window.is_reversed(p, q) {
+        return Ok(false);
+    }
+    Ok(!asked_apart(pairs, p.selector, q.selector)?)
 }
 
-/// Whether what an obstacle names blocks: a kept item does, and pairs whose selectors are not answered to be
-/// apart.
+/// Whether a moved pair and what it faces block.
 #[tactic(auto, using(crate::proofs::HeldAnswers::stays_itself))]
 pub(crate) fn blocks(
     pairs: &mut Pairs,
-    sheet: &Sheet,
-    obstacle: &Obstacle,
+    window: &Window<'_>,
+    p: &PairRef<'_>,
+    facing: &Facing<'_>,
 ) -> Result<bool, AllocError>
-    requires named { NamesSome sheet.now.items obstacle.now }
-    requires profile { AllByRecursion HasSelectorsInProfile sheet.now.items }
+    requires faces { Faces window.now p.now.decl facing.now }
+    requires profile { IsInProfile p.now.selector }
     ensures stays { Stays pairs.old pairs.new }
-    ensures told { IfOk result (λ b. IsToldOf pairs.new.answers sheet.now.items obstacle.now b) }
+    ensures told { IfOk result (λ b. IsTold pairs.new.answers window.now (hindrance_of window.now.items.now facing.now p.now) b) }
 {
-    match &obstacle.other {
-        Other::Kept(_) => Ok(true),
-        Other::Pair(place) => Ok(!places_apart(pairs, sheet, &obstacle.moved, place)?),
+    match facing {
+        Facing::Pair(q, _) => pairs_block(pairs, window, p, q),
+        Facing::Kept(number) => Ok(window.is_kept_reversed(p, *number as usize)),
     }
 }

@@ -2,12 +2,13 @@
 #![tactic(auto)]
 
 mod answering;
-mod entries;
+mod facing;
 mod held;
-mod laws;
-mod listing;
 mod pair_obstacles;
-mod places;
+mod rule_parts;
+mod searching;
+mod step_search;
+mod window_search;
 
 pub use pair_obstacles::PairObstacles;
 

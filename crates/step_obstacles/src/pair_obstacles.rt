@@ -3,7 +3,7 @@
 ghost use Rattle.std.specs.Prelude.{◌≡◌};
 
 use crate::held::answers_are_true;
-use crate::listing::listed_obstacle;
+use crate::step_search::step_obstacle;
 use css_model::Sheet;
 use obstacles::{Obstacle, Obstacles};
 use overlap::Pairs;
@@ -55,6 +55,6 @@ impl Obstacles for PairObstacles {
     }
 
     fn obstacle(&mut self, sheet: &Sheet, step: &Step) -> Result<Option<Obstacle>, AllocError> {
-        listed_obstacle(self.alloc, &mut self.pairs, sheet, step)
+        step_obstacle(self.alloc, &mut self.pairs, sheet, step)
     }
 }

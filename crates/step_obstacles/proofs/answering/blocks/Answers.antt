@@ -1,6 +1,6 @@
-use Rattle.step_obstacles.proofs.Walking.{told_pair}
+use Rattle.step_obstacles.proofs.PairAnswers.{kept_faced}
 use Rattle.step_obstacles.proofs.answering.blocks.Goals as goal
 
-pub returns-in_ok-places_apart-in-Pair-clause-told : goal.returns-in_ok-places_apart-in-Pair-clause-told
-returns-in_ok-places_apart-in-Pair-clause-told c =
-    told_pair c.places_apart.new.pairs.answers c.args.sheet.now.items c.args.obstacle.now c.in-Pair.place c.in_ok-places_apart-in-Pair.field-0 c.in-Pair.is c.in_ok-places_apart-in-Pair.ensures.answered
+pub returns-in-Kept-clause-told : goal.returns-in-Kept-clause-told
+returns-in-Kept-clause-told c =
+    kept_faced c.args.pairs.now.answers c.args.window.now c.args.p.now c.args.facing.now c.in-Kept.number c.in-Kept.is c.requires.faces c.is_kept_reversed.result c.is_kept_reversed.ensures

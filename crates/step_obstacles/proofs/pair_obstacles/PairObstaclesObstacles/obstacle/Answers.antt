@@ -8,5 +8,5 @@ use Rattle.step_obstacles.proofs.pair_obstacles.PairObstaclesObstacles.obstacle.
 pub returns-clause-asked : goal.returns-clause-asked
 returns-clause-asked c =
     let view : c.args.self.now.answers ≡ c.self.inside.pairs.answers = search rules in
-    subst (λ (answers : List Answered). steps.AreAmong (map answer_seen answers) (map answer_seen c.listed_obstacle.new.pairs.answers)) (sym view)
-    (stays_among c.self.inside.pairs c.listed_obstacle.new.pairs c.listed_obstacle.ensures.stays)
+    subst (λ (answers : List Answered). steps.AreAmong (map answer_seen answers) (map answer_seen c.step_obstacle.new.pairs.answers)) (sym view)
+    (stays_among c.self.inside.pairs c.step_obstacle.new.pairs c.step_obstacle.ensures.stays)

@@ -1,0 +1,94 @@
+-- What is told of a moved pair, by its place.
+use Rattle.std.proofs.Common.{◌≡◌, ◌⊎◌, ℕ, true, false, List, Some, refl, sym, ap, subst, inl, inr}
+use Rattle.std.specs.Prelude.{Option, Result, Ok, Err, IfOk, slice_get}
+use Rattle.std.specs.Borrow.{Bor}
+use Rattle.std.proofs.lemmas.Bool.{false≢true}
+use Rattle.css_model.specs.Cascade.Order.{Pair}
+use Rattle.css_model.specs.declared.sheet.Decl.{Decl}
+use Rattle.css_model.specs.declared.sheet.Item.{Item}
+use Rattle.css_model.specs.declared.sheet.Item.TheVariants.{Rule, KeptRule, KeptBlock}
+use Rattle.css_model.specs.declared.sheet.Piece.{Piece}
+use Rattle.css_model.specs.declared.sheet.SelItem.{SelItem}
+use Rattle.css_model.specs.Sheets.KeptItems.{is_kept}
+use Rattle.css_model.specs.Sheets.KeptRuleParts.{KeptRuleParts}
+use Rattle.css_model.specs.Sheets.RuleParts.{RuleParts}
+use Rattle.css_model.specs.Documents.SelectorParts.{SelectorParts}
+use Rattle.css_model.specs.Selectors.Profile.{IsInProfile}
+use Rattle.obstacles.specs.Blocking.{IsAt, Names}
+use Rattle.obstacles.specs.declared.obstacle.Obstacle.{Obstacle}
+use Rattle.overlap.specs.PairsParts.{Answered}
+use Rattle.step_obstacles.proofs.Looking.{member_at}
+use Rattle.step_obstacles.specs.Blocked.{AllPass, IsFound, IsTold, IsToldOf}
+use Rattle.step_obstacles.specs.declared.facing.DeclAt.{DeclAt}
+use Rattle.step_obstacles.specs.declared.facing.Facing.{Facing}
+use Rattle.step_obstacles.specs.declared.facing.Facing.TheVariants as facing
+use Rattle.step_obstacles.specs.Turns.{Faces, IsAskable, IsDeclAt, OfItem, OfRule, OfSelectors, hindrance_of, other_of, pair_of, with_kept}
+use Rattle.wall_laws.specs.Holding.{Hindrance, OfPair}
+use Rattle.window_order.specs.declared.window.Window.{Window}
+use Rattle.window_order.specs.Weighing.{DeclsWeigh}
+
+abbrev pub pair : SelectorParts → Decl → Pair
+pair s d = record { selector = s; decl = d }
+
+abbrev obstacle_at : DeclAt → ℕ → Facing → Obstacle
+obstacle_at moved i f = record { moved = record { item = moved.item; sel = i; decl = moved.number }; other = other_of f }
+
+module _ (w : Window) (moved : DeclAt) (i : ℕ) (x : SelItem) (is : IsDeclAt w.items.now moved) (at : slice_get moved.rule.now.selectors i ≡ Some x) where
+  -- the pair stands at its place
+  stands : IsAt w.items.now (record { item = moved.item; sel = i; decl = moved.number }) (pair_of x moved.decl.now)
+  stands = record { rule = moved.rule.now; selector = x; decl = is.item; rule_at = is.rule_at; selector_at = at; decl_at = is.decl_at; is = ap (pair x.selector) (sym is.is) }
+
+  -- its selector may be asked for
+  pub in_profile : IsAskable w.items.now → (s : SelectorParts) → s ≡ x.selector → IsInProfile s
+  in_profile askable s s_is = subst IsInProfile (sym s_is) (askable.profile moved.item moved.rule.now x is.rule_at (member_at moved.rule.now.selectors i x at))
+
+  -- another declaration's pairs face it, if both weigh
+  pub faced : IsAskable w.items.now → (d : Decl) → DeclsWeigh d moved.decl.now → (s : SelectorParts) → s ≡ x.selector → Faces w d (facing.Pair (pair s moved.decl.now) (record { item = moved.item; sel = i; decl = moved.number }))
+  faced askable d weigh s s_is = (weigh, in_profile askable s s_is, subst (λ (t : SelectorParts). IsAt w.items.now (record { item = moved.item; sel = i; decl = moved.number }) (pair t moved.decl.now)) (sym s_is) stands)
+
+  names : (f : Facing) → Faces w moved.decl.now f → Names w.items.now (obstacle_at moved i f) (hindrance_of w.items.now f (pair_of x moved.decl.now))
+  names (facing.Pair q place) faces = record { moved = stands; other = faces.2 }
+  names (facing.Kept n) faces = record { moved = stands; other = record { item = faces.0.item; item_at = faces.0.item_at; kept = faces.0.kept; number_is = refl } }
+
+  -- whichever selector has this number, it blocks
+  pub blocks_named : (answers : List Answered) (f : Facing) → Faces w moved.decl.now f → (s : SelectorParts) → s ≡ x.selector → IsTold answers w (hindrance_of w.items.now f (pair s moved.decl.now)) true →
+      (o : Obstacle) → o ≡ obstacle_at moved i f → IsFound answers w (λ by. by ≡ hindrance_of w.items.now f (pair_of x moved.decl.now)) o
+  blocks_named answers f faces s s_is told o o_is = record {
+    by = hindrance_of w.items.now f (pair_of x moved.decl.now);
+    of = refl;
+    names = subst (λ (o : Obstacle). Names w.items.now o (hindrance_of w.items.now f (pair_of x moved.decl.now))) (sym o_is) (names f faces);
+    told = subst (λ (t : SelectorParts). IsTold answers w (hindrance_of w.items.now f (pair t moved.decl.now)) true) s_is told;
+  }
+
+  -- or it lets the step pass
+  pub passes_named : (answers : List Answered) (f : Facing) (s : SelectorParts) → s ≡ x.selector → IsTold answers w (hindrance_of w.items.now f (pair s moved.decl.now)) false →
+      AllPass answers w (λ by. by ≡ hindrance_of w.items.now f (pair_of x moved.decl.now))
+  passes_named answers f s s_is told by by_is =
+      subst (λ (h : Hindrance). IsTold answers w h false) (sym by_is) (subst (λ (t : SelectorParts). IsTold answers w (hindrance_of w.items.now f (pair t moved.decl.now)) false) s_is told)
+
+-- what is told of a pair by its selector is told of the selector of its number
+pub told_same : {E : Type 0} (answers : List Answered) (w : Window) (r : RuleParts) (with : Option (Bor RuleParts)) (d o : Decl) (s : SelectorParts) (At : SelItem → Type 0) → ((y : SelItem) → At y → s ≡ y.selector) →
+    (res : Result (Option Obstacle) E) → IfOk res (λ found. IsToldOf answers w (OfSelectors r with d (λ p. OfPair p (pair s o))) found) →
+    IfOk res (λ found. (y : SelItem) → At y → IsToldOf answers w (OfSelectors r with d (λ p. OfPair p (pair_of y o))) found)
+told_same answers w r with d o s At is (Ok found) h = λ y at. subst (λ (t : SelectorParts). IsToldOf answers w (OfSelectors r with d (λ p. OfPair p (pair t o))) found) (is y at) h
+told_same answers w r with d o s At is (Err e) h = tt
+
+-- ---- Items
+
+kept_either : (item : Item) → ((k : KeptRuleParts) × (item ≡ KeptRule k)) ⊎ ((k : Piece) × (item ≡ KeptBlock k)) → is_kept item ≡ true
+kept_either item (inl h) = ap is_kept h.1
+kept_either item (inr h) = ap is_kept h.1
+
+told_kept_as : {E : Type 0} (answers : List Answered) (w : Window) (r : RuleParts) (with : Option (Bor RuleParts)) (d : Decl) (n : ℕ) (item : Item) → is_kept item ≡ true →
+    (res : Result (Option Obstacle) E) → IfOk res (λ found. IsToldOf answers w (OfSelectors r with d (with_kept w.items.now n)) found) → IfOk res (λ found. IsToldOf answers w (OfItem r with d w.items.now n item) found)
+told_kept_as answers w r with d n (Rule q) kept res h = absurd (false≢true kept)
+told_kept_as answers w r with d n (KeptRule k) kept res h = h
+told_kept_as answers w r with d n (KeptBlock k) kept res h = h
+
+pub told_kept : {E : Type 0} (answers : List Answered) (w : Window) (r : RuleParts) (with : Option (Bor RuleParts)) (d : Decl) (n : ℕ) (item : Item) → ((k : KeptRuleParts) × (item ≡ KeptRule k)) ⊎ ((k : Piece) × (item ≡ KeptBlock k)) →
+    (res : Result (Option Obstacle) E) → IfOk res (λ found. IsToldOf answers w (OfSelectors r with d (with_kept w.items.now n)) found) → IfOk res (λ found. IsToldOf answers w (OfItem r with d w.items.now n item) found)
+told_kept answers w r with d n item is res h = told_kept_as answers w r with d n item (kept_either item is) res h
+
+pub told_rule : {E : Type 0} (answers : List Answered) (w : Window) (r : RuleParts) (with : Option (Bor RuleParts)) (d : Decl) (n : ℕ) (item : Item) (q : RuleParts) → item ≡ Rule q →
+    (res : Result (Option Obstacle) E) → IfOk res (λ found. IsToldOf answers w (OfRule r with d q) found) → IfOk res (λ found. IsToldOf answers w (OfItem r with d w.items.now n item) found)
+told_rule answers w r with d n item q is res h = subst (λ (i : Item). IfOk res (λ found. IsToldOf answers w (OfItem r with d w.items.now n i) found)) (sym is) h

@@ -1,0 +1,13 @@
+use Rattle.std.proofs.Common.{◌≡◌, take}
+use Rattle.sheet_order.specs.Allowing.{Stays}
+use Rattle.step_obstacles.proofs.searching.of_selectors.Given as goal
+use Rattle.step_obstacles.specs.Among.{Among}
+use Rattle.step_obstacles.specs.Blocked.{AllPass}
+use Rattle.step_obstacles.specs.Turns.{hindrance_of, pair_of}
+
+-- the first ones let the step pass
+abbrev pub invariant-loop-number : goal.invariant-loop-number
+invariant-loop-number l = record {
+  stays : Stays l.fn.pairs l.pairs;
+  pass : AllPass l.pairs.answers l.window (Among (take l.number l.moved.rule.now.selectors) (λ x by. by ≡ hindrance_of l.window.items.now l.facing (pair_of x l.moved.decl.now)));
+}

@@ -1,0 +1,13 @@
+use Rattle.std.proofs.Common.{take}
+use Rattle.sheet_order.specs.Allowing.{Stays}
+use Rattle.step_obstacles.proofs.searching.of_source.Given as goal
+use Rattle.step_obstacles.specs.Among.{Among}
+use Rattle.step_obstacles.specs.Blocked.{AllPass}
+use Rattle.step_obstacles.specs.Turns.{OfItem}
+
+-- the first ones let the step pass
+abbrev pub invariant-loop-decl : goal.invariant-loop-decl
+invariant-loop-decl l = record {
+  stays : Stays l.fn.pairs l.pairs;
+  pass : AllPass l.pairs.answers l.window (Among (take l.decl l.source.rule.now.decls) (λ x by. OfItem l.source.rule.now l.source.with x.decl l.window.items.now l.number l.item by));
+}

@@ -1,0 +1,14 @@
+use Rattle.std.proofs.Common.{take}
+use Rattle.sheet_order.specs.Allowing.{Stays}
+use Rattle.step_obstacles.proofs.searching.with_decl.Given as goal
+use Rattle.step_obstacles.specs.Among.{Among}
+use Rattle.step_obstacles.specs.Blocked.{AllPass}
+use Rattle.step_obstacles.specs.Turns.{OfSelectors, pair_of}
+use Rattle.wall_laws.specs.Holding.{OfPair}
+
+-- the first ones let the step pass
+abbrev pub invariant-loop-number : goal.invariant-loop-number
+invariant-loop-number l = record {
+  stays : Stays l.fn.pairs l.pairs;
+  pass : AllPass l.pairs.answers l.window (Among (take l.number l.other.rule.now.selectors) (λ y by. OfSelectors l.moved.rule.now l.with l.moved.decl.now (λ p. OfPair p (pair_of y l.other.decl.now)) by));
+}

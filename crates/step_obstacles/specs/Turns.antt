@@ -1,0 +1,132 @@
+-- What may block a step, as it is looked at one after the other (own).
+use Rattle.std.specs.Prelude.{◌≡◌, ℕ, ◌≤◌, ◌<◌, ◌^◌, ◌+◌, ◌-◌, if◌then◌else◌, Bool, true, List, Option, Some, None, length, slice_get}
+use Rattle.std.specs.Borrow.{Bor}
+use Rattle.std.specs.List.{Contains}
+use Rattle.css_model.specs.Cascade.Order.{Pair, WeighsKept}
+use Rattle.css_model.specs.declared.sheet.Decl.{Decl}
+use Rattle.css_model.specs.declared.sheet.DeclItem.{DeclItem}
+use Rattle.css_model.specs.declared.sheet.Item.{Item}
+use Rattle.css_model.specs.declared.sheet.Item.TheVariants as kinds
+use Rattle.css_model.specs.declared.sheet.SelItem.{SelItem}
+use Rattle.css_model.specs.Selectors.Profile.{IsInProfile}
+use Rattle.css_model.specs.Sheets.KeptItems.{is_kept, kept_before}
+use Rattle.css_model.specs.Sheets.RuleParts.{RuleParts}
+use Rattle.obstacles.specs.Blocking.{IsAt}
+use Rattle.obstacles.specs.declared.obstacle.Other.{Other}
+use Rattle.obstacles.specs.declared.obstacle.Other.TheVariants as others
+use Rattle.order_laws.specs.Members.{has_decl}
+use Rattle.step_obstacles.specs.Among.{Among}
+use Rattle.step_obstacles.specs.Blocked.{IsKeptIn}
+use Rattle.step_obstacles.specs.declared.facing.DeclAt.{DeclAt}
+use Rattle.step_obstacles.specs.declared.facing.Facing.{Facing}
+use Rattle.step_obstacles.specs.declared.facing.Facing.TheVariants as facing
+use Rattle.step_obstacles.specs.declared.facing.Source.{Source}
+use Rattle.wall_laws.specs.Holding.{Hindrance, OfPair, OfKept}
+use Rattle.window_order.specs.declared.window.Window.{Window}
+use Rattle.window_order.specs.Weighing.{DeclsWeigh}
+
+-- ---- What the code has at hand
+
+-- A sheet of which all may be asked and named: its rules have few parts, and selectors of the profile.
+pub record IsAskable (items : List Item) : Type 0 where
+  pub few : length items < 2 ^ 32
+  pub selectors : (n : ℕ) (r : RuleParts) → slice_get items n ≡ Some (kinds.Rule r) → length r.selectors < 2 ^ 32
+  pub decls : (n : ℕ) (r : RuleParts) → slice_get items n ≡ Some (kinds.Rule r) → length r.decls < 2 ^ 32
+  pub profile : (n : ℕ) (r : RuleParts) (s : SelItem) → slice_get items n ≡ Some (kinds.Rule r) → Contains r.selectors s → IsInProfile s.selector
+
+-- a declaration of a rule stands where it says
+pub record IsDeclAt (items : List Item) (d : DeclAt) : Type 0 where
+  pub item : DeclItem
+  pub rule_at : slice_get items d.item ≡ Some (kinds.Rule d.rule.now)
+  pub decl_at : slice_get d.rule.now.decls d.number ≡ Some item
+  pub is : item.decl ≡ d.decl.now
+
+-- so does a rule
+abbrev pub IsRuleAt : List Item → ℕ → RuleParts → Type 0
+IsRuleAt items n r = slice_get items n ≡ Some (kinds.Rule r)
+
+abbrev pub AreSources : List Item → List Source → Type 0
+AreSources items sources = (s : Source) → Contains sources s → IsRuleAt items s.item s.rule.now
+
+-- an item of a window has this number in the sheet
+pub record IsItemOf (w : Window) (n : ℕ) (item : Item) : Type 0 where
+  pub item_at : slice_get w.items.now n ≡ Some item
+  pub above : w.start ≤ n
+  pub below : n ≤ w.last
+
+-- a kept one does
+abbrev pub IsKeptHere : Window → ℕ → Item → Type 0
+IsKeptHere w n item = IsItemOf w n item × (is_kept item ≡ true)
+
+-- what a pair of a declaration faces stands where it says, and weighs with it but for specificity
+abbrev pub Faces : Window → Decl → Facing → Type 0
+Faces w d (facing.Pair q place) = DeclsWeigh d q.decl × IsInProfile q.selector × IsAt w.items.now place q
+Faces w d (facing.Kept i) = (k : IsKeptIn w i) × ((p : Pair) → p.decl ≡ d → WeighsKept p k.item)
+
+-- what a pair and what it faces may be
+abbrev pub hindrance_of : List Item → Facing → Pair → Hindrance
+hindrance_of list (facing.Pair q place) p = OfPair p q
+hindrance_of list (facing.Kept i) p = OfKept p (kept_before i list)
+
+-- what a pair faces, by its place
+abbrev pub other_of : Facing → Other
+other_of (facing.Pair q place) = others.Pair place
+other_of (facing.Kept i) = others.Kept i
+
+-- ---- What is looked at, the innermost first
+
+abbrev pub pair_of : SelItem → Decl → Pair
+pair_of s d = record { selector = s.selector; decl = d }
+
+-- a declaration stands in another rule too, if one is given
+abbrev pub is_common : Option (Bor RuleParts) → Decl → Bool
+is_common None d = true
+is_common (Some r) d = has_decl r.now.decls d
+
+-- the pairs of a declaration of a rule, if it is common, with something
+abbrev pub OfSelectors : RuleParts → Option (Bor RuleParts) → Decl → (Pair → Hindrance) → Hindrance → Type 0
+OfSelectors r with d f by = (is_common with d ≡ true) × Among r.selectors (λ x by. by ≡ f (pair_of x d)) by
+
+-- with the pairs of another declaration
+abbrev pub OfOther : RuleParts → Option (Bor RuleParts) → Decl → RuleParts → Decl → Hindrance → Type 0
+OfOther r with d other f by = Among other.selectors (λ y by. OfSelectors r with d (λ p. OfPair p (pair_of y f)) by) by
+
+-- with the pairs of a rule
+abbrev pub OfRule : RuleParts → Option (Bor RuleParts) → Decl → RuleParts → Hindrance → Type 0
+OfRule r with d other by = Among other.decls (λ g by. OfOther r with d other g.decl by) by
+
+-- with a kept item of this number
+abbrev pub with_kept : List Item → ℕ → Pair → Hindrance
+with_kept list n p = OfKept p (kept_before n list)
+
+-- with an item of this number
+abbrev pub OfItem : RuleParts → Option (Bor RuleParts) → Decl → List Item → ℕ → Item → Hindrance → Type 0
+OfItem r with d list n (kinds.Rule other) by = OfRule r with d other by
+OfItem r with d list n (kinds.KeptRule k) by = OfSelectors r with d (with_kept list n) by
+OfItem r with d list n (kinds.KeptBlock k) by = OfSelectors r with d (with_kept list n) by
+
+-- the pairs of a rule with an item
+abbrev pub OfSource : List Item → ℕ → Item → Source → Hindrance → Type 0
+OfSource list n item s by = Among s.rule.now.decls (λ x by. OfItem s.rule.now s.with x.decl list n item by) by
+
+-- those of some rules
+abbrev pub OfSources : List Item → ℕ → Item → List Source → Hindrance → Type 0
+OfSources list n item sources by = Among sources (OfSource list n item) by
+
+-- those of some rules with the item of this number
+abbrev pub OfNumber : List Item → List Source → ℕ → Hindrance → Type 0
+OfNumber list sources n by = (item : Item) × (slice_get list n ≡ Some item) × OfSources list n item sources by
+
+-- with the items of a window
+abbrev pub OfWindow : Window → List Source → Hindrance → Type 0
+OfWindow w sources by = (n : ℕ) × (w.start ≤ n) × (n ≤ w.last) × OfNumber w.items.now sources n by
+
+-- ---- In which order
+
+-- the item whose turn it is: upwards from the last one, or downwards from the first one
+abbrev pub number_of : Window → Bool → ℕ → ℕ
+number_of w upwards turn = if upwards then w.last - turn else w.start + turn
+
+-- with the items that had their turn
+abbrev pub OfTurns : Window → Bool → ℕ → List Source → Hindrance → Type 0
+OfTurns w upwards turns sources by = (n : ℕ) × (n < turns) × OfNumber w.items.now sources (number_of w upwards n) by

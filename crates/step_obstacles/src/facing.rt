@@ -1,0 +1,51 @@
+//! What a moved pair is looked at with.
+
+ghost use Rattle.std.specs.Prelude.{◌≡◌};
+ghost use Rattle.step_obstacles.specs.Turns.{other_of};
+
+use css_model::{Decl, Rule};
+use obstacles::{Other, PairPlace};
+use window_order::PairRef;
+
+/// A declaration of a rule of a sheet, by its number in the rule.
+#[derive(Clone, Copy)]
+pub(crate) struct DeclAt<'a> {
+    /// The rule's number in the sheet.
+    pub(crate) item: u32,
+    /// The rule.
+    pub(crate) rule: &'a Rule,
+    /// The number in the rule.
+    pub(crate) number: u32,
+    /// The declaration.
+    pub(crate) decl: &'a Decl,
+}
+
+/// A rule of a sheet whose pairs are moved: all, or those of the declarations that stand in another rule too.
+#[derive(Clone, Copy, Drop)]
+pub(crate) struct Source<'a> {
+    /// The rule's number in the sheet.
+    pub(crate) item: u32,
+    /// The rule.
+    pub(crate) rule: &'a Rule,
+    /// The other rule, if only common declarations count.
+    pub(crate) with: Option<&'a Rule>,
+}
+
+/// Another pair with its place, or the kept item of this number.
+#[derive(Drop)]
+pub(crate) enum Facing<'a> {
+    Pair(PairRef<'a>, PairPlace),
+    Kept(u32),
+}
+
+impl<'a> Facing<'a> {
+    /// The same, by its place.
+    pub(crate) fn other(&self) -> Other
+        ensures { result ≡ other_of self.now }
+    {
+        match self {
+            Facing::Pair(_, place) => Other::Pair(*place),
+            Facing::Kept(number) => Other::Kept(*number),
+        }
+    }
+}

@@ -1,0 +1,342 @@
+//! The first that blocks of what moved pairs face, looked at one after the other.
+
+ghost use Rattle.std.specs.Prelude.{◌≡◌, IfOk, Some, slice_get};
+ghost use Rattle.css_model.specs.declared.sheet.DeclItem as declared_decl;
+ghost use Rattle.css_model.specs.declared.sheet.SelItem as declared_selector;
+ghost use Rattle.sheet_order.specs.Allowing.{Stays};
+ghost use Rattle.step_obstacles.specs.Blocked.{IsToldOf};
+ghost use Rattle.step_obstacles.specs.Among.{Among};
+ghost use Rattle.step_obstacles.specs.Turns as turns;
+ghost use Rattle.wall_laws.specs.Holding.{OfPair};
+ghost use Rattle.window_order.specs.Weighing.{DeclsWeigh};
+
+use crate::answering::blocks;
+use crate::facing::{DeclAt, Facing, Source};
+use crate::rule_parts::{decl_count, decl_of, selector_count, selector_of};
+use css_model::{Decl, Item, Rule};
+use obstacles::{Obstacle, PairPlace};
+use overlap::Pairs;
+use std::alloc::AllocError;
+use step_savings::has_decl;
+use window_order::{PairRef, Window, decls_weigh, weighs_kept};
+
+/// The obstacle of the pair of a selector of this number and what it faces.
+fn named(moved: &DeclAt<'_>, number: u32, facing: &Facing<'_>) -> Obstacle
+    ensures { result ≡ record { moved = record { item = moved.now.item; sel = number; decl = moved.now.number }; other = turns.other_of facing.now } }
+{
+    let place = PairPlace {
+        item: moved.item,
+        sel: number,
+        decl: moved.number,
+    };
+    Obstacle {
+        moved: place,
+        other: facing.other(),
+    }
+}
+
+/// Of the selector of this number.
+fn of_selector(
+    pairs: &mut Pairs,
+    window: &Window<'_>,
+    moved: &DeclAt<'_>,
+    facing: &Facing<'_>,
+    number: u32,
+) -> Result<Option<Obstacle>, AllocError>
+    requires askable { turns.IsAskable window.now.items.now }
+    requires moved { turns.IsDeclAt window.now.items.now moved.now }
+    requires faces { turns.Faces window.now moved.now.decl.now facing.now }
+    requires number { (x : declared_selector.SelItem) × (slice_get moved.now.rule.now.selectors number ≡ Some x) }
+    ensures stays { Stays pairs.old pairs.new }
+    ensures told { IfOk result (λ found. (x : declared_selector.SelItem) → slice_get moved.now.rule.now.selectors number ≡ Some x →
+        IsToldOf pairs.new.answers window.now (λ by. by ≡ turns.hindrance_of window.now.items.now facing.now (turns.pair_of x moved.now.decl.now)) found) }
+{
+    let p = PairRef {
+        selector: selector_of(moved.rule, number),
+        decl: moved.decl,
+    };
+    if blocks(pairs, window, &p, facing)? {
+        return Ok(Some(named(moved, number, facing)));
+    }
+    Ok(None)
+}
+
+/// Of all selectors of the declaration's rule.
+fn of_selectors(
+    pairs: &mut Pairs,
+    window: &Window<'_>,
+    moved: &DeclAt<'_>,
+    facing: &Facing<'_>,
+) -> Result<Option<Obstacle>, AllocError>
+    requires askable { turns.IsAskable window.now.items.now }
+    requires moved { turns.IsDeclAt window.now.items.now moved.now }
+    requires faces { turns.Faces window.now moved.now.decl.now facing.now }
+    ensures stays { Stays pairs.old pairs.new }
+    ensures told { IfOk result (λ found. IsToldOf pairs.new.answers window.now
+        (Among moved.now.rule.now.selectors (λ x by. by ≡ turns.hindrance_of window.now.items.now facing.now (turns.pair_of x moved.now.decl.now))) found) }
+{
+    let count = selector_count(moved.rule);
+    for number in 0..count {
+        if let Some(found) = of_selector(pairs, window, moved, facing, number)? {
+            return Ok(Some(found));
+        }
+    }
+    Ok(None)
+}
+
+/// Whether a declaration stands in another rule too, if one is given.
+fn is_common(with: Option<&Rule>, decl: &Decl) -> bool
+    ensures { result ≡ turns.is_common with.entry decl.now }
+{
+    match with {
+        None => true,
+        Some(rule) => has_decl(&rule.decls, decl),
+    }
+}
+
+/// Of all selectors of the declaration's rule, if the declaration is common.
+fn of_moved(
+    pairs: &mut Pairs,
+    window: &Window<'_>,
+    moved: &DeclAt<'_>,
+    with: Option<&Rule>,
+    facing: &Facing<'_>,
+) -> Result<Option<Obstacle>, AllocError>
+    requires askable { turns.IsAskable window.now.items.now }
+    requires moved { turns.IsDeclAt window.now.items.now moved.now }
+    requires faces { turns.Faces window.now moved.now.decl.now facing.now }
+    ensures stays { Stays pairs.old pairs.new }
+    ensures told { IfOk result (λ found. IsToldOf pairs.new.answers window.now
+        (turns.OfSelectors moved.now.rule.now with.entry moved.now.decl.now (turns.hindrance_of window.now.items.now facing.now)) found) }
+{
+    if is_common(with, moved.decl) {
+        of_selectors(pairs, window, moved, facing)
+    } else {
+        Ok(None)
+    }
+}
+
+/// With the pair of another declaration and the selector of this number.
+fn with_selector(
+    pairs: &mut Pairs,
+    window: &Window<'_>,
+    moved: &DeclAt<'_>,
+    with: Option<&Rule>,
+    other: &DeclAt<'_>,
+    number: u32,
+) -> Result<Option<Obstacle>, AllocError>
+    requires askable { turns.IsAskable window.now.items.now }
+    requires moved { turns.IsDeclAt window.now.items.now moved.now }
+    requires other { turns.IsDeclAt window.now.items.now other.now }
+    requires weigh { DeclsWeigh moved.now.decl.now other.now.decl.now }
+    requires number { (y : declared_selector.SelItem) × (slice_get other.now.rule.now.selectors number ≡ Some y) }
+    ensures stays { Stays pairs.old pairs.new }
+    ensures told { IfOk result (λ found. (y : declared_selector.SelItem) → slice_get other.now.rule.now.selectors number ≡ Some y →
+        IsToldOf pairs.new.answers window.now (turns.OfSelectors moved.now.rule.now with.entry moved.now.decl.now (λ p. OfPair p (turns.pair_of y other.now.decl.now))) found) }
+{
+    let q = PairRef {
+        selector: selector_of(other.rule, number),
+        decl: other.decl,
+    };
+    let place = PairPlace {
+        item: other.item,
+        sel: number,
+        decl: other.number,
+    };
+    of_moved(pairs, window, moved, with, &Facing::Pair(q, place))
+}
+
+/// With the pairs of another declaration, which weighs.
+fn with_decl(
+    pairs: &mut Pairs,
+    window: &Window<'_>,
+    moved: &DeclAt<'_>,
+    with: Option<&Rule>,
+    other: &DeclAt<'_>,
+) -> Result<Option<Obstacle>, AllocError>
+    requires askable { turns.IsAskable window.now.items.now }
+    requires moved { turns.IsDeclAt window.now.items.now moved.now }
+    requires other { turns.IsDeclAt window.now.items.now other.now }
+    requires weigh { DeclsWeigh moved.now.decl.now other.now.decl.now }
+    ensures stays { Stays pairs.old pairs.new }
+    ensures told { IfOk result (λ found. IsToldOf pairs.new.answers window.now
+        (turns.OfOther moved.now.rule.now with.entry moved.now.decl.now other.now.rule.now other.now.decl.now) found) }
+{
+    let count = selector_count(other.rule);
+    for number in 0..count {
+        if let Some(found) = with_selector(pairs, window, moved, with, other, number)? {
+            return Ok(Some(found));
+        }
+    }
+    Ok(None)
+}
+
+/// With the pairs of another declaration, if it weighs.
+fn with_other(
+    pairs: &mut Pairs,
+    window: &Window<'_>,
+    moved: &DeclAt<'_>,
+    with: Option<&Rule>,
+    other: &DeclAt<'_>,
+) -> Result<Option<Obstacle>, AllocError>
+    requires askable { turns.IsAskable window.now.items.now }
+    requires moved { turns.IsDeclAt window.now.items.now moved.now }
+    requires other { turns.IsDeclAt window.now.items.now other.now }
+    ensures stays { Stays pairs.old pairs.new }
+    ensures told { IfOk result (λ found. IsToldOf pairs.new.answers window.now
+        (turns.OfOther moved.now.rule.now with.entry moved.now.decl.now other.now.rule.now other.now.decl.now) found) }
+{
+    if decls_weigh(moved.decl, other.decl) {
+        with_decl(pairs, window, moved, with, other)
+    } else {
+        Ok(None)
+    }
+}
+
+/// With the pairs of the declaration of this number of a rule.
+fn with_number(
+    pairs: &mut Pairs,
+    window: &Window<'_>,
+    moved: &DeclAt<'_>,
+    with: Option<&Rule>,
+    rule: &Rule,
+    item: u32,
+    number: u32,
+) -> Result<Option<Obstacle>, AllocError>
+    requires askable { turns.IsAskable window.now.items.now }
+    requires moved { turns.IsDeclAt window.now.items.now moved.now }
+    requires rule { turns.IsRuleAt window.now.items.now item rule.now }
+    requires number { (g : declared_decl.DeclItem) × (slice_get rule.now.decls number ≡ Some g) }
+    ensures stays { Stays pairs.old pairs.new }
+    ensures told { IfOk result (λ found. (g : declared_decl.DeclItem) → slice_get rule.now.decls number ≡ Some g →
+        IsToldOf pairs.new.answers window.now (turns.OfOther moved.now.rule.now with.entry moved.now.decl.now rule.now g.decl) found) }
+{
+    let other = DeclAt {
+        item,
+        rule,
+        number,
+        decl: decl_of(rule, number),
+    };
+    with_other(pairs, window, moved, with, &other)
+}
+
+/// With the pairs of a rule.
+fn with_rule(
+    pairs: &mut Pairs,
+    window: &Window<'_>,
+    moved: &DeclAt<'_>,
+    with: Option<&Rule>,
+    rule: &Rule,
+    item: u32,
+) -> Result<Option<Obstacle>, AllocError>
+    requires askable { turns.IsAskable window.now.items.now }
+    requires moved { turns.IsDeclAt window.now.items.now moved.now }
+    requires rule { turns.IsRuleAt window.now.items.now item rule.now }
+    ensures stays { Stays pairs.old pairs.new }
+    ensures told { IfOk result (λ found. IsToldOf pairs.new.answers window.now
+        (turns.OfRule moved.now.rule.now with.entry moved.now.decl.now rule.now) found) }
+{
+    let count = decl_count(rule);
+    for number in 0..count {
+        if let Some(found) = with_number(pairs, window, moved, with, rule, item, number)? {
+            return Ok(Some(found));
+        }
+    }
+    Ok(None)
+}
+
+/// With a kept item, if it weighs.
+fn with_kept(
+    pairs: &mut Pairs,
+    window: &Window<'_>,
+    moved: &DeclAt<'_>,
+    with: Option<&Rule>,
+    item: &Item,
+    number: u32,
+) -> Result<Option<Obstacle>, AllocError>
+    requires askable { turns.IsAskable window.now.items.now }
+    requires moved { turns.IsDeclAt window.now.items.now moved.now }
+    requires item { turns.IsKeptHere window.now number item.now }
+    ensures stays { Stays pairs.old pairs.new }
+    ensures told { IfOk result (λ found. IsToldOf pairs.new.answers window.now
+        (turns.OfSelectors moved.now.rule.now with.entry moved.now.decl.now (turns.with_kept window.now.items.now number)) found) }
+{
+    if weighs_kept(moved.decl, item) {
+        of_moved(pairs, window, moved, with, &Facing::Kept(number))
+    } else {
+        Ok(None)
+    }
+}
+
+/// With an item.
+fn with_item(
+    pairs: &mut Pairs,
+    window: &Window<'_>,
+    moved: &DeclAt<'_>,
+    with: Option<&Rule>,
+    item: &Item,
+    number: u32,
+) -> Result<Option<Obstacle>, AllocError>
+    requires askable { turns.IsAskable window.now.items.now }
+    requires moved { turns.IsDeclAt window.now.items.now moved.now }
+    requires item { turns.IsItemOf window.now number item.now }
+    ensures stays { Stays pairs.old pairs.new }
+    ensures told { IfOk result (λ found. IsToldOf pairs.new.answers window.now
+        (turns.OfItem moved.now.rule.now with.entry moved.now.decl.now window.now.items.now number item.now) found) }
+{
+    match item {
+        Item::Rule(rule) => with_rule(pairs, window, moved, with, rule, number),
+        Item::KeptRule(_) | Item::KeptBlock(_) => {
+            with_kept(pairs, window, moved, with, item, number)
+        }
+    }
+}
+
+/// Of the declaration of this number of a rule.
+fn of_decl(
+    pairs: &mut Pairs,
+    window: &Window<'_>,
+    source: &Source<'_>,
+    item: &Item,
+    number: u32,
+    decl: u32,
+) -> Result<Option<Obstacle>, AllocError>
+    requires askable { turns.IsAskable window.now.items.now }
+    requires source { turns.IsRuleAt window.now.items.now source.now.item source.now.rule.now }
+    requires item { turns.IsItemOf window.now number item.now }
+    requires decl { (x : declared_decl.DeclItem) × (slice_get source.now.rule.now.decls decl ≡ Some x) }
+    ensures stays { Stays pairs.old pairs.new }
+    ensures told { IfOk result (λ found. (x : declared_decl.DeclItem) → slice_get source.now.rule.now.decls decl ≡ Some x →
+        IsToldOf pairs.new.answers window.now (turns.OfItem source.now.rule.now source.now.with x.decl window.now.items.now number item.now) found) }
+{
+    let moved = DeclAt {
+        item: source.item,
+        rule: source.rule,
+        number: decl,
+        decl: decl_of(source.rule, decl),
+    };
+    with_item(pairs, window, &moved, source.with, item, number)
+}
+
+/// Of a rule.
+pub(crate) fn of_source(
+    pairs: &mut Pairs,
+    window: &Window<'_>,
+    source: &Source<'_>,
+    item: &Item,
+    number: u32,
+) -> Result<Option<Obstacle>, AllocError>
+    requires askable { turns.IsAskable window.now.items.now }
+    requires source { turns.IsRuleAt window.now.items.now source.now.item source.now.rule.now }
+    requires item { turns.IsItemOf window.now number item.now }
+    ensures stays { Stays pairs.old pairs.new }
+    ensures told { IfOk result (λ found. IsToldOf pairs.new.answers window.now (turns.OfSource window.now.items.now number item.now source.now) found) }
+{
+    let count = decl_count(source.rule);
+    for decl in 0..count {
+        if let Some(found) = of_decl(pairs, window, source, item, number, decl)? {
+            return Ok(Some(found));
+        }
+    }
+    Ok(None)
+}

@@ -1,0 +1,222 @@
+//! What blocks a step, looked for among the items from its first to its last one.
+
+ghost use Rattle.std.specs.Prelude.{◌≡◌, IfNone, IfOk, IfSome, None, Some, map, slice_get};
+ghost use Rattle.css_model.specs.declared.sheet.Item.TheVariants as kinds;
+ghost use Rattle.css_model.specs.Sheets.RuleParts.{RuleParts};
+ghost use Rattle.obstacles.specs.Blocking.{IsBlockedBy};
+ghost use Rattle.order_laws.specs.Edits.{Edit};
+ghost use Rattle.sheet_order.specs.Allowing.{Stays};
+ghost use Rattle.sheet_order.specs.Laws.{answer_seen};
+ghost use Rattle.sheet_order.specs.declared.places.Moved.TheVariants as moved;
+ghost use Rattle.sheet_order.specs.Narrow.{CanBePlanned};
+ghost use Rattle.sheet_order.specs.Taking as taking;
+ghost use Rattle.step_laws.specs.Free.{IsFree};
+ghost use Rattle.step_laws.specs.Steps.{HasStep, IsStep};
+ghost use Rattle.step_obstacles.specs.StepWindow.{AreThere, IsToldBy, IsWindowFor};
+ghost use Rattle.step_obstacles.specs.Turns as turns;
+ghost use Rattle.window_laws.specs.StepWindows as windows;
+
+use crate::facing::Source;
+use crate::window_search::in_window;
+use css_model::{Item, Sheet};
+use merge_steps::{Change, changes};
+use obstacles::Obstacle;
+use overlap::Pairs;
+use print_laws::selectors_are_in_the_profile;
+use sheet_order::Moved;
+use std::alloc::{AllocError, Global};
+use step_laws::{Step, parts_are_few, steps_are_one_edit};
+use step_savings::{items_of, rule_at};
+use window_laws::{steps_have_windows, windows_tell_kept, windows_tell_pairs};
+use window_order::Window;
+
+/// Where the window of a step begins, and its middle part.
+fn starts_of(step: &Step) -> (usize, usize)
+    ensures start { result.0 ≡ windows.window_start step.now }
+    ensures middle { result.1 ≡ windows.middle_start step.now }
+{
+    match *step {
+        Step::CutDecl { .. } | Step::CutSel { .. } => (0, 0),
+        Step::JoinSelUp { upper, .. }
+        | Step::JoinSelDown { upper, .. }
+        | Step::JoinDeclUp { upper, .. }
+        | Step::JoinDeclDown { upper, .. }
+        | Step::Share { upper, .. } => (upper as usize, upper as usize + 1),
+    }
+}
+
+/// What stands in the place of the first item of two.
+fn first_left(changes: &[Change]) -> &[Item]
+    ensures { result.now ≡ windows.first_left changes.now }
+{
+    match changes {
+        [above, _, ..] => above.by.as_slice(),
+        _ => &[],
+    }
+}
+
+/// What stands in the place of the last item.
+fn last_left(changes: &[Change]) -> &[Item]
+    ensures { result.now ≡ windows.last_left changes.now }
+{
+    match changes {
+        [_, below, ..] => below.by.as_slice(),
+        [only] => only.by.as_slice(),
+        [] => &[],
+    }
+}
+
+/// The window of a step that makes these changes.
+fn window_of<'a>(items: &'a [Item], step: &Step, changes: &'a [Change]) -> Window<'a>
+    requires is_step { HasStep items.now step.now }
+    requires changes { (e : Edit) → IsStep items.now step.now e → changes.now ≡ e.changes }
+    ensures { (e : Edit) → IsStep items.now step.now e → IsWindowFor items.now step.now e result }
+{
+    let (start, middle) = starts_of(step);
+    let (_, last) = items_of(step);
+    let first_left = first_left(changes);
+    let last_left = last_left(changes);
+    Window {
+        items,
+        start,
+        middle,
+        last: last as usize,
+        first_left,
+        last_left,
+    }
+}
+
+/// All pairs of the rule of this number.
+fn whole(sheet: &Sheet, item: u32) -> Source<'_>
+    requires { (r : RuleParts) × (slice_get sheet.now.items item ≡ Some (kinds.Rule r)) }
+    ensures item { result.item ≡ item }
+    ensures with { result.with ≡ None }
+    ensures rule { slice_get sheet.now.items item ≡ Some (kinds.Rule result.rule.now) }
+{
+    Source {
+        item,
+        rule: rule_at(sheet, item),
+        with: None,
+    }
+}
+
+/// The pairs of the rule of this number whose declarations stand in another rule too.
+fn common(sheet: &Sheet, item: u32, other: u32) -> Source<'_>
+    requires rule { (r : RuleParts) × (slice_get sheet.now.items item ≡ Some (kinds.Rule r)) }
+    requires other { (r : RuleParts) × (slice_get sheet.now.items other ≡ Some (kinds.Rule r)) }
+    ensures item { result.item ≡ item }
+    ensures with { IfSome result.with (λ r. slice_get sheet.now.items other ≡ Some (kinds.Rule r.now)) }
+    ensures some { result.with ≡ None → ⊥ }
+    ensures rule { slice_get sheet.now.items item ≡ Some (kinds.Rule result.rule.now) }
+{
+    Source {
+        item,
+        rule: rule_at(sheet, item),
+        with: Some(rule_at(sheet, other)),
+    }
+}
+
+/// The pairs that a step moves.
+fn moved_of(step: &Step) -> Moved
+    ensures { result ≡ taking.moved_of step.now }
+{
+    match *step {
+        Step::CutDecl { item, .. } | Step::CutSel { item, .. } => Moved::Rule(item),
+        Step::JoinSelUp { lower, .. } | Step::JoinDeclUp { lower, .. } => Moved::Rule(lower),
+        Step::JoinSelDown { upper, .. } | Step::JoinDeclDown { upper, .. } => Moved::Rule(upper),
+        Step::Share { upper, lower } => Moved::Common { upper, lower },
+    }
+}
+
+/// Whether what a step moves is nearer to the last item of its window than to the first.
+fn begins_below(step: &Step) -> bool {
+    !matches!(step, Step::JoinSelDown { .. } | Step::JoinDeclDown { .. })
+}
+
+/// What blocks of the pairs of the rule of this number.
+fn by_whole(
+    pairs: &mut Pairs,
+    window: &Window<'_>,
+    sheet: &Sheet,
+    item: u32,
+    upwards: bool,
+) -> Result<Option<Obstacle>, AllocError>
+    requires askable { turns.IsAskable sheet.now.items }
+    requires items { window.now.items.now ≡ sheet.now.items }
+    requires rule { (r : RuleParts) × (slice_get sheet.now.items item ≡ Some (kinds.Rule r)) }
+    ensures stays { Stays pairs.old pairs.new }
+    ensures told { IfOk result (λ found. IsToldBy pairs.new.answers sheet.now.items (moved.Rule item) window.now found) }
+{
+    let source = whole(sheet, item);
+    in_window(pairs, window, &[source], upwards)
+}
+
+/// What blocks of the common pairs of the rules of these numbers.
+fn by_common(
+    pairs: &mut Pairs,
+    window: &Window<'_>,
+    sheet: &Sheet,
+    upper: u32,
+    lower: u32,
+    upwards: bool,
+) -> Result<Option<Obstacle>, AllocError>
+    requires askable { turns.IsAskable sheet.now.items }
+    requires items { window.now.items.now ≡ sheet.now.items }
+    requires upper { (r : RuleParts) × (slice_get sheet.now.items upper ≡ Some (kinds.Rule r)) }
+    requires lower { (r : RuleParts) × (slice_get sheet.now.items lower ≡ Some (kinds.Rule r)) }
+    ensures stays { Stays pairs.old pairs.new }
+    ensures told { IfOk result (λ found. IsToldBy pairs.new.answers sheet.now.items (moved.Common upper lower) window.now found) }
+{
+    let above = common(sheet, upper, lower);
+    let below = common(sheet, lower, upper);
+    in_window(pairs, window, &[above, below], upwards)
+}
+
+/// What blocks of the pairs that are moved.
+fn by_moved(
+    pairs: &mut Pairs,
+    window: &Window<'_>,
+    sheet: &Sheet,
+    moved: &Moved,
+    upwards: bool,
+) -> Result<Option<Obstacle>, AllocError>
+    requires askable { turns.IsAskable sheet.now.items }
+    requires items { window.now.items.now ≡ sheet.now.items }
+    requires there { AreThere sheet.now.items moved.now }
+    ensures stays { Stays pairs.old pairs.new }
+    ensures told { IfOk result (λ found. IsToldBy pairs.new.answers sheet.now.items moved.now window.now found) }
+{
+    match *moved {
+        Moved::Rule(item) => by_whole(pairs, window, sheet, item, upwards),
+        Moved::Common { upper, lower } => by_common(pairs, window, sheet, upper, lower, upwards),
+    }
+}
+
+/// What blocks a step of a sheet, and `None` where it is free, by the answers for pairs of selectors, which are
+/// asked for. All that was answered stays, and the budget, also after `AllocError`. The time is that of a look at
+/// each moved pair with each pair of the items from the step's first to its last one, and the memory that of what
+/// becomes of these two; of a cut it is all items above.
+pub(crate) fn step_obstacle(
+    alloc: Global,
+    pairs: &mut Pairs,
+    sheet: &Sheet,
+    step: &Step,
+) -> Result<Option<Obstacle>, AllocError>
+    requires is_step { HasStep sheet.now.items step.now }
+    requires planned { CanBePlanned sheet.now.items }
+    ensures stays { Stays pairs.old pairs.new }
+    ensures free { IfOk result (λ found. IfNone found ((e : Edit) → IsStep sheet.now.items step.now e → IsFree (map answer_seen pairs.new.answers) sheet.now.items e)) }
+    ensures blocked { IfOk result (λ found. IfSome found (λ o. IsBlockedBy (map answer_seen pairs.new.answers) sheet.now.items step.now o)) }
+{
+    selectors_are_in_the_profile();
+    parts_are_few();
+    steps_are_one_edit();
+    steps_have_windows();
+    windows_tell_pairs();
+    windows_tell_kept();
+    let changes = changes(alloc, sheet, step)?;
+    let items = sheet.items.as_slice();
+    let window = window_of(items, step, &changes);
+    let moved = moved_of(step);
+    by_moved(pairs, &window, sheet, &moved, begins_below(step))
+}

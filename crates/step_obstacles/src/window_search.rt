@@ -1,0 +1,96 @@
+//! The first that blocks of what moved pairs face in a window.
+
+ghost use Rattle.std.specs.Prelude.{◌≡◌, ◌≤◌, ◌+◌, ◌-◌, IfOk};
+ghost use Rattle.sheet_order.specs.Allowing.{Stays};
+ghost use Rattle.step_obstacles.specs.Blocked.{IsToldOf};
+ghost use Rattle.step_obstacles.specs.Turns as turns;
+
+use crate::facing::Source;
+use crate::searching::of_source;
+use css_model::Item;
+use obstacles::Obstacle;
+use overlap::Pairs;
+use std::alloc::AllocError;
+use window_order::Window;
+
+/// Of some rules with an item.
+fn of_sources(
+    pairs: &mut Pairs,
+    window: &Window<'_>,
+    sources: &[Source<'_>],
+    item: &Item,
+    number: u32,
+) -> Result<Option<Obstacle>, AllocError>
+    requires askable { turns.IsAskable window.now.items.now }
+    requires sources { turns.AreSources window.now.items.now sources.now }
+    requires item { turns.IsItemOf window.now number item.now }
+    ensures stays { Stays pairs.old pairs.new }
+    ensures told { IfOk result (λ found. IsToldOf pairs.new.answers window.now (turns.OfSources window.now.items.now number item.now sources.now) found) }
+{
+    for source in sources {
+        if let Some(found) = of_source(pairs, window, source, item, number)? {
+            return Ok(Some(found));
+        }
+    }
+    Ok(None)
+}
+
+/// Of some rules with the item of this number.
+fn of_number(
+    pairs: &mut Pairs,
+    window: &Window<'_>,
+    sources: &[Source<'_>],
+    number: usize,
+) -> Result<Option<Obstacle>, AllocError>
+    requires askable { turns.IsAskable window.now.items.now }
+    requires sources { turns.AreSources window.now.items.now sources.now }
+    requires above { window.now.start ≤ number }
+    requires below { number ≤ window.now.last }
+    ensures stays { Stays pairs.old pairs.new }
+    ensures told { IfOk result (λ found. IsToldOf pairs.new.answers window.now (turns.OfNumber window.now.items.now sources.now number) found) }
+{
+    let item = &window.items[number];
+    of_sources(pairs, window, sources, item, number as u32)
+}
+
+/// How many items a window has.
+fn count_of(window: &Window<'_>) -> usize
+    ensures exact { result ≡ window.now.last - window.now.start + 1 }
+    ensures order { window.now.start ≤ window.now.last }
+{
+    window.last - window.start + 1
+}
+
+/// The number of the item whose turn it is: upwards from the last one, or downwards from the first one.
+fn number_of(window: &Window<'_>, upwards: bool, turn: usize) -> usize
+    requires { window.now.start + turn ≤ window.now.last }
+    ensures { result ≡ turns.number_of window.now upwards turn }
+{
+    if upwards {
+        window.last - turn
+    } else {
+        window.start + turn
+    }
+}
+
+/// Of some rules with all items of a window, upwards or downwards.
+pub(crate) fn in_window(
+    pairs: &mut Pairs,
+    window: &Window<'_>,
+    sources: &[Source<'_>],
+    upwards: bool,
+) -> Result<Option<Obstacle>, AllocError>
+    requires askable { turns.IsAskable window.now.items.now }
+    requires sources { turns.AreSources window.now.items.now sources.now }
+    ensures stays { Stays pairs.old pairs.new }
+    ensures told { IfOk result (λ found. IsToldOf pairs.new.answers window.now (turns.OfWindow window.now sources.now) found) }
+{
+    let count = count_of(window);
+    for turn in 0..count {
+        let number = number_of(window, upwards, turn);
+        if let Some(found) = of_number(pairs, window, sources, number)? {
+            return Ok(Some(found));
+        }
+    }
+    Ok(None)
+}
