@@ -1,13 +1,13 @@
 -- Lemmas on where the analysis of a conflict begins and ends.
-use Rattle.std.proofs.Common.{◌≡◌, ◌+◌, ◌-◌, ◌<◌, ◌≤◌, ◌⊎◌, ℕ, Bool, false, not, ◌&&◌, ◌||◌, cond, eqb, IsTrue, zero, suc, Option, None, Some, List, [], ◌∷◌, length, take, set, get_or, refl, sym, ap, subst, ◌∙◌, inl, inr, arith}
+use Rattle.std.proofs.Common.{◌≡◌, ◌+◌, ◌-◌, ◌<◌, ◌≤◌, ◌⊎◌, ℕ, Bool, false, not, ◌&&◌, ◌||◌, cond, eqb, IsTrue, Option, None, Some, List, [], ◌∷◌, length, set, get_or, refl, sym, ap, subst, ◌∙◌, inl, inr, arith}
 use Rattle.std.specs.List.{list_any}
-use Rattle.std.proofs.lemmas.Bool.{and_parts, or_cases, or_left, or_right, eq-eqb, ltb-true, false≢true, cases_eq, not_from_true, cond-true}
+use Rattle.std.proofs.lemmas.Bool.{and_parts, or_cases, eq-eqb, ltb-true, false≢true, cases_eq, not_from_true, cond-true}
 use Rattle.std.proofs.lemmas.List.{get_or-set_other}
 use Rattle.std.proofs.lemmas.Option.{slice_get-get_or, get_or_from_slice_get}
 use Rattle.cnf.specs.declared.lit.Lit.{Lit}
 use Rattle.cnf.specs.Lits.{variable, negation, same, is_among}
 use Rattle.cnf.specs.Propagation.{IsForced, is_open, has_two_open}
-use Rattle.cnf.proofs.ForCallers.{list_all-get, same-refl, any-witness, all-among}
+use Rattle.cnf.proofs.ForCallers.{list_all-get, any-witness, all-among}
 use Rattle.sat_trail.specs.declared.entry.Entry.{Entry}
 use Rattle.sat_trail.specs.Trail.{Assignment, lits, entry_of, level_in, up_to, IsTrail}
 use Rattle.sat_trail.proofs.ForCallers.{below-get, entry_of-at, variable-before, no-both, rise-top, rise-mono, decided-above, among-up_to, up_to-among}
@@ -16,7 +16,7 @@ use Rattle.sat_watch.specs.Soundness.{is_false, RestsBelow, IsConflict}
 use Rattle.sat_core.specs.Analysis.{is_marked, marked, marked_at, MarkedWithin, IsResolved}
 use Rattle.sat_watch.proofs.ForCallers.{under-at}
 use Rattle.sat_core.proofs.MarkLemmas.{is_of, marked_at-unset, none-marked, some-marked}
-use Rattle.sat_core.proofs.ResolveLemmas.{place-within}
+use Rattle.sat_core.proofs.ResolveLemmas.{place-within, lits-take-get}
 
 pub top-level : (t : Assignment) (seen : List Bool) (k : ℕ) (d : Entry) → IsTrail t → MarkedWithin seen t.entries (k + 1) → k < length t.entries → 0 < marked_at seen t.level t.entries → (get_or t.entries k d).level ≡ t.level
 top-level t seen k d h w b some =
@@ -72,12 +72,6 @@ resolved formula t seen k h size b f m w some end = record {
         apart : (j : ℕ) (d : Entry) → j < k → variable (get_or t.entries j d).lit ≡ variable (get_or t.entries k d).lit → ⊥
         apart j d a e =
             variable-before t.entries k d (get_or t.entries j d).lit h.distinct b (lits-take-get t.entries k j d a b) e
-          where
-            lits-take-get : (es : List Entry) (k j : ℕ) (d : Entry) → j < k → k < length es → IsTrue (is_among (lits (take k es)) (get_or es j d).lit)
-            lits-take-get [] k j d a b = absurd (omega arith)
-            lits-take-get (x ∷ xs) zero j d a b = absurd (omega arith)
-            lits-take-get (x ∷ xs) (suc k) zero d a b = or_left _ _ (same-refl x.lit)
-            lits-take-get (x ∷ xs) (suc k) (suc j) d a b = or_right _ _ (lits-take-get xs k j d (omega arith) (omega arith))
 
 -- what a resolved conflict says of the entry at its place, and of a marked one before it
 pub top-at : (formula : List (List Lit)) (t : Assignment) (seen : List Bool) (at : ℕ) (d : Entry) → IsResolved formula t seen at → IsTrue (is_marked seen (get_or t.entries at d).lit) × ((get_or t.entries at d).level ≡ t.level)

@@ -6,4 +6,5 @@ pub mod LearnedLemmas
 pub mod LedgerLemmas
 pub mod MarkLemmas
 pub mod ResolveLemmas
+pub mod ShortenLemmas
 pub mod SolveLemmas

@@ -8,12 +8,12 @@ use Rattle.std.proofs.lemmas.Map.Keys.{IsDistinct-head, IsDistinct-tail}
 use Rattle.cnf.specs.declared.lit.Lit.{Lit}
 use Rattle.cnf.specs.Lits.{variable, negation, same, is_among}
 use Rattle.cnf.specs.Propagation.{IsForced}
-use Rattle.cnf.proofs.ForCallers.{variable-negation, same-eq, same-from_eq, any-among, any-witness, all-among, all-from, negation-twice}
+use Rattle.cnf.proofs.ForCallers.{variable-negation, same-eq, same-refl, same-from_eq, any-among, any-witness, all-among, all-from, negation-twice}
 use Rattle.sat_trail.specs.declared.entry.Entry.{Entry}
-use Rattle.sat_trail.specs.Trail.{lits, variables}
-use Rattle.sat_trail.proofs.ForCallers.{one-literal, lits-take, lits-get, variable-before}
+use Rattle.sat_trail.specs.Trail.{Assignment, lits, variables, entry_of, reason_in, IsTrail}
+use Rattle.sat_trail.proofs.ForCallers.{one-literal, lits-take, lits-get, variable-before, entry_of-at}
 use Rattle.sat_watch.specs.Numbered.{Numbered, clauses_of}
-use Rattle.sat_watch.specs.Soundness.{is_false, Implies, Reasoned, IsConflict}
+use Rattle.sat_watch.specs.Soundness.{is_false, Implies, Reasoned, IsConflict, IsSound}
 use Rattle.sat_core.specs.Analysis.{is_marked, marked, has_variable, MarkedWithin}
 use Rattle.sat_watch.proofs.ForCallers.{under-at}
 use Rattle.sat_core.proofs.ForcingLemmas.{forced-start, forced-resolve}
@@ -31,6 +31,12 @@ reasoned-get ns before (x ∷ xs) zero at d r b e =
 reasoned-get ns before (x ∷ xs) (suc k) at d r b e =
     let Q : List Lit → Type 0 = λ b. Implies ns b (get_or xs k d).lit at in
     subst Q (append_assoc before (x.lit ∷ []) (lits (take k xs))) (reasoned-get ns (before ++ x.lit ∷ []) xs k at d r.1 (omega arith) e)
+
+-- the same, as the trail tells it
+pub reason-at : (ns : List Numbered) (t : Assignment) (k at : ℕ) (d : Entry) → IsTrail t → IsSound ns t → k < length t.entries → Some at ≡ reason_in (entry_of t.entries (variable (get_or t.entries k d).lit)) → Implies ns (lits (take k t.entries)) (get_or t.entries k d).lit at
+reason-at ns t k at d h s b e =
+    let there = entry_of-at t.entries (variable (get_or t.entries k d).lit) k d h.distinct b refl in
+    reasoned-get ns [] t.entries k at d s.reasons b (sym (e ∙ ap reason_in there))
 
 pub variable-has : (clause : List Lit) (x : Lit) → IsTrue (is_among clause x) → IsTrue (has_variable clause (variable x))
 variable-has clause x m = any-among (λ l. eqb (variable l) (variable x)) clause x m (eq-eqb _ _ refl)
@@ -107,6 +113,18 @@ within-pass seen es k d b n w v h =
       | inr a ↦ absurd (false≢true (sym n ∙ (ap (λ i. get_or seen i false) (sym a) ∙ h)))
     ]
 
+-- another variable of the clause that implied an entry is that of one before it
+pub before-reason : (ns : List Numbered) (es : List Entry) (k at v : ℕ) (d : Entry) → (i : Implies ns (lits (take k es)) (get_or es k d).lit at) → (v ≡ variable (get_or es k d).lit → ⊥) → IsTrue (has_variable i.clause v) → IsTrue (list_any (λ (e : Entry). eqb (variable e.lit) v) (take k es))
+before-reason ns es k at v d i ne s =
+    let x = any-witness (λ l. eqb (variable l) v) i.clause s in
+    elim (or_cases (same x.0 (get_or es k d).lit) (is_false (lits (take k es)) x.0) (all-among (λ x. same x (get_or es k d).lit || is_false (lits (take k es)) x) i.clause x.0 i.others x.1)) [
+      | inl q ↦ absurd (ne (sym (eqb-true (variable x.0) v x.2) ∙ ap variable (same-eq x.0 (get_or es k d).lit q)))
+      | inr q ↦
+          let e = variable-negation x.0 ∙ eqb-true (variable x.0) v x.2 in
+          let P : ℕ → Type 0 = λ n. IsTrue (list_any (λ (e : Entry). eqb (variable e.lit) n) (take k es)) in
+          subst P e (among-variable (take k es) (negation x.0) q)
+    ]
+
 pub within-mark : (ns : List Numbered) (es : List Entry) (seen after : List Bool) (k at : ℕ) (d : Entry) → k < length es → (i : Implies ns (lits (take k es)) (get_or es k d).lit at) → MarkedWithin seen es (k + 1) → get_or after (variable (get_or es k d).lit) false ≡ false → ((v : ℕ) → (v ≡ variable (get_or es k d).lit → ⊥) → get_or after v false ≡ (get_or seen v false || has_variable i.clause v)) → MarkedWithin after es k
 within-mark ns es seen after k at d b i w off m v h =
     elim (cases_eq v (variable (get_or es k d).lit)) [
@@ -114,24 +132,16 @@ within-mark ns es seen after k at d b i w off m v h =
       | inr ne ↦
           elim (or_cases (get_or seen v false) (has_variable i.clause v) (sym (m v ne) ∙ h)) [
             | inl s ↦ elim (any-take_more es k d v b (w v s)) [ inl a ↦ a | inr a ↦ absurd (ne a) ]
-            | inr s ↦
-                let x = any-witness (λ l. eqb (variable l) v) i.clause s in
-                elim (or_cases (same x.0 (get_or es k d).lit) (is_false (lits (take k es)) x.0) (all-among (λ x. same x (get_or es k d).lit || is_false (lits (take k es)) x) i.clause x.0 i.others x.1)) [
-                  | inl q ↦ absurd (ne (sym (eqb-true (variable x.0) v x.2) ∙ ap variable (same-eq x.0 (get_or es k d).lit q)))
-                  | inr q ↦
-                      let e = variable-negation x.0 ∙ eqb-true (variable x.0) v x.2 in
-                      let P : ℕ → Type 0 = λ n. IsTrue (list_any (λ (e : Entry). eqb (variable e.lit) n) (take k es)) in
-                      subst P e (among-variable (take k es) (negation x.0) q)
-                ]
+            | inr s ↦ before-reason ns es k at v d i ne s
           ]
     ]
 
--- a marked entry is among the first
-pub place-within : (seen : List Bool) (es : List Entry) (k j : ℕ) (d : Entry) → IsDistinct eqb (variables es) → MarkedWithin seen es k → j < length es → IsTrue (is_marked seen (get_or es j d).lit) → j < k
-place-within seen es k j d u w b m =
+-- an entry whose variable is that of one of the first is among them
+pub place-before : (es : List Entry) (k j : ℕ) (d : Entry) → IsDistinct eqb (variables es) → j < length es → IsTrue (list_any (λ (e : Entry). eqb (variable e.lit) (variable (get_or es j d).lit)) (take k es)) → j < k
+place-before es k j d u b h =
     elim (cases_lt j k) [
-      | inl h ↦ h
-      | inr h ↦ absurd (search_in es k j u b h (w (variable (get_or es j d).lit) m))
+      | inl l ↦ l
+      | inr l ↦ absurd (search_in es k j u b l h)
     ]
   where
     apart_at : (x : Entry) (xs : List Entry) (j : ℕ) → AllByRecursion (λ y. eqb (variable x.lit) y ≡ false) (variables xs) → j < length xs → variable x.lit ≡ variable (get_or xs j d).lit → ⊥
@@ -148,3 +158,14 @@ place-within seen es k j d u w b m =
           | inl e ↦ apart_at x xs j (IsDistinct-head eqb (variable x.lit) (variables xs) u) (omega arith) (eqb-true _ _ e)
           | inr e ↦ search_in xs k j (IsDistinct-tail eqb (variable x.lit) (variables xs) u) (omega arith) (omega arith) e
         ]
+
+-- a marked entry is among the first
+pub place-within : (seen : List Bool) (es : List Entry) (k j : ℕ) (d : Entry) → IsDistinct eqb (variables es) → MarkedWithin seen es k → j < length es → IsTrue (is_marked seen (get_or es j d).lit) → j < k
+place-within seen es k j d u w b m = place-before es k j d u b (w (variable (get_or es j d).lit) m)
+
+-- an earlier entry is among those before a later one
+pub lits-take-get : (es : List Entry) (k j : ℕ) (d : Entry) → j < k → k < length es → IsTrue (is_among (lits (take k es)) (get_or es j d).lit)
+lits-take-get [] k j d a b = absurd (omega arith)
+lits-take-get (x ∷ xs) zero j d a b = absurd (omega arith)
+lits-take-get (x ∷ xs) (suc k) zero d a b = or_left _ _ (same-refl x.lit)
+lits-take-get (x ∷ xs) (suc k) (suc j) d a b = or_right _ _ (lits-take-get xs k j d (omega arith) (omega arith))

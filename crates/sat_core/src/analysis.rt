@@ -11,16 +11,23 @@ use sat_trail::Trail;
 
 /// Resolves the clause under a number, which is false, with the reasons of its literals until one is
 /// left of the present level, and says where on the trail that one is. The clause is then that of the
-/// negations of the marked literals. Takes no memory.
-pub(crate) fn resolve(arena: &Arena, trail: &Trail, seen: &mut Vec<bool>, conflict: usize) -> u32
-    requires vars { trail.now.vars ≡ arena.now.vars }
-    requires sound { IsSound (numbered arena.now) trail.now }
-    requires level { 0 < trail.now.level }
-    requires conflict { IsConflict (numbered arena.now) (lits trail.now.entries) conflict }
-    requires seen { length seen.old.items ≡ trail.now.vars }
-    ensures seen { length seen.new.items ≡ trail.now.vars }
-    ensures trail { IsTrail trail.now }
-    ensures resolved { IsResolved (clauses_of (numbered arena.now)) trail.now seen.new.items result }
+/// negations of the marked literals. The variables that it resolves become more active. Takes no
+/// memory.
+pub(crate) fn resolve(
+    arena: &Arena,
+    trail: &mut Trail,
+    seen: &mut Vec<bool>,
+    conflict: usize,
+) -> u32
+    requires vars { trail.old.vars ≡ arena.now.vars }
+    requires sound { IsSound (numbered arena.now) trail.old }
+    requires level { 0 < trail.old.level }
+    requires conflict { IsConflict (numbered arena.now) (lits trail.old.entries) conflict }
+    requires seen { length seen.old.items ≡ trail.old.vars }
+    ensures same { trail.new ≡ trail.old }
+    ensures seen { length seen.new.items ≡ trail.old.vars }
+    ensures trail { IsTrail trail.old }
+    ensures resolved { IsResolved (clauses_of (numbered arena.now)) trail.old seen.new.items result }
 {
     clear(seen);
     let level = trail.level();
@@ -35,6 +42,7 @@ pub(crate) fn resolve(arena: &Arena, trail: &Trail, seen: &mut Vec<bool>, confli
                     open += mark(seen, trail, arena, number, level);
                     open -= 1;
                     seen[var as usize] = false;
+                    trail.bump(var);
                 }
                 _ => return k,
             }
@@ -54,7 +62,13 @@ fn clear(seen: &mut Vec<bool>)
 
 /// Marks the variables of the clause under a number, and says how many new marks are on entries of a
 /// level. Takes no memory.
-fn mark(seen: &mut Vec<bool>, trail: &Trail, arena: &Arena, number: usize, level: u32) -> u32
+pub(crate) fn mark(
+    seen: &mut Vec<bool>,
+    trail: &Trail,
+    arena: &Arena,
+    number: usize,
+    level: u32,
+) -> u32
     requires known { Contains (indexes arena.now) number }
     requires vars { trail.now.vars ≡ arena.now.vars }
     requires size { length seen.old.items ≡ trail.now.vars }

@@ -12,6 +12,7 @@ ghost use Rattle.sat_watch.specs.Watches.{IsReady};
 ghost use Rattle.sat_core.specs.Analysis.{head_after};
 
 use crate::analysis::resolve;
+use crate::shortening::shorten;
 use cnf::{Clause, Lit};
 use sat_arena::Arena;
 use sat_trail::Trail;
@@ -44,6 +45,7 @@ pub(crate) fn learn(
     ensures ready { OnOk result (IsReady arena.new trail.new head.new) }
 {
     let at = resolve(arena, trail, seen, conflict);
+    shorten(alloc, arena, trail, seen, at)?;
     let lits = collect(alloc, trail, seen)?;
     let before = last_marked(trail, seen, at);
     let back = back_level(trail, before);

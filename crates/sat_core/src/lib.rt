@@ -6,6 +6,7 @@ mod analysis;
 mod laws;
 mod learning;
 mod restarts;
+mod shortening;
 mod solver;
 mod verdict;
 

@@ -1,4 +1,4 @@
-use Rattle.std.proofs.Common.{◌≡◌, ℕ, ◌+◌, ◌-◌, ◌<◌, ◌≤◌, ◌||◌, Bool, false, cond, eqb, IsTrue, List, [], length, take, set, get_or, Option, Some, None, refl, sym, ap, subst, ◌∙◌, inl, inr, arith}
+use Rattle.std.proofs.Common.{◌≡◌, ℕ, ◌+◌, ◌-◌, ◌<◌, ◌≤◌, ◌||◌, Bool, false, cond, eqb, IsTrue, List, length, take, set, get_or, Option, Some, None, refl, sym, ap, subst, ◌∙◌, inl, inr, arith}
 use Rattle.std.specs.List.{list_any}
 use Rattle.std.proofs.lemmas.Bool.{eq-eqb, cond-true, ltb-true, or_left}
 use Rattle.std.proofs.lemmas.List.{length-set, get_or-set_same, get_or-set_other, take_all, get_or_default}
@@ -12,11 +12,11 @@ use Rattle.sat_trail.specs.Trail.{Assignment, lits, entry_of, level_in, reason_i
 use Rattle.sat_trail.proofs.ForCallers.{in_some, entry_of-at, length-le_vars, below-get, lit-at}
 use Rattle.sat_core.specs.Analysis.{is_marked, marked, marked_at, has_variable, MarkedWithin}
 use Rattle.sat_watch.specs.Numbered.{Numbered, numbered, clauses_of, under}
-use Rattle.sat_watch.specs.Soundness.{Implies, IsSound}
+use Rattle.sat_watch.specs.Soundness.{IsSound}
 use Rattle.sat_core.proofs.ConflictLemmas.{resolved, top-level, conflict-level, marked_at-clear, marked_at-some}
 use Rattle.sat_core.proofs.MarkLemmas.{marked_at-unset, marked_at-le, some-marked, is_of}
 use Rattle.sat_watch.proofs.ForCallers.{known-from}
-use Rattle.sat_core.proofs.ResolveLemmas.{reasoned-get, forced-conflict, forced-mark, within-false, within-pass, within-mark, place-within, variable-has}
+use Rattle.sat_core.proofs.ResolveLemmas.{reason-at, forced-conflict, forced-mark, within-false, within-pass, within-mark, place-within, variable-has}
 use Rattle.sat_core.proofs.analysis.resolve.Goals as goal
 
 -- the place of a mark is at least 1
@@ -26,12 +26,6 @@ some-place t seen k h w some =
     let d : Entry = record { lit = record { 0 = 0 }; level = 0; reason = None } in
     let b = place-within seen t.entries k j.0 d h.distinct w j.1 (j.2 d).0 in
     omega arith
-
--- the reason of the entry at a place
-reason-at : (ns : List Numbered) (t : Assignment) (k at : ℕ) (d : Entry) → IsTrail t → IsSound ns t → k < length t.entries → Some at ≡ reason_in (entry_of t.entries (variable (get_or t.entries k d).lit)) → Implies ns (lits (take k t.entries)) (get_or t.entries k d).lit at
-reason-at ns t k at d h s b e =
-    let there = entry_of-at t.entries (variable (get_or t.entries k d).lit) k d h.distinct b refl in
-    reasoned-get ns [] t.entries k at d s.reasons b (sym (e ∙ ap reason_in there))
 
 -- the marks after a clause in the place of the literal that it implied
 marks-unset : (seen with after : List Bool) (clause : List Lit) (u : ℕ) → ((v : ℕ) → get_or with v false ≡ (get_or seen v false || has_variable clause v)) → after ≡ set with u false → (v : ℕ) → (v ≡ u → ⊥) → get_or after v false ≡ (get_or seen v false || has_variable clause v)
@@ -95,6 +89,7 @@ down-init c =
     let some = marked_at-some seen t.level t.entries j.0 d j.1 on at.1 in
     let whole : take c.len-k.result t.entries ≡ t.entries = take_all c.len-k.result t.entries (omega (arith, c.len-k.ensures.value)) in
     record {
+      same = refl;
       size = c.mark-open.ensures.size;
       place = omega (arith, c.len-k.ensures.value);
       within = λ v on. let P : List Entry → Type 0 = λ es. IsTrue (list_any (λ (e : Entry). eqb (variable e.lit) v) es) in subst P (sym whole) (within-false t.entries conflict.clause v conflict.all_false (sym (m v) ∙ on));
@@ -120,8 +115,8 @@ mark-open-requires-in-Some-clause-known c =
     let k = c.down.k - 1 in
     let d : Entry = record { lit = record { 0 = 0 }; level = 0; reason = None } in
     let p = some-place t c.down.seen.items c.down.k h i.within (omega (arith, i.count, i.some)) in
-    let v : c.variable-var.result ≡ variable (get_or t.entries k d).lit = c.variable-var.ensures ∙ ap variable (sym (lit-at t.entries k c.entry.result d c.entry.ensures.literal)) in
-    let e : Some c.in-Some.number ≡ reason_in (entry_of t.entries (variable (get_or t.entries k d).lit)) = c.in-Some.ensures ∙ ap (λ v. reason_in (entry_of t.entries v)) v in
+    let v : c.variable-var.result ≡ variable (get_or t.entries k d).lit = c.variable-var.ensures ∙ ap variable (sym (lit-at t.entries k c.entry.result d (rw c.down.invariant.same at c.entry.ensures.literal))) in
+    let e : Some c.in-Some.number ≡ reason_in (entry_of t.entries (variable (get_or t.entries k d).lit)) = (rw c.down.invariant.same at c.in-Some.ensures) ∙ ap (λ v. reason_in (entry_of t.entries v)) v in
     let r = reason-at (numbered c.args.arena.now) t k c.in-Some.number d h c.requires.sound (omega (arith, i.place)) e in
     (known-from c.args.arena.now c.in-Some.number r.clause r.is_under).0
 
@@ -132,7 +127,7 @@ overflow_add-open c =
     let few = length-le_vars c.args.trail.now.vars c.args.trail.now.entries t.in_range t.distinct in
     let bound = marked_at-le c.mark-open-in-Some.new.seen.items c.level-level.result c.args.trail.now.entries in
     let e = ap (λ n. marked_at c.down.seen.items n c.args.trail.now.entries) c.level-level.ensures.value in
-    omega (arith, c.mark-open-in-Some.ensures.count, i.count, t.small)
+    omega (arith, (rw c.down.invariant.same at c.mark-open-in-Some.ensures.count), i.count, t.small)
 
 pub down-preserved-then-open-gt1 : goal.down-preserved-then-open-gt1
 down-preserved-then-open-gt1 c =
@@ -144,21 +139,22 @@ down-preserved-then-open-gt1 c =
     let with = c.mark-open-in-Some.new.seen.items in
     let d : Entry = record { lit = record { 0 = 0 }; level = 0; reason = None } in
     let p = some-place t seen c.down.k h i.within (omega (arith, i.count, i.some)) in
-    let v : c.variable-var.result ≡ variable (get_or t.entries k d).lit = c.variable-var.ensures ∙ ap variable (sym (lit-at t.entries k c.entry.result d c.entry.ensures.literal)) in
-    let e : Some c.in-Some.number ≡ reason_in (entry_of t.entries (variable (get_or t.entries k d).lit)) = c.in-Some.ensures ∙ ap (λ v. reason_in (entry_of t.entries v)) v in
+    let v : c.variable-var.result ≡ variable (get_or t.entries k d).lit = c.variable-var.ensures ∙ ap variable (sym (lit-at t.entries k c.entry.result d (rw c.down.invariant.same at c.entry.ensures.literal))) in
+    let e : Some c.in-Some.number ≡ reason_in (entry_of t.entries (variable (get_or t.entries k d).lit)) = (rw c.down.invariant.same at c.in-Some.ensures) ∙ ap (λ v. reason_in (entry_of t.entries v)) v in
     let below : k < length t.entries = omega (arith, i.place) in
     let in_marks : c.variable-var.result < length seen = let q = ltb-true _ t.vars (below-get t.vars t.entries k d h.in_range below) in omega (arith, i.size) in
     let on : IsTrue (is_marked seen (get_or t.entries k d).lit) = ap (λ v. get_or seen v false) (sym v) ∙ (get_or_default seen c.variable-var.result false _ in_marks ∙ (sym c.index.ensures ∙ c.if-index.true)) in
     let next : c.down.k ≡ k + 1 = omega arith in
     let P : ℕ → Type 0 = λ n. MarkedWithin seen t.entries n in
-    let counts : marked_at seen t.level t.entries + c.mark-open-in-Some.result ≡ marked_at with t.level t.entries = let Q : ℕ → Type 0 = λ n. marked_at seen n t.entries + c.mark-open-in-Some.result ≡ marked_at with n t.entries in subst Q c.level-level.ensures.value c.mark-open-in-Some.ensures.count in
+    let counts : marked_at seen t.level t.entries + c.mark-open-in-Some.result ≡ marked_at with t.level t.entries = let Q : ℕ → Type 0 = λ n. marked_at seen n t.entries + c.mark-open-in-Some.result ≡ marked_at with n t.entries in subst Q c.level-level.ensures.value (rw c.down.invariant.same at c.mark-open-in-Some.ensures.count) in
     let r = reason-at (numbered c.args.arena.now) t k c.in-Some.number d h c.requires.sound below e in
     let same_clause = (known-from c.args.arena.now c.in-Some.number r.clause r.is_under).1 in
-    let s = stepped (numbered c.args.arena.now) t seen with (clause_at c.args.arena.now c.in-Some.number).lits k c.in-Some.number c.down.open c.mark-open-in-Some.result d h c.requires.sound c.mark-open-in-Some.ensures.size below e (r.is_under ∙ ap Some (sym same_clause)) on (subst P next i.within) i.count c.if-open-gt1.true i.forced c.mark-open-in-Some.ensures.marks counts in
+    let s = stepped (numbered c.args.arena.now) t seen with (clause_at c.args.arena.now c.in-Some.number).lits k c.in-Some.number c.down.open c.mark-open-in-Some.result d h c.requires.sound (rw c.down.invariant.same at c.mark-open-in-Some.ensures.size) below e (r.is_under ∙ ap Some (sym same_clause)) on (subst P next i.within) i.count c.if-open-gt1.true i.forced c.mark-open-in-Some.ensures.marks counts in
     let S : ℕ → Type 0 = λ u. Stepped (clauses_of (numbered c.args.arena.now)) t (set with u false) k (c.down.open + c.mark-open-in-Some.result - 1) in
     let s' : Stepped (clauses_of (numbered c.args.arena.now)) t (set with c.variable-var.result false) k (c.down.open + c.mark-open-in-Some.result - 1) = subst S (sym v) s in
     record {
-      size = length-set with c.variable-var.result false ∙ c.mark-open-in-Some.ensures.size;
+      same = c.bump.ensures ∙ i.same;
+      size = length-set with c.variable-var.result false ∙ (rw c.down.invariant.same at c.mark-open-in-Some.ensures.size);
       place = omega arith;
       within = s'.within;
       count = s'.counted;
@@ -178,7 +174,7 @@ returns-in_default-clause-resolved c =
     let below : k < length t.entries = omega (arith, i.place) in
     let P : ℕ → Type 0 = λ n. MarkedWithin seen t.entries n in
     let on : (d : Entry) → IsTrue (is_marked seen (get_or t.entries k d).lit) = λ d.
-    let v : c.variable-var.result ≡ variable (get_or t.entries k d).lit = c.variable-var.ensures ∙ ap variable (sym (lit-at t.entries k c.entry.result d c.entry.ensures.literal)) in
+    let v : c.variable-var.result ≡ variable (get_or t.entries k d).lit = c.variable-var.ensures ∙ ap variable (sym (lit-at t.entries k c.entry.result d (rw c.down.invariant.same at c.entry.ensures.literal))) in
     let in_marks : c.variable-var.result < length seen = let q = ltb-true _ t.vars (below-get t.vars t.entries k d h.in_range below) in omega (arith, i.size) in
     ap (λ v. get_or seen v false) (sym v) ∙ (get_or_default seen c.variable-var.result false _ in_marks ∙ (sym c.index.ensures ∙ c.if-index.true)) in
     resolved (clauses_of (numbered c.args.arena.now)) t seen k h i.size below i.forced on (subst P next i.within) (omega (arith, i.count, i.some)) (inl (omega (arith, i.count, c.if-open-gt1.false)))
@@ -195,13 +191,13 @@ returns-in_default-2-clause-resolved c =
     let below : k < length t.entries = omega (arith, i.place) in
     let P : ℕ → Type 0 = λ n. MarkedWithin seen t.entries n in
     let on : (d : Entry) → IsTrue (is_marked seen (get_or t.entries k d).lit) = λ d.
-    let v : c.variable-var.result ≡ variable (get_or t.entries k d).lit = c.variable-var.ensures ∙ ap variable (sym (lit-at t.entries k c.entry.result d c.entry.ensures.literal)) in
+    let v : c.variable-var.result ≡ variable (get_or t.entries k d).lit = c.variable-var.ensures ∙ ap variable (sym (lit-at t.entries k c.entry.result d (rw c.down.invariant.same at c.entry.ensures.literal))) in
     let in_marks : c.variable-var.result < length seen = let q = ltb-true _ t.vars (below-get t.vars t.entries k d h.in_range below) in omega (arith, i.size) in
     ap (λ v. get_or seen v false) (sym v) ∙ (get_or_default seen c.variable-var.result false _ in_marks ∙ (sym c.index.ensures ∙ c.if-index.true)) in
     let decided : (d : Entry) → (get_or t.entries k d).reason ≡ None = λ d.
-    let v : c.variable-var.result ≡ variable (get_or t.entries k d).lit = c.variable-var.ensures ∙ ap variable (sym (lit-at t.entries k c.entry.result d c.entry.ensures.literal)) in
+    let v : c.variable-var.result ≡ variable (get_or t.entries k d).lit = c.variable-var.ensures ∙ ap variable (sym (lit-at t.entries k c.entry.result d (rw c.down.invariant.same at c.entry.ensures.literal))) in
     let there = entry_of-at t.entries (variable (get_or t.entries k d).lit) k d h.distinct below refl in
-    sym (sym c.in_default.is ∙ (c.reason.ensures ∙ (ap (λ v. reason_in (entry_of t.entries v)) v ∙ ap reason_in there))) in
+    sym (sym c.in_default.is ∙ ((rw c.down.invariant.same at c.reason.ensures) ∙ (ap (λ v. reason_in (entry_of t.entries v)) v ∙ ap reason_in there))) in
     resolved (clauses_of (numbered c.args.arena.now)) t seen k h i.size below i.forced on (subst P next i.within) (omega (arith, i.count, i.some)) (inr decided)
 
 pub down-smaller : goal.down-smaller
@@ -219,13 +215,14 @@ down-preserved c =
     let seen = c.down.seen.items in
     let d : Entry = record { lit = record { 0 = 0 }; level = 0; reason = None } in
     let p = some-place t seen c.down.k h i.within (omega (arith, i.count, i.some)) in
-    let v : c.variable-var.result ≡ variable (get_or t.entries k d).lit = c.variable-var.ensures ∙ ap variable (sym (lit-at t.entries k c.entry.result d c.entry.ensures.literal)) in
+    let v : c.variable-var.result ≡ variable (get_or t.entries k d).lit = c.variable-var.ensures ∙ ap variable (sym (lit-at t.entries k c.entry.result d (rw c.down.invariant.same at c.entry.ensures.literal))) in
     let below : k < length t.entries = omega (arith, i.place) in
     let in_marks : c.variable-var.result < length seen = let q = ltb-true _ t.vars (below-get t.vars t.entries k d h.in_range below) in omega (arith, i.size) in
     let off : get_or seen (variable (get_or t.entries k d).lit) false ≡ false = ap (λ v. get_or seen v false) (sym v) ∙ (get_or_default seen c.variable-var.result false _ in_marks ∙ (sym c.index.ensures ∙ c.if-index.false)) in
     let next : c.down.k ≡ k + 1 = omega arith in
     let P : ℕ → Type 0 = λ n. MarkedWithin seen t.entries n in
     record {
+      same = i.same;
       size = i.size;
       place = omega (arith, i.place);
       within = within-pass seen t.entries k d below off (subst P next i.within);

@@ -7,12 +7,13 @@ use Rattle.sat_core.proofs.analysis.resolve.Given as goal
 
 abbrev pub invariant-down : goal.invariant-down
 invariant-down l = record {
-  size : length l.seen.items ≡ l.trail.vars;
-  place : l.k ≤ length l.trail.entries;
-  within : MarkedWithin l.seen.items l.trail.entries l.k;
-  count : l.open ≡ marked_at l.seen.items l.trail.level l.trail.entries;
+  same : l.trail ≡ l.fn.trail;
+  size : length l.seen.items ≡ l.fn.trail.vars;
+  place : l.k ≤ length l.fn.trail.entries;
+  within : MarkedWithin l.seen.items l.fn.trail.entries l.k;
+  count : l.open ≡ marked_at l.seen.items l.fn.trail.level l.fn.trail.entries;
   some : 0 < l.open;
-  forced : IsForced (clauses_of (numbered l.arena)) (marked l.seen.items (lits l.trail.entries));
+  forced : IsForced (clauses_of (numbered l.arena)) (marked l.seen.items (lits l.fn.trail.entries));
 }
 
 abbrev pub decreases-down : goal.decreases-down
