@@ -44,6 +44,7 @@ impl Arena {
         ensures arena { IfOk result (λ a. IsArena a) }
     {
         let mut arena = Arena::empty(alloc, f.vars())?;
+        arena.reserve(f.len())?;
         for k in 0..f.len() {
             arena.attach(f.clause(k))?;
         }
@@ -65,6 +66,16 @@ impl Arena {
             firsts,
             starts: Vec::new(alloc),
         })
+    }
+
+    /// Makes room for so many short clauses, so that the buffers of most formulas do not grow while these
+    /// are read. `AllocError` where memory runs out.
+    fn reserve(&mut self, clauses: usize) -> Result<(), AllocError>
+        ensures { self.new ≡ self.old }
+    {
+        self.starts.reserve(clauses)?;
+        self.words.reserve(clauses.saturating_mul(LITS + 3))?;
+        Ok(())
     }
 
     /// Adds a clause behind the others, and says under which index. Where it has two different
