@@ -5,6 +5,7 @@
 mod analysis;
 mod laws;
 mod learning;
+mod phases;
 mod restarts;
 mod shortening;
 mod solver;

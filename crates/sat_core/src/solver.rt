@@ -7,6 +7,7 @@ ghost use Rattle.sat_watch.specs.Nonempty.{are_nonempty};
 ghost use Rattle.sat_core.specs.Verdict.{IsAnswer};
 
 use crate::learning::learn;
+use crate::phases::{as_before, remember};
 use crate::restarts::Restarts;
 use crate::verdict::Verdict;
 use cnf::{Clause, Formula, Ledger, Lit, NO_LIMIT};
@@ -37,6 +38,7 @@ fn search(alloc: Global, f: &Formula, budget: u32) -> Result<Verdict, AllocError
     let mut arena = Arena::new(alloc, f)?;
     let mut trail = Trail::new(alloc, f.vars())?;
     let mut seen = vec![in alloc; false; f.vars() as usize]?;
+    let mut phases = vec![in alloc; false; f.vars() as usize]?;
     let mut ledger = Vec::new(alloc);
     let mut restarts = Restarts::new();
     let mut head = 0;
@@ -46,7 +48,7 @@ fn search(alloc: Global, f: &Formula, budget: u32) -> Result<Verdict, AllocError
         match found {
             None => match trail.next_free() {
                 None => return Ok(Verdict::Model(values(alloc, &trail, f.vars())?)),
-                Some(var) => trail.decide(Lit(2 * var).negation()),
+                Some(var) => trail.decide(as_before(&phases, var)),
             },
             Some(conflict) => {
                 if level == 0 {
@@ -58,6 +60,7 @@ fn search(alloc: Global, f: &Formula, budget: u32) -> Result<Verdict, AllocError
                 if is_used_up(budget, ledger.len()) {
                     return Ok(Verdict::Spent(Ledger { clauses: ledger }));
                 }
+                remember(&mut phases, &trail);
                 let learned = learn(
                     alloc, &mut arena, &mut trail, &mut head, &mut seen, conflict,
                 )?;

@@ -17,11 +17,11 @@ use Rattle.sat_watch.specs.Numbered.{numbered, clauses_of}
 use Rattle.sat_watch.specs.Soundness.{IsSound}
 use Rattle.sat_core.specs.Search.{IsSearch}
 use Rattle.sat_core.specs.Verdict.{Refutes, UsesUp}
-use Rattle.sat_core.proofs.CountLemmas.{short}
+use Rattle.sat_core.proofs.CountLemmas.{short, lit-cases}
 use Rattle.sat_core.proofs.LedgerLemmas.{no_values-from_empty, logged-in_range}
 use Rattle.sat_watch.proofs.ForCallers.{ready-start, ready-decided, longer-grows, open-negation, sound-decide}
 use Rattle.sat_watch.proofs.ForCallers.{clauses_of-numbered}
-use Rattle.sat_core.proofs.SolveLemmas.{model, positive-number, refutes, kept, shorter}
+use Rattle.sat_core.proofs.SolveLemmas.{model, refutes, kept, shorter}
 use Rattle.sat_core.proofs.solver.search.Goals as goal
 
 -- before anything is known
@@ -56,13 +56,17 @@ propagate-found-requires-clause-nonempty c =
     subst P (sym s.same_clauses) (list_all-append-from is_nonempty c.args.f.now.clauses c.search.ledger.items s.nonempty_formula s.nonempty_ledger)
 
 -- the literal that is decided is open
-open_decision : (trail : List Lit) (v : ℕ) (l : Lit) → value_in trail (positive v) ≡ None → l ≡ negation (record { 0 = 2 * v }) → value_in trail l ≡ None
-open_decision trail v l e n =
-    let P : Lit → Type 0 = λ x. value_in trail x ≡ None in subst P (ap negation (positive-number v) ∙ sym n) (open-negation trail (positive v) e)
+open_decision : (trail : List Lit) (v : ℕ) (l : Lit) → value_in trail (positive v) ≡ None → variable l ≡ v → value_in trail l ≡ None
+open_decision trail v l e same_variable =
+    let P : Lit → Type 0 = λ x. value_in trail x ≡ None in
+    elim (lit-cases l) [
+      | inl p ↦ subst P (sym (p ∙ ap positive same_variable)) e
+      | inr p ↦ subst P (sym (p ∙ ap (λ v. negation (positive v)) same_variable)) (open-negation trail (positive v) e)
+    ]
 
 pub decide-requires-clause-open : goal.decide-requires-clause-open
 decide-requires-clause-open c =
-    rw c.in-Some-next_free.ensures.same (open_decision (lits c.propagate-found.new.trail.entries) c.in-Some-next_free.var c.negation.result c.in-Some-next_free.ensures.found.1 c.negation.ensures.value)
+    rw c.in-Some-next_free.ensures.same (open_decision (lits c.propagate-found.new.trail.entries) c.in-Some-next_free.var c.as_before.result c.in-Some-next_free.ensures.found.1 c.as_before.ensures)
 
 -- one more clause within the budget
 one_more : (budget n m : ℕ) → m ≡ n + 1 → ((budget ≢ no_limit) × (budget ≤ n) → ⊥) → IsWithin budget m
@@ -78,6 +82,7 @@ search-init c =
     rw c.new-ledger.ensures.items (record {
       state = started c.args.f.now c.in_ok-arena.arena c.in_ok-trail.trail (clauses_of-numbered c.in_ok-arena.arena ∙ c.in_ok-arena.ensures.clauses) c.in_ok-arena.ensures.vars t c.requires;
       seen = search rules;
+      phases = search rules;
       within = inr (omega arith);
       ready = ready-start c.args.f.now.vars c.in_ok-arena.arena c.in_ok-trail.trail c.in_ok-arena.ensures.arena t (omega (arith, c.vars.ensures.value, c.vars.ensures.small));
     })
@@ -104,10 +109,10 @@ search-smaller-in-Some-next_free c =
     let s = c.search.invariant.state in
     let t = c.propagate-found.new.trail in
     let p = c.in-None.ensures in
-    let x = c.negation.result in
+    let x = c.as_before.result in
     let e : Entry = record { lit = x; level = t.level + 1; reason = None } in
-    let below : IsTrue (is_below t.vars x) = lt-ltb (variable x) t.vars (let b = c.in-Some-next_free.ensures.found.0 in omega (arith, s.trail_vars, p.vars, c.negation.ensures.same_variable)) in
-    let room = room-from_open t.vars t.entries e c.level-level.ensures.trail.in_range c.level-level.ensures.trail.distinct below (open_decision (lits t.entries) c.in-Some-next_free.var x c.in-Some-next_free.ensures.found.1 c.negation.ensures.value) in
+    let below : IsTrue (is_below t.vars x) = lt-ltb (variable x) t.vars (let b = c.in-Some-next_free.ensures.found.0 in omega (arith, s.trail_vars, p.vars, c.as_before.ensures)) in
+    let room = room-from_open t.vars t.entries e c.level-level.ensures.trail.in_range c.level-level.ensures.trail.distinct below (open_decision (lits t.entries) c.in-Some-next_free.var x c.in-Some-next_free.ensures.found.1 c.as_before.ensures) in
     let longer = length_push t.entries e in
     let decided = rw c.in-Some-next_free.ensures.same at c.decide.ensures in
     let entries : length c.decide.new.self.entries ≡ length t.entries + 1 = ap (λ (t : Assignment). length t.entries) decided ∙ longer in
@@ -120,15 +125,16 @@ search-preserved-in-Some-next_free c =
     let s = c.search.invariant.state in
     let t = c.propagate-found.new.trail in
     let p = c.in-None.ensures in
-    let x = c.negation.result in
-    let below : IsTrue (is_below t.vars x) = lt-ltb (variable x) t.vars (let b = c.in-Some-next_free.ensures.found.0 in omega (arith, s.trail_vars, p.vars, c.negation.ensures.same_variable)) in
+    let x = c.as_before.result in
+    let below : IsTrue (is_below t.vars x) = lt-ltb (variable x) t.vars (let b = c.in-Some-next_free.ensures.found.0 in omega (arith, s.trail_vars, p.vars, c.as_before.ensures)) in
     let a = c.propagate-found.new.arena in
     let sound = sound-decide (numbered a) t x c.level-level.ensures.trail p.sound p.found in
     rw (c.decide.ensures, c.in-Some-next_free.ensures.same) (record {
       state = propagated c.args.f.now c.search.ledger.items c.search.arena a c.search.trail (record t { level = t.level + 1; entries = t.entries ++ record { lit = x; level = t.level + 1; reason = None } ∷ [] }) s p.same p.arena_vars p.vars sound;
       seen = c.search.invariant.seen;
+      phases = c.search.invariant.phases;
       within = c.search.invariant.within;
-      ready = ready-decided a t x c.propagate-found.new.head p.ready p.looked p.short below (open_decision (lits t.entries) c.in-Some-next_free.var x c.in-Some-next_free.ensures.found.1 c.negation.ensures.value);
+      ready = ready-decided a t x c.propagate-found.new.head p.ready p.looked p.short below (open_decision (lits t.entries) c.in-Some-next_free.var x c.in-Some-next_free.ensures.found.1 c.as_before.ensures);
     })
 
 pub returns-then-level-eq0 : goal.returns-then-level-eq0
@@ -173,6 +179,7 @@ search-preserved c =
     record {
       state = subst P (sym pushed) after;
       seen = l.seen ∙ (p.vars ∙ s.trail_vars);
+      phases = c.remember.ensures ∙ (p.vars ∙ s.trail_vars);
       within = one_more c.args.budget (length c.search.ledger.items) (length c.push-in-Some.new.self.items) longer used;
       ready = again.ready c.learn.new.arena l.ready;
     }

@@ -8,6 +8,7 @@ abbrev pub invariant-search : goal.invariant-search
 invariant-search l = record {
   state : IsSearch l.f l.ledger.items l.arena l.trail;
   seen : length l.seen.items ≡ l.f.vars;
+  phases : length l.phases.items ≡ l.f.vars;
   within : IsWithin l.budget (length l.ledger.items);
   ready : IsReady l.arena l.trail l.head;
 }
