@@ -1,25 +1,14 @@
 -- Answers that are held.
-use Rattle.std.proofs.Common.{◌≡◌, ℕ, zero, suc, true, List, [], ◌∷◌, map, Some, None, refl, sym, ap, ◌∙◌, subst}
-use Rattle.std.specs.Prelude.{slice_get}
-use Rattle.std.specs.List.{AllByRecursion, Contains}
+use Rattle.std.proofs.Common.{◌≡◌, true, List, map, refl, sym, ap, ◌∙◌, subst}
+use Rattle.std.specs.List.{Contains}
 use Rattle.std.proofs.lemmas.List.Elements.{All-contains, Contains-append_left}
-use Rattle.cascade_laws.proofs.ForCallers.{some-same}
-use Rattle.css_model.specs.Cascade.Order.{Pair}
-use Rattle.css_model.specs.declared.sheet.Item.{Item}
-use Rattle.css_model.specs.declared.sheet.Item.TheVariants.{Rule}
-use Rattle.css_model.specs.declared.sheet.SelItem.{SelItem}
 use Rattle.css_model.specs.Documents.SelectorParts.{SelectorParts}
-use Rattle.css_model.specs.Selectors.Profile.{IsInProfile}
-use Rattle.css_model.specs.Sheets.RuleParts.{RuleParts}
-use Rattle.obstacles.specs.Blocking.{IsAt}
-use Rattle.obstacles.specs.declared.obstacle.PairPlace.{PairPlace}
 use Rattle.order_laws.proofs.ForCallers.{map_has, map_from}
 use Rattle.overlap.specs.declared.answer.Answer.{Answer}
 use Rattle.overlap.specs.declared.answer.Answer.TheVariants.{Apart, Meet, Outside, Spent}
 use Rattle.overlap.specs.Laws.{ApartSelectorsDoNotMeet}
 use Rattle.overlap.specs.PairsParts.{Answered, PairsParts}
 use Rattle.overlap.specs.Remembered.{IsAnswered, IsHeld, IsOfOther, IsUnknown, IsTrueList, Asks}
-use Rattle.print_laws.specs.Profile.{HasSelectorsInProfile}
 use Rattle.sheet_order.specs.Allowing.{Stays}
 use Rattle.sheet_order.specs.Laws.{is_apart, answer_seen}
 use Rattle.step_laws.specs.Free as steps
@@ -68,22 +57,3 @@ true_answers law pairs are_true x y apart =
         subst (λ (s : SelectorParts). IsAnswered pairs.answers s y Apart) left
         (subst (λ (t : SelectorParts). IsAnswered pairs.answers e.left t Apart) right
         (subst (λ (w : Answer). IsAnswered pairs.answers e.left e.right w) answer inside))
-
-pub held_apart : (answers : List Answered) (x y : SelectorParts) (answer : Answer) → IsAnswered answers x y answer → is_apart answer ≡ true → IsAnswered answers x y Apart
-held_apart answers x y answer h e = subst (λ (a : Answer). IsAnswered answers x y a) (apart_is answer e) h
-
--- ---- Selectors in the profile
-
-selector_in : (selectors : List SelItem) (i : ℕ) (s : SelItem) → AllByRecursion (λ x. IsInProfile x.selector) selectors → slice_get selectors i ≡ Some s → IsInProfile s.selector
-selector_in [] i s all at = absurd (let e : None ≡ Some s = at in cc)
-selector_in (x ∷ selectors) zero s all at = subst (λ (y : SelItem). IsInProfile y.selector) (some-same at) all.0
-selector_in (x ∷ selectors) (suc i) s all at = selector_in selectors i s all.1 at
-
-rule_in : (items : List Item) (n : ℕ) (r : RuleParts) → AllByRecursion HasSelectorsInProfile items → slice_get items n ≡ Some (Rule r) → HasSelectorsInProfile (Rule r)
-rule_in [] n r all at = absurd (let e : None ≡ Some (Rule r) = at in cc)
-rule_in (item ∷ items) zero r all at = subst HasSelectorsInProfile (some-same at) all.0
-rule_in (item ∷ items) (suc n) r all at = rule_in items n r all.1 at
-
-pub in_profile : (items : List Item) (place : PairPlace) (p : Pair) → AllByRecursion HasSelectorsInProfile items → IsAt items place p → IsInProfile p.selector
-in_profile items place p all is =
-    subst (λ (q : Pair). IsInProfile q.selector) (sym is.is) (selector_in is.rule.selectors place.sel is.selector (rule_in items place.item is.rule all is.rule_at) is.selector_at)
