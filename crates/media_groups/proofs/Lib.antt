@@ -1,4 +1,5 @@
 mod Counts
+mod Lengths
 mod Parts
 mod Places
 mod Sorting

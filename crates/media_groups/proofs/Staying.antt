@@ -130,7 +130,7 @@ of_kept source n m (KeptBlock piece ∷ items) =
 
 -- ---- what follows keeps the kept items
 
-follow_kept : (new old : List Item) → Follows new old → kept_items new ≡ kept_items old
+pub follow_kept : (new old : List Item) → Follows new old → kept_items new ≡ kept_items old
 follow_kept [] [] h = refl
 follow_kept [] (Rule r ∷ old) h = follow_kept [] old h
 follow_kept [] (KeptRule k ∷ old) h = absurd h

@@ -1,15 +1,16 @@
 -- What holds of opened blocks.
-use Rattle.std.specs.Prelude.{ℕ, ◌≡◌, nat_eq, false, List, map, Ok}
-use Rattle.std.specs.List.{AllByRecursion, AllZip, starts_with}
+use Rattle.std.specs.Prelude.{ℕ, ◌≡◌, ◌≤◌, nat_eq, false, List, map, length, Ok}
+use Rattle.std.specs.List.{AllByRecursion, AllZip, flat_map, starts_with}
 use Rattle.css_model.specs.declared.sheet.Item.{Item}
 use Rattle.css_model.specs.Sheets.ComesFrom.{Follows}
+use Rattle.css_model.specs.Sheets.Printed.{printed, printed_item}
 use Rattle.css_model.specs.Sheets.Sheet.{sheet_of}
 use Rattle.css_model.specs.Sheets.SheetParts.{SheetParts}
 use Rattle.css_model.specs.Text.Source.{IsWithin, text_at}
 use Rattle.css_model.specs.Text.Tokens.{byte_order_mark}
 use Rattle.media_groups.specs.declared.media.Media.{Media}
 use Rattle.media_groups.specs.Opened.{opened_of}
-use Rattle.media_groups.specs.Printed.{IsSoundBody, printed_with}
+use Rattle.media_groups.specs.Printed.{IsSoundBody, printed_with, texts_with}
 
 -- The body of an opened block stands in the source, and is read as the block's sheet; it does not begin with a byte order mark.
 pub record IsBlockOf (source : List ℕ) (m : Media) : Type 0 where
@@ -37,3 +38,14 @@ BlocksStay = (source : List ℕ) (old new : List Item) → Follows new old → m
 abbrev pub PrintedByOldBlocks : Type 0
 PrintedByOldBlocks = (source : List ℕ) (old new : List Item) (bodies : List SheetParts) → Follows new old →
     printed_with source (opened_of old source) bodies new ≡ printed_with source (opened_of new source) bodies new
+
+-- a body that is no longer than the block's own
+abbrev pub IsNoLongerBody : List ℕ → Media → SheetParts → Type 0
+IsNoLongerBody source m body = length (printed (text_at source m.body) body.items) ≤ length (printed (text_at source m.body) m.sheet.items)
+
+-- Where the items become no longer and so does each opened body, their text with these bodies becomes no longer (without a space
+-- before a byte order mark).
+abbrev pub MergedIsNoLonger : Type 0
+MergedIsNoLonger = (source : List ℕ) (old new : List Item) (bodies : List SheetParts) → Follows new old →
+    length (flat_map (printed_item source) new) ≤ length (flat_map (printed_item source) old) → AllZip (IsNoLongerBody source) (opened_of old source) bodies →
+    length (texts_with source (opened_of old source) bodies new) ≤ length (texts_with source (opened_of old source) (map (λ m. m.sheet) (opened_of old source)) old)

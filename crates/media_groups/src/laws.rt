@@ -1,6 +1,6 @@
 //! What holds of opened blocks, each law as the contract of a function that does nothing.
 
-ghost use Rattle.media_groups.specs.Laws.{BlocksStay, OpenedBlocksAreSheets, OpenedBodiesAreSound, PrintedByOldBlocks};
+ghost use Rattle.media_groups.specs.Laws.{BlocksStay, MergedIsNoLonger, OpenedBlocksAreSheets, OpenedBodiesAreSound, PrintedByOldBlocks};
 
 use css_tokens::tokens_restart;
 use sheet_laws::read_is_sound;
@@ -19,4 +19,9 @@ pub fn opened_blocks_are_sheets()
 pub fn blocks_stay()
     ensures blocks { BlocksStay }
     ensures printed { PrintedByOldBlocks }
+{}
+
+/// Where the items of a sheet become no longer and so does each opened body, their text with these bodies becomes no longer.
+pub fn merged_is_no_longer()
+    ensures { MergedIsNoLonger }
 {}

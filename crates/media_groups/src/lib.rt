@@ -10,7 +10,7 @@ mod opening;
 mod printing;
 mod reading;
 
-pub use laws::{blocks_stay, opened_blocks_are_sheets};
+pub use laws::{blocks_stay, merged_is_no_longer, opened_blocks_are_sheets};
 pub use media::Media;
 pub use opening::open_media;
 pub use printing::print_opened;
