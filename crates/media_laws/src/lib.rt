@@ -2,6 +2,8 @@
 //! the proofs of these.
 #![tactic(auto)]
 
+mod bodies;
 mod scenes;
 
+pub use bodies::bodies_read_back;
 pub use scenes::{bodies_count_by_winners, scenes_give_meanings};
