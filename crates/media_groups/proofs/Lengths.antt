@@ -1,12 +1,10 @@
 -- The text of items with opened blocks, by the rules and by the kept items.
-use Rattle.std.proofs.Common.{◌≡◌, ◌≤◌, ℕ, suc, ◌+◌, Bool, true, false, List, [], ◌∷◌, ◌++◌, length, map, drop, refl, sym, ap, ◌∙◌, arith}
+use Rattle.std.proofs.Common.{◌≡◌, ◌≤◌, ℕ, suc, ◌+◌, Bool, true, false, List, [], ◌∷◌, ◌++◌, length, map, drop, refl, ap, ◌∙◌, arith}
 use Rattle.std.specs.Prelude.{if◌then◌else◌}
 use Rattle.std.specs.List.{AllZip, flat_map}
 use Rattle.std.proofs.lemmas.List.{length-append}
 use Rattle.css_model.specs.declared.sheet.Item.{Item}
 use Rattle.css_model.specs.declared.sheet.Item.TheVariants.{Rule, KeptRule, KeptBlock}
-use Rattle.css_model.specs.declared.sheet.Piece.{Piece}
-use Rattle.css_model.specs.Sheets.ComesFrom.{Follows}
 use Rattle.css_model.specs.Sheets.KeptItems.{kept_items}
 use Rattle.css_model.specs.Sheets.Printed.{printed, printed_item}
 use Rattle.css_model.specs.Sheets.SheetParts.{SheetParts}

@@ -1,16 +1,15 @@
 -- Opened blocks are sheets, and stay where the kept items do.
-use Rattle.std.proofs.Common.{◌≡◌, ◌⊎◌, inl, inr, ℕ, zero, suc, nat_eq, Bool, true, false, List, [], ◌∷◌, ◌++◌, map, drop, Option, Some, None, Result, Ok, Err, refl, sym, ap, ap₂, ◌∙◌, subst}
-use Rattle.std.specs.Prelude.{◌==◌, ◌||◌, ⊤, if◌then◌else◌}
+use Rattle.std.proofs.Common.{◌≡◌, inl, inr, ℕ, zero, suc, nat_eq, Bool, true, false, List, [], ◌∷◌, ◌++◌, map, drop, Option, Some, None, Result, Ok, Err, refl, sym, ap, ap₂, ◌∙◌}
+use Rattle.std.specs.Prelude.{◌||◌, if◌then◌else◌}
 use Rattle.std.specs.Option.{IfSome, option_map}
 use Rattle.std.specs.List.{AllByRecursion, AllZip, cons_option, list_any, starts_with}
 use Rattle.css_model.specs.declared.fault.SheetFault.{SheetFault}
 use Rattle.css_model.specs.declared.sheet.Item.{Item}
 use Rattle.css_model.specs.declared.sheet.Item.TheVariants.{Rule, KeptRule, KeptBlock}
 use Rattle.css_model.specs.declared.sheet.Piece.{Piece}
-use Rattle.css_model.specs.declared.token.Lexeme.{Lexeme}
 use Rattle.css_model.specs.Sheets.ComesFrom.{Follows}
-use Rattle.css_model.specs.Sheets.KeptItems.{is_kept, kept_items}
-use Rattle.css_model.specs.Sheets.Printed.{behind_mark, printed_item}
+use Rattle.css_model.specs.Sheets.KeptItems.{kept_items}
+use Rattle.css_model.specs.Sheets.Printed.{behind_mark}
 use Rattle.css_model.specs.Sheets.Sheet.{sheet_of}
 use Rattle.css_model.specs.Sheets.SheetParts.{SheetParts}
 use Rattle.css_model.specs.Sheets.Spelling.{lexemes_of, stands_in, tokens_in}
@@ -21,7 +20,7 @@ use Rattle.sheet_laws.specs.Reading.{ReadIsSound}
 use Rattle.media_groups.specs.declared.media.Media.{Media}
 use Rattle.media_groups.specs.Laws.{BlocksStay, IsBlockOf, OpenedBlocksAreSheets, OpenedBodiesAreSound, PrintedByOldBlocks, unnumbered}
 use Rattle.media_groups.specs.Opened.{body_of, is_comment_sign, is_import_item, is_media, is_top_item, media_of, opened_from, opened_item, opened_of, opened_rule, plain_items, sheet_of_body, unless_marked}
-use Rattle.media_groups.specs.Printed.{IsSoundBody, begins_at, block_text, blocks_at, next_text, printed_with, texts_with}
+use Rattle.media_groups.specs.Printed.{IsSoundBody, blocks_at, next_text, texts_with}
 use Rattle.media_groups.proofs.Places.{ascending_filter, body_within, placed_filter, sheet_ascends, sheet_placed}
 
 -- ---- a body that is opened is a sheet
