@@ -11,6 +11,7 @@ ghost use Rattle.plan_laws.specs.Cover.{IsSooner};
 ghost use Rattle.plan_state.specs.State.{IsBoard};
 
 use lead_plan::{Lead, Waiting, later_weighs_less};
+use merge_plan::KnownLengths;
 use plan_state::Plan;
 use std::alloc::{AllocError, Global};
 use step_turns::next_lead;
@@ -28,7 +29,7 @@ fn home_of(homes: &[u64], birth: u32) -> u64
 /// The next turn of a lead's owner, if there is one. A lead of one step alone has none.
 fn next_of(
     alloc: Global,
-    source: &[u8],
+    source: &KnownLengths<'_>,
     plan: &Plan,
     lead: &Lead,
 ) -> Result<Option<Lead>, AllocError>
@@ -64,7 +65,7 @@ fn add_next(waiting: &mut Waiting, lead: &Lead, next: Option<Lead>) -> Result<()
 /// Lets the next turn of its owner lead in the place of a lead that leads no more. All else of the plan stays.
 pub(crate) fn follow(
     alloc: Global,
-    source: &[u8],
+    source: &KnownLengths<'_>,
     plan: &mut Plan,
     lead: &Lead,
 ) -> Result<(), AllocError>

@@ -10,7 +10,8 @@ ghost use Rattle.step_laws.specs.Leading.{IsDone, Leads};
 use crate::trying::try_lead;
 use css_model::Sheet;
 use hold_laws::no_lead_is_done;
-use merge_plan::Merged;
+use merge_laws::read_keeps_the_limits;
+use merge_plan::{KnownLengths, Merged};
 use obstacles::Obstacles;
 use plan_state::Plan;
 use std::alloc::{AllocError, Global};
@@ -20,7 +21,7 @@ use step_laws::{Step, each_is_made_of_itself, steps_make_of};
 fn next_step<O: Obstacles>(
     alloc: Global,
     obstacles: &mut O,
-    source: &[u8],
+    source: &KnownLengths<'_>,
     plan: &mut Plan,
 ) -> Result<Option<Step>, AllocError>
     requires { IsState (O.answers obstacles.old) source.now plan.old }
@@ -40,13 +41,11 @@ fn next_step<O: Obstacles>(
     Ok(None)
 }
 
-/// Merges a sheet: takes steps, each the next one by the answers that are held afterwards, until nothing is left to do.
-/// The sheet is one whose parts are those of the source, which is read without a fault, and it keeps the limits of a
-/// sheet. All that was answered stays, and the budget, also after `AllocError`.
-pub fn merge<O: Obstacles>(
+/// The same, of a source whose lengths are known.
+fn merge_by<O: Obstacles>(
     alloc: Global,
     obstacles: &mut O,
-    source: &[u8],
+    source: &KnownLengths<'_>,
     sheet: Sheet,
 ) -> Result<Merged, AllocError>
     requires plannable { IsPlannable source.now sheet.items }
@@ -68,4 +67,25 @@ pub fn merge<O: Obstacles>(
     }
     let sheet = plan.board.into_sheet();
     Ok(Merged { sheet, taken })
+}
+
+/// Merges a sheet: takes steps, each the next one by the answers that are held afterwards, until nothing is left to do.
+/// The sheet is one whose parts are those of the source, which is read without a fault, and it keeps the limits of a
+/// sheet. All that was answered stays, and the budget, also after `AllocError`.
+#[tactic(auto, using(merge_plan::proofs::ForCallers::short_source))]
+pub fn merge<O: Obstacles>(
+    alloc: Global,
+    obstacles: &mut O,
+    source: &[u8],
+    sheet: Sheet,
+) -> Result<Merged, AllocError>
+    requires plannable { IsPlannable source.now sheet.items }
+    ensures asked { AreAmong (O.answers obstacles.old) (O.answers obstacles.new) }
+    ensures same_budget { O.budget obstacles.new ≡ O.budget obstacles.old }
+    ensures leads { IfOk result (λ m. Leads (O.answers obstacles.new) source.now m.taken sheet.items m.sheet.items) }
+    ensures done { IfOk result (λ m. IsDone (O.answers obstacles.new) source.now m.sheet.items) }
+{
+    read_keeps_the_limits();
+    let lengths = KnownLengths::of(alloc, source, &sheet)?;
+    merge_by(alloc, obstacles, &lengths, sheet)
 }

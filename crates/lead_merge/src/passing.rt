@@ -12,6 +12,7 @@ use crate::following::follow;
 use crate::setting_aside::put_aside;
 use lead_laws::{blocked_is_known, none_is_known};
 use lead_plan::Lead;
+use merge_plan::KnownLengths;
 use obstacles::Obstacle;
 use plan_state::Plan;
 use std::alloc::{AllocError, Global};
@@ -29,7 +30,7 @@ pub(crate) fn lead_again(plan: &mut Plan, lead: &Lead) -> Result<(), AllocError>
 /// Passes a lead that was taken out and names no step.
 pub(crate) fn pass_none(
     alloc: Global,
-    source: &[u8],
+    source: &KnownLengths<'_>,
     plan: &mut Plan,
     lead: &Lead,
 ) -> Result<(), AllocError>
@@ -47,7 +48,7 @@ pub(crate) fn pass_none(
 /// Passes a lead that was taken out and names a step that is blocked: it is set aside with what blocks it.
 pub(crate) fn pass_blocked(
     alloc: Global,
-    source: &[u8],
+    source: &KnownLengths<'_>,
     plan: &mut Plan,
     lead: &Lead,
     step: &Step,

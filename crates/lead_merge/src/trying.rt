@@ -18,6 +18,7 @@ use crate::passing::{lead_again, pass_blocked, pass_none};
 use hold_laws::{first_lead_is_taken, turns_are_ordered};
 use lead_laws::answers_may_come;
 use lead_plan::Lead;
+use merge_plan::KnownLengths;
 use obstacles::{Obstacle, Obstacles};
 use plan_board::Board;
 use plan_state::Plan;
@@ -46,7 +47,7 @@ fn obstacle_on<O: Obstacles>(
 pub(crate) fn try_lead<O: Obstacles>(
     alloc: Global,
     obstacles: &mut O,
-    source: &[u8],
+    source: &KnownLengths<'_>,
     plan: &mut Plan,
     lead: &Lead,
 ) -> Result<Option<Step>, AllocError>

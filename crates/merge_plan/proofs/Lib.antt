@@ -1,3 +1,5 @@
+pub mod ForCallers
 mod Gains
+mod KnownLists
 mod Looking
 mod NextSheets

@@ -9,8 +9,10 @@ ghost use Rattle.step_laws.specs.Free.{AreAmong, IsBlocked, IsFree};
 ghost use Rattle.step_laws.specs.Steps.{HasStep, IsStep, StandsBefore};
 ghost use Rattle.step_laws.specs.declared.step.Step as declared;
 
+use crate::lengths::KnownLengths;
 use crate::savings::saved;
 use css_model::Sheet;
+use merge_laws::read_keeps_the_limits;
 use merge_steps::steps;
 use obstacles::Obstacles;
 use std::alloc::{AllocError, Global};
@@ -53,7 +55,7 @@ fn is_free<O: Obstacles>(obstacles: &mut O, sheet: &Sheet, step: &Step) -> Resul
 /// The best free step of the first ones of a list and of the one behind them.
 fn look<O: Obstacles>(
     obstacles: &mut O,
-    source: &[u8],
+    source: &KnownLengths<'_>,
     sheet: &Sheet,
     list: &[Step],
     number: usize,
@@ -84,7 +86,7 @@ fn look<O: Obstacles>(
 /// The best free step of a list, if one is free.
 fn best_of<O: Obstacles>(
     obstacles: &mut O,
-    source: &[u8],
+    source: &KnownLengths<'_>,
     sheet: &Sheet,
     list: &[Step],
 ) -> Result<Option<Found>, AllocError>
@@ -102,7 +104,7 @@ fn best_of<O: Obstacles>(
     Ok(best)
 }
 
-#[tactic(auto, using(crate::proofs::Looking::all_looked, crate::proofs::NextSheets::few_parts))]
+#[tactic(auto, using(crate::proofs::Looking::all_looked, crate::proofs::NextSheets::few_parts, crate::proofs::Gains::short_source))]
 /// The next step of a sheet, if one is left that is free and saves.
 pub(crate) fn next_step<O: Obstacles>(
     alloc: Global,
@@ -116,6 +118,8 @@ pub(crate) fn next_step<O: Obstacles>(
     ensures next { IfOk result (λ best. IsNextFound (O.answers obstacles.new) source.now sheet.now.items best) }
 {
     parts_are_few();
+    read_keeps_the_limits();
     let list = steps(alloc, sheet)?;
-    best_of(obstacles, source, sheet, list.as_slice())
+    let lengths = KnownLengths::none(alloc, source);
+    best_of(obstacles, &lengths, sheet, list.as_slice())
 }

@@ -3,8 +3,10 @@
 #![tactic(auto)]
 
 mod best;
+mod lengths;
 mod merging;
 mod savings;
 
+pub use lengths::KnownLengths;
 pub use merging::{Merged, merge};
 pub use savings::saved;

@@ -6,9 +6,10 @@ ghost use Rattle.merge_plan.specs.Planning.{IsSaving};
 ghost use Rattle.plan_laws.specs.Plannable.{IsPlannable};
 ghost use Rattle.step_laws.specs.Steps.{HasStep};
 
+use crate::lengths::KnownLengths;
 use css_model::Sheet;
-use merge_laws::read_keeps_the_limits;
-use merge_steps::{Step, saving};
+use merge_steps::Step;
+use step_savings::saving_by;
 
 /// The bytes that are saved, or 0 where none are.
 fn gain(saving: i64) -> u32
@@ -20,12 +21,10 @@ fn gain(saving: i64) -> u32
 }
 
 /// How many bytes a step of a sheet saves, or 0 where it saves none. Takes no memory.
-#[tactic(auto, using(crate::proofs::Gains::short_source))]
-pub fn saved(source: &[u8], sheet: &Sheet, step: &Step) -> u32
+pub fn saved(source: &KnownLengths<'_>, sheet: &Sheet, step: &Step) -> u32
     requires is_step { HasStep sheet.now.items step.now }
     requires plannable { IsPlannable source.now sheet.now.items }
     ensures { IsSaving source.now sheet.now.items step.now result }
 {
-    read_keeps_the_limits();
-    gain(saving(sheet, source, step))
+    gain(saving_by(source, sheet, step))
 }

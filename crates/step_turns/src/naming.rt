@@ -17,7 +17,7 @@ ghost use Rattle.step_turns.specs.Seconds.{HasSecond, second_name};
 
 use crate::cuts::is_step_of;
 use lead_plan::{Kind, Lead};
-use merge_plan::saved;
+use merge_plan::{KnownLengths, saved};
 use plan_board::Board;
 use rule_tables::Tables;
 use step_laws::{Step, parts_are_few};
@@ -116,7 +116,13 @@ fn named_step(board: &Board, lead: &Lead) -> Option<Step>
 }
 
 /// A step, if it is one of the board's sheet and saves so much.
-fn tested(board: &Board, tables: &Tables, source: &[u8], step: Step, saving: u32) -> Option<Step>
+fn tested(
+    board: &Board,
+    tables: &Tables,
+    source: &KnownLengths<'_>,
+    step: Step,
+    saving: u32,
+) -> Option<Step>
     requires plannable { IsPlannable source.now board.now.items }
     requires cover { Cover tables.now (rules_of board.now) }
     ensures same { IfSome result (λ k. k ≡ step) }
@@ -140,7 +146,12 @@ fn tested(board: &Board, tables: &Tables, source: &[u8], step: Step, saving: u32
 /// The step of a board's sheet that a lead names, if it saves exactly as much as the lead says. No step does where there
 /// is none. The tables cover the rules of the sheet, with the labels of their items. Takes no memory. The time is that of
 /// the parts of the step's rules, and of a cut that of the rules with these parts.
-pub fn step_of_lead(board: &Board, tables: &Tables, source: &[u8], lead: &Lead) -> Option<Step>
+pub fn step_of_lead(
+    board: &Board,
+    tables: &Tables,
+    source: &KnownLengths<'_>,
+    lead: &Lead,
+) -> Option<Step>
     requires plannable { IsPlannable source.now board.now.items }
     requires cover { Cover tables.now (rules_of board.now) }
     ensures some { IfSome result (IsStepOf source.now board.now lead.now) }

@@ -19,6 +19,7 @@ use crate::cuts::find_rule;
 use crate::trying::try_step;
 use css_model::Rule;
 use lead_plan::Lead;
+use merge_plan::KnownLengths;
 use plan_board::Board;
 use rule_tables::{Tables, rules_are_labelled, steps_have_partners};
 use std::alloc::{AllocError, Global};
@@ -28,7 +29,7 @@ use step_laws::{Step, parts_are_few};
 fn try_decl_cuts(
     board: &Board,
     tables: &Tables,
-    source: &[u8],
+    source: &KnownLengths<'_>,
     after: &Lead,
     number: u32,
     count: u32,
@@ -54,7 +55,7 @@ fn try_decl_cuts(
 fn try_selector_cuts(
     board: &Board,
     tables: &Tables,
-    source: &[u8],
+    source: &KnownLengths<'_>,
     after: &Lead,
     number: u32,
     count: u32,
@@ -94,7 +95,7 @@ fn selector_count(rule: &Rule) -> usize
 fn try_cuts(
     board: &Board,
     tables: &Tables,
-    source: &[u8],
+    source: &KnownLengths<'_>,
     after: &Lead,
     number: u32,
     rule: &Rule,
@@ -117,7 +118,7 @@ fn try_cuts(
 fn try_joins(
     board: &Board,
     tables: &Tables,
-    source: &[u8],
+    source: &KnownLengths<'_>,
     after: &Lead,
     upper: u32,
     lower: u32,
@@ -148,7 +149,7 @@ fn try_joins(
 fn try_partner(
     board: &Board,
     tables: &Tables,
-    source: &[u8],
+    source: &KnownLengths<'_>,
     after: &Lead,
     number: u32,
     label: u64,
@@ -184,7 +185,7 @@ fn try_partner(
 fn try_partners(
     board: &Board,
     tables: &Tables,
-    source: &[u8],
+    source: &KnownLengths<'_>,
     after: &Lead,
     number: u32,
     labels: &[u64],
@@ -217,7 +218,7 @@ pub fn next_lead(
     alloc: Global,
     board: &Board,
     tables: &Tables,
-    source: &[u8],
+    source: &KnownLengths<'_>,
     at: u64,
     after: &Lead,
 ) -> Result<Option<Lead>, AllocError>

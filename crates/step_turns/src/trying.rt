@@ -13,7 +13,7 @@ use crate::cuts::is_step_of;
 use crate::order::{is_sooner, lead_of};
 use hold_laws::turns_are_ordered;
 use lead_plan::Lead;
-use merge_plan::saved;
+use merge_plan::{KnownLengths, saved};
 use plan_board::Board;
 use rule_tables::Tables;
 use step_laws::Step;
@@ -40,7 +40,7 @@ fn sooner_of(best: Option<Lead>, lead: Lead) -> Option<Lead>
 pub(crate) fn try_step(
     board: &Board,
     tables: &Tables,
-    source: &[u8],
+    source: &KnownLengths<'_>,
     after: &Lead,
     step: &Step,
     best: Option<Lead>,

@@ -8,16 +8,16 @@ use Rattle.merge_plan.proofs.Gains.{not_above, saved}
 
 pub gain-requires : goal.gain-requires
 gain-requires c =
-    let fits : SFits w64 c.saving.result = search rules in
-    let same : to_z w64 (of_z w64 c.saving.result) ≡ c.saving.result = to_z-of_z w64 c.saving.result fits in
-    let small : to_z w64 (of_z w64 c.saving.result) ≤ℤ pos max_bytes =
-    rw same (not_above c.args.source.now c.args.sheet.now.items c.args.step.now c.saving.result c.requires.plannable c.requires.is_step c.saving.ensures) in
+    let fits : SFits w64 c.saving_by.result = search rules in
+    let same : to_z w64 (of_z w64 c.saving_by.result) ≡ c.saving_by.result = to_z-of_z w64 c.saving_by.result fits in
+    let small : to_z w64 (of_z w64 c.saving_by.result) ≤ℤ pos max_bytes =
+    rw same (not_above c.args.source.now c.args.sheet.now.items c.args.step.now c.saving_by.result c.requires.plannable c.requires.is_step c.saving_by.ensures) in
     small
 
 pub returns : goal.returns
 returns c =
-    let fits : SFits w64 c.saving.result = search rules in
-    let same : to_z w64 (of_z w64 c.saving.result) ≡ c.saving.result = to_z-of_z w64 c.saving.result fits in
-    saved c.args.source.now c.args.sheet.now.items c.args.step.now c.saving.result c.gain.result c.saving.ensures
+    let fits : SFits w64 c.saving_by.result = search rules in
+    let same : to_z w64 (of_z w64 c.saving_by.result) ≡ c.saving_by.result = to_z-of_z w64 c.saving_by.result fits in
+    saved c.args.source.now c.args.sheet.now.items c.args.step.now c.saving_by.result c.gain.result c.saving_by.ensures
     (subst (λ (z : ℤ). z ≤ℤ pos c.gain.result) same c.gain.ensures.most)
     (subst (λ (z : ℤ). 0 < c.gain.result → z ≡ pos c.gain.result) same c.gain.ensures.exact)

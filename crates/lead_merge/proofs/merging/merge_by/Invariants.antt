@@ -1,5 +1,5 @@
 use Rattle.std.proofs.Common.{◌≡◌, ◌+◌, ◌≤◌}
-use Rattle.lead_merge.proofs.merging.merge.Given as goal
+use Rattle.lead_merge.proofs.merging.merge_by.Given as goal
 use Rattle.plan_state.specs.State.{IsState}
 use Rattle.step_laws.specs.Free.{AreAmong}
 use Rattle.step_laws.specs.Leading.{Leads}
