@@ -1,0 +1,24 @@
+use Rattle.std.proofs.Common.{◌<◌, length, arith}
+use Rattle.std.specs.Prelude.{slice_index_or}
+use Rattle.std.proofs.lemmas.List.Elements.{Contains-get_or}
+use Rattle.merge_report.proofs.Counted.{done_more}
+use Rattle.merge_report.proofs.Growing.{stays_on, step_more}
+use Rattle.merge_report.proofs.remaining.remaining_of.Goals as goal
+use Rattle.step_laws.specs.declared.step.Step.TheVariants.{CutDecl}
+
+pub cause_of-requires-clause-is_step : goal.cause_of-requires-clause-is_step
+cause_of-requires-clause-is_step c =
+    let here : c.loop-step.step-index < length c.args.list.now = omega arith in
+    c.requires.steps (slice_index_or c.args.list.now c.loop-step.step-index (CutDecl 0 0)) (Contains-get_or c.args.list.now c.loop-step.step-index (CutDecl 0 0) here)
+
+pub cause_of-requires-clause-done : goal.cause_of-requires-clause-done
+cause_of-requires-clause-done c = done_more c.args.pairs.now c.loop-step.pairs c.loop-step.invariant.stays c.args.source.now c.args.sheet.now.items c.requires.done
+
+pub loop-step-preserved : goal.loop-step-preserved
+loop-step-preserved c =
+    let here : c.loop-step.step-index < length c.args.list.now = omega arith in
+    record {
+      stays = stays_on c.args.pairs.now c.loop-step.pairs c.cause_of.new.pairs c.loop-step.invariant.stays c.in_ok-cause.ensures.stays;
+      are = step_more c.loop-step.pairs c.cause_of.new.pairs c.in_ok-cause.ensures.stays c.args.source.now c.args.sheet.now.items c.args.list.now c.loop-step.step-index (CutDecl 0 0) here c.in_ok-cause.cause c.in_ok-cause.ensures.told
+          c.loop-step.found.items c.push_told.new.found.items c.loop-step.invariant.are c.in_ok-push_told.ensures;
+    }

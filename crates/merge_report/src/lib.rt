@@ -1,0 +1,8 @@
+//! The report of a merged sheet: what it had and has, and which of its steps still save something, with what blocks
+//! each of them.
+#![tactic(auto)]
+
+mod remaining;
+mod reporting;
+
+pub use reporting::{merge_report, merge_summary};
