@@ -18,7 +18,7 @@ import tempfile
 
 MORE = b"\nFor more information, try '--help'.\n"
 NO_WORD = b"""error: 'cssmin' requires a subcommand but one was not provided
-  [subcommands: min, cmp, style, dead, check, why, help]
+  [subcommands: min, cmp, style, dead, check, why, trial, help]
 
 Usage: cssmin <COMMAND>
 """ + MORE
@@ -118,7 +118,7 @@ def try_itself(tries):
     for word in ["--version", "-V"]:
         tries.check_read(word, [word], SHEET, 0, f"cssmin {version}\n".encode(), b"", 0)
     for words in [["--help"], ["-h"], ["help"], ["min", "--help"], ["min", "-h"], ["cmp", "--help"], ["cmp", "-h"],
-            ["check", "--help"], ["why", "--help"], ["style", "--help"], ["dead", "--help"]]:
+            ["check", "--help"], ["why", "--help"], ["style", "--help"], ["dead", "--help"], ["trial", "--help"]]:
         ran = tries.run(words, SHEET)
         name = " ".join(words)
         tries.is_same(name, "the exit status", ran.returncode, 0)
@@ -191,6 +191,15 @@ def try_moves(tries):
     lines = b"blocked\n.a{top:2px}\n.b{top:1px}\nchild 0 pseudo none\n0 1 - x\n1 1 * x class=a%20b\n"
     tries.check_read("a move", ["why", "3", "1"], sheet, 0, lines, b"", len(sheet))
     tries.check_read("a move of no item", ["why", "4", "1"], sheet, 7, b"", b"no item 4\n", len(sheet))
+
+
+def try_reports(tries):
+    sheet = b".a{top:0}.b{top:1px}.a{top:2px}"
+    report = b"items 3 3\nbytes 31 31\nsteps 0\nblocked JoinSelUp 1 3 meet 2\nblocked JoinSelDown 1 3 meet 2\n"
+    tries.check_read("a report", ["min", "--report"], sheet, 0, sheet, report, len(sheet))
+    with open("/dev/full", "wb") as full:
+        tries.check("a report for a full standard error", ["min", "--report"], sheet, 5, sheet, b"", stderr=full)
+    tries.check_read("a made sheet", ["trial", "3"], SHEET, 0, b"items 3 3\nbytes 61 61\nsteps 0\n", b"", 0)
 
 
 def try_sheets(tries):
@@ -269,6 +278,7 @@ def main():
     try_moves(tries)
     try_winners(tries)
     try_lives(tries)
+    try_reports(tries)
     try_sheets(tries)
     try_streams(tries)
     # A sheet that is merged, so that each kind of memory is taken.

@@ -2,12 +2,13 @@
 _cssmin() {
     local command=${COMP_WORDS[1]} words
     if [ "$COMP_CWORD" = 1 ]; then
-        words='min cmp dead style why check help --help --version'
+        words='min cmp dead style why check trial help --help --version'
     else
         case $command in
-            style|check) words='--help' ;;
+            style|check|trial) words='--help' ;;
+            min) words='--budget --report --help' ;;
             cmp) words='--budget --log --help' ;;
-            min|dead|why) words='--budget --help' ;;
+            dead|why) words='--budget --help' ;;
         esac
     fi
     COMPREPLY=($(compgen -W "$words" -- "${COMP_WORDS[COMP_CWORD]}"))

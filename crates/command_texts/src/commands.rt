@@ -1,7 +1,7 @@
 //! The commands of the program, as `clap` describes them.
 
 use clap::{Arg, ArgAction, Command, value_parser};
-use command_words::MOST_BUDGET;
+use command_words::{MOST_BUDGET, MOST_RULES};
 use std::alloc::{AllocError, Global};
 
 const PROGRAM_HELP: &str = "\
@@ -20,7 +20,11 @@ const MIN_HELP: &str = "\
 The sheet is read from standard input to its end, and the smaller one is written to standard output:
 rules are merged across the whole sheet, as long as that saves bytes and changes no winner.
 Nothing is written where the sheet is refused (status 3, and a line `refused: KIND at N` on standard
-error, N in bytes from 0).";
+error, N in bytes from 0).
+
+With `--report` standard error tells the items and the bytes that were read and written, the number
+of steps, and each step that would still save bytes, with what blocks it and the number of the item:
+`meet`, `kept`, `outside R` or `spent`, as `cssmin cmp` says it.";
 
 const CMP_HELP: &str = "\
 Writes one of these to standard output, and reads no input:
@@ -77,10 +81,31 @@ fn style_command<'a>(alloc: Global) -> Command<'a> {
 
 /// The command `min`.
 fn min_command<'a>(alloc: Global) -> Result<Command<'a>, AllocError> {
+    let report = Arg::new(alloc, "report")
+        .long("report")
+        .action(ArgAction::SetTrue)
+        .help("Tell what was merged, and what blocks the steps that are left");
     Command::new(alloc, "min")
         .about("Make a style sheet smaller, with the same winners of the cascade")
         .after_help(MIN_HELP)
-        .arg(budget(alloc))
+        .arg(budget(alloc))?
+        .arg(report)
+}
+
+const TRIAL_HELP: &str = "\
+Makes a sheet of N small rules, the same for the same N, and merges it as `cssmin min` does. Writes
+to standard output the numbers of items and of bytes before and after, and how many steps were
+taken. Reads no input.";
+
+/// The command `trial`.
+fn trial_command<'a>(alloc: Global) -> Result<Command<'a>, AllocError> {
+    let rules = Arg::new(alloc, "N")
+        .required(true)
+        .help("How many rules, from 0 to 2000");
+    Command::new(alloc, "trial")
+        .about("Make a sheet and merge it, and tell what came of it")
+        .after_help(TRIAL_HELP)
+        .arg(rules.value_parser(value_parser!(u32).range(0..=i64::from(MOST_RULES))))
 }
 
 /// The command `cmp`.
@@ -165,6 +190,7 @@ pub(crate) fn program<'a>(alloc: Global, version: &'a str) -> Result<Command<'a>
         .subcommand(dead_command(alloc)?)?
         .subcommand(check_command(alloc))?
         .subcommand(why_command(alloc)?)?
+        .subcommand(trial_command(alloc)?)?
         .disable_help_subcommand(true)
         .subcommand(help_command(alloc))
 }

@@ -22,7 +22,7 @@ fn tells_why_words_are_refused(rt: HostRuntime) -> Result<(), Fail> {
         (
             "",
             &b"error: 'cssmin' requires a subcommand but one was not provided
-  [subcommands: min, cmp, style, dead, check, why, help]
+  [subcommands: min, cmp, style, dead, check, why, trial, help]
 
 Usage: cssmin <COMMAND>
 
@@ -41,8 +41,8 @@ For more information, try '--help'.
 ",
         ),
         (
-            "min --report",
-            b"error: unexpected argument '--report' found
+            "min --log",
+            b"error: unexpected argument '--log' found
 
 Usage: cssmin min [OPTIONS]
 
@@ -66,7 +66,15 @@ For more information, try '--help'.
 For more information, try '--help'.
 ",
         ),
+        (
+            "trial 2001",
+            b"error: invalid value '2001' for '<N>': 2001 is not in 0..=2000
+
+For more information, try '--help'.
+",
+        ),
         ("cmp a b --budget 07", USAGE),
+        ("trial 07", USAGE),
         ("min --budget 07", USAGE),
         ("min --help --report", USAGE),
         ("--version", USAGE),
@@ -89,6 +97,7 @@ fn tells_how_it_is_used(rt: HostRuntime) -> Result<(), Fail> {
         (Topic::Style, b"Tell which declarations win"),
         (Topic::Dead, b"Tell which selectors of a style sheet"),
         (Topic::Check, b"Check a log that refutes a formula"),
+        (Topic::Trial, b"Make a sheet and merge it"),
     ] {
         let text = help_text(rt.alloc(), about)?;
         assert!(rt; text.starts_with(first));

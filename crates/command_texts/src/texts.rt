@@ -59,6 +59,7 @@ pub fn help_text(alloc: Global, about: Topic) -> Result<Vec<u8>, AllocError>
         Topic::Style => &["cssmin", "style", "--help"],
         Topic::Dead => &["cssmin", "dead", "--help"],
         Topic::Check => &["cssmin", "check", "--help"],
+        Topic::Trial => &["cssmin", "trial", "--help"],
     };
     text_of(alloc, told(alloc, words)?)
 }

@@ -39,3 +39,16 @@ no_number most word none = unless _ _ (digits_value 10 word) (λ same within. no
   where
     upto : (limit n : ℕ) → nat_lt limit n ≡ false → n ≤ limit
     upto limit n h = grind (arith, h)
+
+-- the number of a word is at most the greatest that is allowed
+within : (b c : Bool) (most value n : ℕ) → nat_lt most value ≡ c → cond (b && not c) (Some value) None ≡ Some n → n ≤ most
+within true false most value n test is = let same : value ≡ n = cc in subst (λ (m : ℕ). m ≤ most) same (upto most value test)
+  where
+    upto : (limit n : ℕ) → nat_lt limit n ≡ false → n ≤ limit
+    upto limit n h = grind (arith, h)
+within true true most value n test is = absurd (let bad : ⊥ = cc in bad)
+within false c most value n test is = absurd (let bad : ⊥ = cc in bad)
+
+pub most_is : (most : ℕ) (word : List ℕ) (n : ℕ) → number_up_to most word ≡ Some n → n ≤ most
+unfolding number_up_to
+most_is most word n is = within (is_word word (decimal (digits_value 10 word))) (nat_lt most (digits_value 10 word)) most (digits_value 10 word) n refl is

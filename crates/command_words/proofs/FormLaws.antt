@@ -2,7 +2,7 @@
 use Rattle.std.proofs.Common.{◌≡◌, ◌↔◌, ℕ, List, [], ◌∷◌, Bool, true, false, cond, not, ◌&&◌, ◌||◌, ◌==◌, Option, Some, None, refl, sym, ◌∙◌, ap, subst}
 use Rattle.std.specs.Cmp.Lexicographic.{bytes_decides}
 use Rattle.std.specs.Prelude.{codes, drop, take}
-use Rattle.command_words.specs.Forms.{Arguments, Min, Cmp, Help, Version, alone, arguments, moved, most_number, arguments_of, asked, asks_help, command_named, form_of, is_help, is_operand, is_word, most_budget, named, number_up_to, with_budget, with_log, with_operand, with_other_word, with_word, with_words}
+use Rattle.command_words.specs.Forms.{Arguments, Min, Cmp, Help, Version, alone, arguments, moved, most_number, arguments_of, asked, asks_help, command_named, form_of, is_help, is_operand, is_word, most_budget, named, number_up_to, tried, most_rules, with_budget, with_log, with_report, with_operand, with_other_word, with_word, with_words}
 use Rattle.command_words.specs.declared.command.Topic.{Topic}
 use Rattle.command_words.specs.declared.command.Topic.TheVariants as topic
 
@@ -10,24 +10,29 @@ use Rattle.command_words.specs.declared.command.Topic.TheVariants as topic
 
 -- nothing stands behind the name of a command
 abbrev bare : Option Arguments
-bare = Some (arguments [] None false)
+bare = Some (arguments [] None false false)
 
 operand_is_not_bare : (word : List ℕ) (before : Option Arguments) → with_operand word before ≡ bare → ⊥
 operand_is_not_bare word None is = absurd (let bad : ⊥ = cc in bad)
-operand_is_not_bare word (Some (arguments [] budget log)) is = absurd (let bad : ⊥ = cc in bad)
-operand_is_not_bare word (Some (arguments (first ∷ []) budget log)) is = absurd (let bad : ⊥ = cc in bad)
-operand_is_not_bare word (Some (arguments (first ∷ second ∷ more) budget log)) is = absurd (let bad : ⊥ = cc in bad)
+operand_is_not_bare word (Some (arguments [] budget log report)) is = absurd (let bad : ⊥ = cc in bad)
+operand_is_not_bare word (Some (arguments (first ∷ []) budget log report)) is = absurd (let bad : ⊥ = cc in bad)
+operand_is_not_bare word (Some (arguments (first ∷ second ∷ more) budget log report)) is = absurd (let bad : ⊥ = cc in bad)
 
 budget_is_not_bare : (number : Option ℕ) (before : Option Arguments) → with_budget number before ≡ bare → ⊥
 budget_is_not_bare None before is = absurd (let bad : ⊥ = cc in bad)
 budget_is_not_bare (Some number) None is = absurd (let bad : ⊥ = cc in bad)
-budget_is_not_bare (Some number) (Some (arguments operands None log)) is = absurd (let bad : ⊥ = cc in bad)
-budget_is_not_bare (Some number) (Some (arguments operands (Some other) log)) is = absurd (let bad : ⊥ = cc in bad)
+budget_is_not_bare (Some number) (Some (arguments operands None log report)) is = absurd (let bad : ⊥ = cc in bad)
+budget_is_not_bare (Some number) (Some (arguments operands (Some other) log report)) is = absurd (let bad : ⊥ = cc in bad)
 
 log_is_not_bare : (before : Option Arguments) → with_log before ≡ bare → ⊥
 log_is_not_bare None is = absurd (let bad : ⊥ = cc in bad)
-log_is_not_bare (Some (arguments operands budget false)) is = absurd (let bad : ⊥ = cc in bad)
-log_is_not_bare (Some (arguments operands budget true)) is = absurd (let bad : ⊥ = cc in bad)
+log_is_not_bare (Some (arguments operands budget false report)) is = absurd (let bad : ⊥ = cc in bad)
+log_is_not_bare (Some (arguments operands budget true report)) is = absurd (let bad : ⊥ = cc in bad)
+
+report_is_not_bare : (before : Option Arguments) → with_report before ≡ bare → ⊥
+report_is_not_bare None is = absurd (let bad : ⊥ = cc in bad)
+report_is_not_bare (Some (arguments operands budget log false)) is = absurd (let bad : ⊥ = cc in bad)
+report_is_not_bare (Some (arguments operands budget log true)) is = absurd (let bad : ⊥ = cc in bad)
 
 other_word_is_not_bare : (word : List ℕ) (before : Option Arguments) → with_other_word word before ≡ bare → ⊥
 other_word_is_not_bare word before is = by (is_word (take 9 word) (codes "--budget=")) (is_operand word) is
@@ -38,11 +43,12 @@ other_word_is_not_bare word before is = by (is_word (take 9 word) (codes "--budg
     by false false is = absurd (let bad : ⊥ = cc in bad)
 
 word_is_not_bare : (word : List ℕ) (before : Option Arguments) → with_word word before ≡ bare → ⊥
-word_is_not_bare word before is = by (is_word word (codes "--log")) is
+word_is_not_bare word before is = by (is_word word (codes "--log")) (is_word word (codes "--report")) is
   where
-    by : (b : Bool) → cond b (with_log before) (with_other_word word before) ≡ bare → ⊥
-    by true is = log_is_not_bare before is
-    by false is = other_word_is_not_bare word before is
+    by : (b c : Bool) → cond b (with_log before) (cond c (with_report before) (with_other_word word before)) ≡ bare → ⊥
+    by true c is = log_is_not_bare before is
+    by false true is = report_is_not_bare before is
+    by false false is = other_word_is_not_bare word before is
 
 -- only no words stand for nothing
 words_are_bare : (before : Option Arguments) (words : List (List ℕ)) → with_words before words ≡ bare → (before ≡ bare) × (words ≡ [])
@@ -58,109 +64,127 @@ words_are_bare before (word ∷ next ∷ words) is =
     by true budget other is = absurd (budget_is_not_bare (number_up_to most_budget next) before (budget is).0)
     by false budget other is = absurd (word_is_not_bare word before (other is).0)
 
-moved_is_not_min : (from to budget : Option ℕ) → moved from to budget ≡ Some (Min None) → ⊥
+moved_is_not_min : (from to budget : Option ℕ) → moved from to budget ≡ Some (Min None false) → ⊥
 moved_is_not_min None to budget is = absurd (let bad : ⊥ = cc in bad)
 moved_is_not_min (Some from) None budget is = absurd (let bad : ⊥ = cc in bad)
 moved_is_not_min (Some from) (Some to) budget is = absurd (let bad : ⊥ = cc in bad)
 
--- only `min` minifies with no budget, and only with nothing behind it
-asked_min : (about : Topic) (words : Option Arguments) → asked about words ≡ Some (Min None) → (about ≡ topic.Min) × (words ≡ bare)
+tried_is_not_min : (rules : Option ℕ) → tried rules ≡ Some (Min None false) → ⊥
+tried_is_not_min None is = absurd (let bad : ⊥ = cc in bad)
+tried_is_not_min (Some rules) is = absurd (let bad : ⊥ = cc in bad)
+
+-- only `min` minifies with no budget and no report, and only with nothing behind it
+asked_min : (about : Topic) (words : Option Arguments) → asked about words ≡ Some (Min None false) → (about ≡ topic.Min) × (words ≡ bare)
 asked_min topic.Program words is = absurd (let bad : ⊥ = cc in bad)
 asked_min topic.Min None is = absurd (let bad : ⊥ = cc in bad)
-asked_min topic.Min (Some (arguments [] None true)) is = absurd (let bad : ⊥ = cc in bad)
-asked_min topic.Min (Some (arguments [] None false)) is = (refl, refl)
-asked_min topic.Min (Some (arguments [] (Some budget) true)) is = absurd (let bad : ⊥ = cc in bad)
-asked_min topic.Min (Some (arguments [] (Some budget) false)) is = absurd (let bad : ⊥ = cc in bad)
-asked_min topic.Min (Some (arguments (first ∷ more) budget log)) is = absurd (let bad : ⊥ = cc in bad)
+asked_min topic.Min (Some (arguments [] budget true report)) is = absurd (let bad : ⊥ = cc in bad)
+asked_min topic.Min (Some (arguments [] None false true)) is = absurd (let bad : ⊥ = cc in bad)
+asked_min topic.Min (Some (arguments [] None false false)) is = (refl, refl)
+asked_min topic.Min (Some (arguments [] (Some budget) false report)) is = absurd (let bad : ⊥ = cc in bad)
+asked_min topic.Min (Some (arguments (first ∷ more) budget log report)) is = absurd (let bad : ⊥ = cc in bad)
 asked_min topic.Dead None is = absurd (let bad : ⊥ = cc in bad)
-asked_min topic.Dead (Some (arguments [] budget true)) is = absurd (let bad : ⊥ = cc in bad)
-asked_min topic.Dead (Some (arguments [] budget false)) is = absurd (let bad : ⊥ = cc in bad)
-asked_min topic.Dead (Some (arguments (first ∷ more) budget log)) is = absurd (let bad : ⊥ = cc in bad)
+asked_min topic.Dead (Some (arguments [] budget true report)) is = absurd (let bad : ⊥ = cc in bad)
+asked_min topic.Dead (Some (arguments [] budget false true)) is = absurd (let bad : ⊥ = cc in bad)
+asked_min topic.Dead (Some (arguments [] budget false false)) is = absurd (let bad : ⊥ = cc in bad)
+asked_min topic.Dead (Some (arguments (first ∷ more) budget log report)) is = absurd (let bad : ⊥ = cc in bad)
 asked_min topic.Style None is = absurd (let bad : ⊥ = cc in bad)
-asked_min topic.Style (Some (arguments [] None true)) is = absurd (let bad : ⊥ = cc in bad)
-asked_min topic.Style (Some (arguments [] None false)) is = absurd (let bad : ⊥ = cc in bad)
-asked_min topic.Style (Some (arguments [] (Some budget) log)) is = absurd (let bad : ⊥ = cc in bad)
-asked_min topic.Style (Some (arguments (first ∷ more) budget log)) is = absurd (let bad : ⊥ = cc in bad)
+asked_min topic.Style (Some (arguments [] None true report)) is = absurd (let bad : ⊥ = cc in bad)
+asked_min topic.Style (Some (arguments [] None false true)) is = absurd (let bad : ⊥ = cc in bad)
+asked_min topic.Style (Some (arguments [] None false false)) is = absurd (let bad : ⊥ = cc in bad)
+asked_min topic.Style (Some (arguments [] (Some budget) log report)) is = absurd (let bad : ⊥ = cc in bad)
+asked_min topic.Style (Some (arguments (first ∷ more) budget log report)) is = absurd (let bad : ⊥ = cc in bad)
 asked_min topic.Why None is = absurd (let bad : ⊥ = cc in bad)
-asked_min topic.Why (Some (arguments [] budget log)) is = absurd (let bad : ⊥ = cc in bad)
-asked_min topic.Why (Some (arguments (from ∷ []) budget log)) is = absurd (let bad : ⊥ = cc in bad)
-asked_min topic.Why (Some (arguments (from ∷ to ∷ []) budget true)) is = absurd (let bad : ⊥ = cc in bad)
-asked_min topic.Why (Some (arguments (from ∷ to ∷ []) budget false)) is = absurd (moved_is_not_min (number_up_to most_number from) (number_up_to most_number to) budget is)
-asked_min topic.Why (Some (arguments (from ∷ to ∷ third ∷ more) budget log)) is = absurd (let bad : ⊥ = cc in bad)
+asked_min topic.Why (Some (arguments [] budget log report)) is = absurd (let bad : ⊥ = cc in bad)
+asked_min topic.Why (Some (arguments (from ∷ []) budget log report)) is = absurd (let bad : ⊥ = cc in bad)
+asked_min topic.Why (Some (arguments (from ∷ to ∷ []) budget true report)) is = absurd (let bad : ⊥ = cc in bad)
+asked_min topic.Why (Some (arguments (from ∷ to ∷ []) budget false true)) is = absurd (let bad : ⊥ = cc in bad)
+asked_min topic.Why (Some (arguments (from ∷ to ∷ []) budget false false)) is = absurd (moved_is_not_min (number_up_to most_number from) (number_up_to most_number to) budget is)
+asked_min topic.Why (Some (arguments (from ∷ to ∷ third ∷ more) budget log report)) is = absurd (let bad : ⊥ = cc in bad)
 asked_min topic.Cmp None is = absurd (let bad : ⊥ = cc in bad)
-asked_min topic.Cmp (Some (arguments [] budget log)) is = absurd (let bad : ⊥ = cc in bad)
-asked_min topic.Cmp (Some (arguments (left ∷ []) budget log)) is = absurd (let bad : ⊥ = cc in bad)
-asked_min topic.Cmp (Some (arguments (left ∷ right ∷ []) budget log)) is = absurd (let bad : ⊥ = cc in bad)
-asked_min topic.Cmp (Some (arguments (left ∷ right ∷ third ∷ more) budget log)) is = absurd (let bad : ⊥ = cc in bad)
+asked_min topic.Cmp (Some (arguments [] budget log report)) is = absurd (let bad : ⊥ = cc in bad)
+asked_min topic.Cmp (Some (arguments (left ∷ []) budget log report)) is = absurd (let bad : ⊥ = cc in bad)
+asked_min topic.Cmp (Some (arguments (left ∷ right ∷ []) budget log true)) is = absurd (let bad : ⊥ = cc in bad)
+asked_min topic.Cmp (Some (arguments (left ∷ right ∷ []) budget log false)) is = absurd (let bad : ⊥ = cc in bad)
+asked_min topic.Cmp (Some (arguments (left ∷ right ∷ third ∷ more) budget log report)) is = absurd (let bad : ⊥ = cc in bad)
 asked_min topic.Check None is = absurd (let bad : ⊥ = cc in bad)
-asked_min topic.Check (Some (arguments [] None true)) is = absurd (let bad : ⊥ = cc in bad)
-asked_min topic.Check (Some (arguments [] None false)) is = absurd (let bad : ⊥ = cc in bad)
-asked_min topic.Check (Some (arguments [] (Some budget) log)) is = absurd (let bad : ⊥ = cc in bad)
-asked_min topic.Check (Some (arguments (first ∷ more) budget log)) is = absurd (let bad : ⊥ = cc in bad)
+asked_min topic.Check (Some (arguments [] None true report)) is = absurd (let bad : ⊥ = cc in bad)
+asked_min topic.Check (Some (arguments [] None false true)) is = absurd (let bad : ⊥ = cc in bad)
+asked_min topic.Check (Some (arguments [] None false false)) is = absurd (let bad : ⊥ = cc in bad)
+asked_min topic.Check (Some (arguments [] (Some budget) log report)) is = absurd (let bad : ⊥ = cc in bad)
+asked_min topic.Check (Some (arguments (first ∷ more) budget log report)) is = absurd (let bad : ⊥ = cc in bad)
+asked_min topic.Trial None is = absurd (let bad : ⊥ = cc in bad)
+asked_min topic.Trial (Some (arguments [] budget log report)) is = absurd (let bad : ⊥ = cc in bad)
+asked_min topic.Trial (Some (arguments (rules ∷ []) None true report)) is = absurd (let bad : ⊥ = cc in bad)
+asked_min topic.Trial (Some (arguments (rules ∷ []) None false true)) is = absurd (let bad : ⊥ = cc in bad)
+asked_min topic.Trial (Some (arguments (rules ∷ []) None false false)) is = absurd (tried_is_not_min (number_up_to most_rules rules) is)
+asked_min topic.Trial (Some (arguments (rules ∷ []) (Some budget) log report)) is = absurd (let bad : ⊥ = cc in bad)
+asked_min topic.Trial (Some (arguments (first ∷ second ∷ more) budget log report)) is = absurd (let bad : ⊥ = cc in bad)
 
-alone_is_not_min : (word : List ℕ) (words : List (List ℕ)) → alone word words ≡ Some (Min None) → ⊥
+alone_is_not_min : (word : List ℕ) (words : List (List ℕ)) → alone word words ≡ Some (Min None false) → ⊥
 alone_is_not_min word [] is = by (is_help word || is_word word (codes "help")) (is_word word (codes "--version") || is_word word (codes "-V")) is
   where
-    by : (b c : Bool) → cond b (Some (Help topic.Program)) (cond c (Some Version) None) ≡ Some (Min None) → ⊥
+    by : (b c : Bool) → cond b (Some (Help topic.Program)) (cond c (Some Version) None) ≡ Some (Min None false) → ⊥
     by true c is = absurd (let bad : ⊥ = cc in bad)
     by false true is = absurd (let bad : ⊥ = cc in bad)
     by false false is = absurd (let bad : ⊥ = cc in bad)
 alone_is_not_min word (next ∷ words) is = absurd (let bad : ⊥ = cc in bad)
 
-named_min : (command : Option Topic) (name : List ℕ) (words : List (List ℕ)) → named command name words ≡ Some (Min None) → (command ≡ Some topic.Min) × (words ≡ [])
+named_min : (command : Option Topic) (name : List ℕ) (words : List (List ℕ)) → named command name words ≡ Some (Min None false) → (command ≡ Some topic.Min) × (words ≡ [])
 named_min None name words is = absurd (alone_is_not_min name words is)
 named_min (Some about) name words is = by (asks_help words) is
   where
-    by : (b : Bool) → cond b (Some (Help about)) (asked about (arguments_of words)) ≡ Some (Min None) → (Some about ≡ Some topic.Min) × (words ≡ [])
+    by : (b : Bool) → cond b (Some (Help about)) (asked about (arguments_of words)) ≡ Some (Min None false) → (Some about ≡ Some topic.Min) × (words ≡ [])
     by true is = absurd (let bad : ⊥ = cc in bad)
     by false is = let parts = asked_min about (arguments_of words) is in (ap Some parts.0, (words_are_bare bare words parts.1).1)
 
 command_min : (name : List ℕ) → command_named name ≡ Some topic.Min → name ≡ codes "min"
 unfolding command_named
-command_min name is = by (is_word name (codes "min")) (is_word name (codes "dead")) (is_word name (codes "style")) (is_word name (codes "cmp")) (is_word name (codes "check")) (is_word name (codes "why")) refl is
+command_min name is = by (is_word name (codes "min")) (is_word name (codes "dead")) (is_word name (codes "style")) (is_word name (codes "cmp")) (is_word name (codes "check")) (is_word name (codes "why")) (is_word name (codes "trial")) refl is
   where
-    by : (b c d e f g : Bool) → is_word name (codes "min") ≡ b → cond b (Some topic.Min) (cond c (Some topic.Dead) (cond d (Some topic.Style) (cond e (Some topic.Cmp) (cond f (Some topic.Check) (cond g (Some topic.Why) None))))) ≡ Some topic.Min → name ≡ codes "min"
-    by true c d e f g test is = (bytes_decides name (codes "min")).0 test
-    by false true d e f g test is = absurd (let bad : ⊥ = cc in bad)
-    by false false true e f g test is = absurd (let bad : ⊥ = cc in bad)
-    by false false false true f g test is = absurd (let bad : ⊥ = cc in bad)
-    by false false false false true g test is = absurd (let bad : ⊥ = cc in bad)
-    by false false false false false true test is = absurd (let bad : ⊥ = cc in bad)
-    by false false false false false false test is = absurd (let bad : ⊥ = cc in bad)
+    by : (b c d e f g h : Bool) → is_word name (codes "min") ≡ b → cond b (Some topic.Min) (cond c (Some topic.Dead) (cond d (Some topic.Style) (cond e (Some topic.Cmp) (cond f (Some topic.Check) (cond g (Some topic.Why) (cond h (Some topic.Trial) None)))))) ≡ Some topic.Min → name ≡ codes "min"
+    by true c d e f g h test is = (bytes_decides name (codes "min")).0 test
+    by false true d e f g h test is = absurd (let bad : ⊥ = cc in bad)
+    by false false true e f g h test is = absurd (let bad : ⊥ = cc in bad)
+    by false false false true f g h test is = absurd (let bad : ⊥ = cc in bad)
+    by false false false false true g h test is = absurd (let bad : ⊥ = cc in bad)
+    by false false false false false true h test is = absurd (let bad : ⊥ = cc in bad)
+    by false false false false false false true test is = absurd (let bad : ⊥ = cc in bad)
+    by false false false false false false false test is = absurd (let bad : ⊥ = cc in bad)
 
-min_only : (words : List (List ℕ)) → form_of words ≡ Some (Min None) → words ≡ codes "min" ∷ []
+min_only : (words : List (List ℕ)) → form_of words ≡ Some (Min None false) → words ≡ codes "min" ∷ []
 min_only [] is = absurd (let bad : ⊥ = cc in bad)
 min_only (name ∷ words) is =
     let parts = named_min (command_named name) name words is in
     let first : name ≡ codes "min" = command_min name parts.0 in let behind : words ≡ [] = parts.1 in cc
 
-min_alone : form_of (codes "min" ∷ []) ≡ Some (Min None)
+min_alone : form_of (codes "min" ∷ []) ≡ Some (Min None false)
 unfolding command_named
 min_alone = refl
 
-pub min_is_one_word : (words : List (List ℕ)) → (form_of words ≡ Some (Min None)) ↔ (words ≡ codes "min" ∷ [])
-min_is_one_word words = (min_only words, λ is. subst (λ (ws : List (List ℕ)). form_of ws ≡ Some (Min None)) (sym is) min_alone)
+pub min_is_one_word : (words : List (List ℕ)) → (form_of words ≡ Some (Min None false)) ↔ (words ≡ codes "min" ∷ [])
+min_is_one_word words = (min_only words, λ is. subst (λ (ws : List (List ℕ)). form_of ws ≡ Some (Min None false)) (sym is) min_alone)
 
 -- ---- Operands and options
 
 -- a word that may be an operand is no option
 operand_is_no_option : (word : List ℕ) → is_operand word ≡ true
-    → (is_word word (codes "--budget") ≡ false) × (is_word (take 9 word) (codes "--budget=") ≡ false) × (is_word word (codes "--log") ≡ false)
-operand_is_no_option [] may = (refl, refl, refl)
+    → (is_word word (codes "--budget") ≡ false) × (is_word (take 9 word) (codes "--budget=") ≡ false) × (is_word word (codes "--log") ≡ false) × (is_word word (codes "--report") ≡ false)
+operand_is_no_option [] may = (refl, refl, refl, refl)
 operand_is_no_option (c ∷ cs) may = by (c == 45) may
   where
-    by : (b : Bool) → not b ≡ true → ((b && is_word cs (codes "-budget")) ≡ false) × ((b && is_word (take 8 cs) (codes "-budget=")) ≡ false) × ((b && is_word cs (codes "-log")) ≡ false)
+    by : (b : Bool) → not b ≡ true → ((b && is_word cs (codes "-budget")) ≡ false) × ((b && is_word (take 8 cs) (codes "-budget=")) ≡ false) × ((b && is_word cs (codes "-log")) ≡ false) × ((b && is_word cs (codes "-report")) ≡ false)
     by true may = absurd (let bad : ⊥ = cc in bad)
-    by false may = (refl, refl, refl)
+    by false may = (refl, refl, refl, refl)
 
 operand_word : (word : List ℕ) (before : Option Arguments) → is_operand word ≡ true → with_word word before ≡ with_operand word before
-operand_word word before may = let no = operand_is_no_option word may in by _ _ _ _ _ _ no.2 no.1 may
+operand_word word before may = let no = operand_is_no_option word may in by _ _ _ _ _ _ _ _ no.2 no.3 no.1 may
   where
-    by : (a b c : Bool) (w x y : Option Arguments) → a ≡ false → b ≡ false → c ≡ true → cond a w (cond b x (cond c y None)) ≡ y
-    by false false true w x y p q r = refl
-    by true b c w x y p q r = absurd (let bad : ⊥ = cc in bad)
-    by false true c w x y p q r = absurd (let bad : ⊥ = cc in bad)
-    by false false false w x y p q r = absurd (let bad : ⊥ = cc in bad)
+    by : (a b c d : Bool) (v w x y : Option Arguments) → a ≡ false → b ≡ false → c ≡ false → d ≡ true → cond a v (cond b w (cond c x (cond d y None))) ≡ y
+    by false false false true v w x y p q r t = refl
+    by true b c d v w x y p q r t = absurd (let bad : ⊥ = cc in bad)
+    by false true c d v w x y p q r t = absurd (let bad : ⊥ = cc in bad)
+    by false false true d v w x y p q r t = absurd (let bad : ⊥ = cc in bad)
+    by false false false false v w x y p q r t = absurd (let bad : ⊥ = cc in bad)
 
 operand_first : (word next : List ℕ) (words : List (List ℕ)) (before : Option Arguments) → is_operand word ≡ true → with_words before (word ∷ next ∷ words) ≡ with_words (with_operand word before) (next ∷ words)
 operand_first word next words before may = by _ _ _ (operand_is_no_option word may).0 ∙ ap (λ (read : Option Arguments). with_words read (next ∷ words)) (operand_word word before may)

@@ -52,11 +52,12 @@ no_other_word word = by (is_word (take 9 word) (codes "--budget=")) (is_operand 
     by false false = refl
 
 no_word : (word : List ℕ) → with_word word None ≡ None
-no_word word = by (is_word word (codes "--log"))
+no_word word = by (is_word word (codes "--log")) (is_word word (codes "--report"))
   where
-    by : (b : Bool) → cond {A = Option Arguments} b None (with_other_word word None) ≡ None
-    by true = refl
-    by false = no_other_word word
+    by : (b c : Bool) → cond {A = Option Arguments} b None (cond {A = Option Arguments} c None (with_other_word word None)) ≡ None
+    by true c = refl
+    by false true = refl
+    by false false = no_other_word word
 
 -- words behind one that does not fit
 pub none_left : (words : List (List ℕ)) → with_words None words ≡ None

@@ -8,12 +8,13 @@ use Rattle.command_words.specs.declared.command.Topic.TheVariants as topic
 -- What words ask for: what a command does, with its operands and options, how the program or a command is used, or
 -- the version.
 pub data Form : Type 0 where
-  Min : (budget : Option ℕ) → Form
+  Min : (budget : Option ℕ) (report : Bool) → Form
   Style : Form
   Dead : (budget : Option ℕ) → Form
   Cmp : (left right : List ℕ) (budget : Option ℕ) (log : Bool) → Form
   Check : Form
   Why : (from to : ℕ) (budget : Option ℕ) → Form
+  Trial : (rules : ℕ) → Form
   Help : Topic → Form
   Version : Form
 
@@ -40,6 +41,10 @@ most_budget = 20000
 abbrev pub most_number : ℕ
 most_number = 4294967295
 
+-- the most rules of a made sheet that words may ask for
+abbrev pub most_rules : ℕ
+most_rules = 2000
+
 -- A number up to `most`, in decimal digits without a sign and without a leading zero.
 unfoldable pub number_up_to : (most : ℕ) → List ℕ → Option ℕ
 number_up_to most word =
@@ -49,25 +54,30 @@ number_up_to most word =
 -- ---- Operands and options
 
 -- What may stand behind the name of a command: operands, in their order, the budget, if one is named, and whether a log
--- is asked for.
+-- or a report is asked for.
 pub data Arguments : Type 0 where
-  arguments : (operands : List (List ℕ)) (budget : Option ℕ) (log : Bool) → Arguments
+  arguments : (operands : List (List ℕ)) (budget : Option ℕ) (log report : Bool) → Arguments
 
 -- one operand more; no command takes three
 abbrev pub with_operand : List ℕ → Option Arguments → Option Arguments
-with_operand word (Some (arguments [] budget log)) = Some (arguments (word ∷ []) budget log)
-with_operand word (Some (arguments (first ∷ []) budget log)) = Some (arguments (first ∷ word ∷ []) budget log)
+with_operand word (Some (arguments [] budget log report)) = Some (arguments (word ∷ []) budget log report)
+with_operand word (Some (arguments (first ∷ []) budget log report)) = Some (arguments (first ∷ word ∷ []) budget log report)
 with_operand word before = None
 
 -- a budget, if none is named before
 abbrev pub with_budget : Option ℕ → Option Arguments → Option Arguments
-with_budget (Some number) (Some (arguments operands None log)) = Some (arguments operands (Some number) log)
+with_budget (Some number) (Some (arguments operands None log report)) = Some (arguments operands (Some number) log report)
 with_budget number before = None
 
 -- a log, if none is asked for before
 abbrev pub with_log : Option Arguments → Option Arguments
-with_log (Some (arguments operands budget false)) = Some (arguments operands budget true)
+with_log (Some (arguments operands budget false report)) = Some (arguments operands budget true report)
 with_log before = None
+
+-- a report, if none is asked for before
+abbrev pub with_report : Option Arguments → Option Arguments
+with_report (Some (arguments operands budget log false)) = Some (arguments operands budget log true)
+with_report before = None
 
 -- one word more: `--budget=N`, or an operand
 abbrev pub with_other_word : List ℕ → Option Arguments → Option Arguments
@@ -75,9 +85,10 @@ with_other_word word before =
     if is_word (take 9 word) (codes "--budget=") then with_budget (number_up_to most_budget (drop 9 word)) before
     else if is_operand word then with_operand word before else None
 
--- the same, or `--log`
+-- the same, or `--log` or `--report`
 abbrev pub with_word : List ℕ → Option Arguments → Option Arguments
-with_word word before = if is_word word (codes "--log") then with_log before else with_other_word word before
+with_word word before =
+    if is_word word (codes "--log") then with_log before else if is_word word (codes "--report") then with_report before else with_other_word word before
 
 -- More words, read from the left: the word behind `--budget` is its number.
 abbrev pub with_words : Option Arguments → List (List ℕ) → Option Arguments
@@ -89,7 +100,7 @@ with_words before (word ∷ next ∷ words) =
 
 -- what words behind the name of a command are: an option stands once at most, and anywhere
 abbrev pub arguments_of : List (List ℕ) → Option Arguments
-arguments_of words = with_words (Some (arguments [] None false)) words
+arguments_of words = with_words (Some (arguments [] None false false)) words
 
 -- ---- What words ask for
 
@@ -98,14 +109,20 @@ abbrev pub moved : (from to budget : Option ℕ) → Option Form
 moved (Some from) (Some to) budget = Some (Why from to budget)
 moved from to budget = None
 
+-- a number of rules
+abbrev pub tried : (rules : Option ℕ) → Option Form
+tried (Some rules) = Some (Trial rules)
+tried None = None
+
 -- what a command with these operands and options asks for
 abbrev pub asked : Topic → Option Arguments → Option Form
-asked topic.Min (Some (arguments [] budget false)) = Some (Min budget)
-asked topic.Dead (Some (arguments [] budget false)) = Some (Dead budget)
-asked topic.Style (Some (arguments [] None false)) = Some Style
-asked topic.Cmp (Some (arguments (left ∷ right ∷ []) budget log)) = Some (Cmp left right budget log)
-asked topic.Check (Some (arguments [] None false)) = Some Check
-asked topic.Why (Some (arguments (from ∷ to ∷ []) budget false)) = moved (number_up_to most_number from) (number_up_to most_number to) budget
+asked topic.Min (Some (arguments [] budget false report)) = Some (Min budget report)
+asked topic.Dead (Some (arguments [] budget false false)) = Some (Dead budget)
+asked topic.Style (Some (arguments [] None false false)) = Some Style
+asked topic.Cmp (Some (arguments (left ∷ right ∷ []) budget log false)) = Some (Cmp left right budget log)
+asked topic.Check (Some (arguments [] None false false)) = Some Check
+asked topic.Why (Some (arguments (from ∷ to ∷ []) budget false false)) = moved (number_up_to most_number from) (number_up_to most_number to) budget
+asked topic.Trial (Some (arguments (rules ∷ []) None false false)) = tried (number_up_to most_rules rules)
 asked about words = None
 
 -- the command of a name
@@ -116,7 +133,8 @@ command_named name =
     else if is_word name (codes "style") then Some topic.Style
     else if is_word name (codes "cmp") then Some topic.Cmp
     else if is_word name (codes "check") then Some topic.Check
-    else if is_word name (codes "why") then Some topic.Why else None
+    else if is_word name (codes "why") then Some topic.Why
+    else if is_word name (codes "trial") then Some topic.Trial else None
 
 -- whether the words behind a command ask how it is used
 abbrev pub asks_help : List (List ℕ) → Bool

@@ -1,6 +1,6 @@
 -- What a contract sees of a command, and of operands and options.
 use Rattle.std.specs.Prelude.{ℕ, List, [], ◌∷◌, Option, Some, None}
-use Rattle.command_words.specs.Forms.{Form, Min, Style, Dead, Cmp, Check, Why, Help, Version, Arguments, arguments}
+use Rattle.command_words.specs.Forms.{Form, Min, Style, Dead, Cmp, Check, Why, Trial, Help, Version, Arguments, arguments}
 use Rattle.command_words.specs.declared.command.Command.{Command}
 use Rattle.command_words.specs.declared.command.Command.TheVariants as command
 use Rattle.command_words.specs.declared.arguments.Arguments as read
@@ -9,12 +9,13 @@ use Rattle.command_words.specs.declared.arguments.Operands.TheVariants as operan
 
 -- the form of a command: its texts in place of the places where they stand
 abbrev pub form : Command → Form
-form (command.Min budget) = Min budget
+form (command.Min budget report) = Min budget report
 form command.Style = Style
 form (command.Dead budget) = Dead budget
 form (command.Cmp left right budget log) = Cmp left.now right.now budget log
 form command.Check = Check
 form (command.Why from to budget) = Why from to budget
+form (command.Trial rules) = Trial rules.number
 form (command.Help about) = Help about
 form command.Version = Version
 
@@ -30,4 +31,4 @@ texts (operands.Two first second) = first.now ∷ second.now ∷ []
 
 abbrev pub arguments_if_some : Option read.Arguments → Option Arguments
 arguments_if_some None = None
-arguments_if_some (Some read) = Some (arguments (texts read.operands) read.budget read.log)
+arguments_if_some (Some read) = Some (arguments (texts read.operands) read.budget read.log read.report)

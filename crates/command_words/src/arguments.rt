@@ -15,12 +15,13 @@ pub(crate) enum Operands<'a> {
     Two(&'a str, &'a str),
 }
 
-/// Operands, the budget, if one is named, and whether a log is asked for.
+/// Operands, the budget, if one is named, and whether a log or a report is asked for.
 #[derive(Clone, Copy, Debug)]
 pub(crate) struct Arguments<'a> {
     pub(crate) operands: Operands<'a>,
     pub(crate) budget: Option<u32>,
     pub(crate) log: bool,
+    pub(crate) report: bool,
 }
 
 /// Whether a word may be an operand.
@@ -73,7 +74,21 @@ fn with_log<'a>(before: Arguments<'a>) -> Option<Arguments<'a>>
     }
 }
 
-/// The same with one word that is not `--log` more.
+/// The same with a report, where none is asked for before.
+fn with_report<'a>(before: Arguments<'a>) -> Option<Arguments<'a>>
+    ensures { arguments_if_some result ≡ forms.with_report (arguments_if_some (Some before.entry)) }
+{
+    if before.report {
+        None
+    } else {
+        Some(Arguments {
+            report: true,
+            ..before
+        })
+    }
+}
+
+/// The same with one word that is not `--log` or `--report` more.
 fn with_other_word<'a>(word: &'a str, before: Arguments<'a>) -> Option<Arguments<'a>>
     ensures { arguments_if_some result ≡ forms.with_other_word word.now (arguments_if_some (Some before.entry)) }
 {
@@ -95,6 +110,8 @@ fn with_word<'a>(word: &'a str, before: Arguments<'a>) -> Option<Arguments<'a>>
 {
     if word == "--log" {
         with_log(before)
+    } else if word == "--report" {
+        with_report(before)
     } else {
         with_other_word(word, before)
     }
@@ -132,6 +149,7 @@ pub(crate) fn arguments_of<'a>(words: &'a [String]) -> Option<Arguments<'a>>
         operands: Operands::None,
         budget: None,
         log: false,
+        report: false,
     };
     with_words(none, words)
 }

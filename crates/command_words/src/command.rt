@@ -1,7 +1,30 @@
 //! What a command line asks for.
 
+ghost use Rattle.std.specs.Prelude.{◌≡◌, ◌≤◌};
+ghost use Rattle.command_words.specs.Forms.{most_rules};
+
 /// The greatest budget of learned clauses that words may name.
 pub const MOST_BUDGET: u32 = 20_000;
+
+/// The most rules of a made sheet that words may ask for.
+pub const MOST_RULES: u32 = 2_000;
+
+/// How many rules a made sheet is to have: at most `MOST_RULES`.
+#[derive(Clone, Copy, Debug)]
+pub struct RuleCount {
+    pub(crate) number: u32,
+    ghost few: { number ≤ most_rules },
+}
+
+impl RuleCount {
+    /// The number.
+    pub fn number(&self) -> u32
+        ensures is { result ≡ self.now.number }
+        ensures few { result ≤ most_rules }
+    {
+        self.number
+    }
+}
 
 /// What help is asked about.
 #[derive(Clone, Copy, Debug, PartialEq, Eq)]
@@ -20,6 +43,8 @@ pub enum Topic {
     Why,
     /// The command `check`.
     Check,
+    /// The command `trial`.
+    Trial,
 }
 
 /// What the program is to do.
@@ -29,6 +54,8 @@ pub enum Command<'a> {
     Min {
         /// How many clauses may be learned for a pair, where the words say it: at most `MOST_BUDGET`.
         budget: Option<u32>,
+        /// Whether a report is to be told.
+        report: bool,
     },
     /// Tell which selectors of a style sheet match nothing.
     Dead {
@@ -58,6 +85,11 @@ pub enum Command<'a> {
         to: u32,
         /// How many clauses may be learned for a pair, where the words say it: at most `MOST_BUDGET`.
         budget: Option<u32>,
+    },
+    /// Make a sheet and merge it, and tell what came of it.
+    Trial {
+        /// How many rules the sheet is to have.
+        rules: RuleCount,
     },
     /// Tell how the program, or a command of it, is used.
     Help(Topic),

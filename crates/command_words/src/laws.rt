@@ -1,8 +1,8 @@
 //! What follows from the definition of the forms, as functions that do nothing.
 
-ghost use Rattle.command_words.specs.Laws.{CmpComparesTwoWords, MinIsOneWord, MostBudgetIsDefined};
+ghost use Rattle.command_words.specs.Laws.{CmpComparesTwoWords, MinIsOneWord, MostBudgetIsDefined, MostRulesIsDefined};
 
-/// Exactly the one word `min` minifies with no budget named.
+/// Exactly the one word `min` minifies with no budget named and no report asked for.
 #[tactic(auto, using(crate::proofs::FormLaws::min_is_one_word))]
 pub fn min_is_one_word()
     ensures { MinIsOneWord }
@@ -17,4 +17,9 @@ pub fn cmp_compares_two_words()
 /// The greatest budget is that of the definition.
 pub fn most_budget_is_defined()
     ensures { MostBudgetIsDefined }
+{}
+
+/// The greatest number of rules is that of the definition.
+pub fn most_rules_is_defined()
+    ensures { MostRulesIsDefined }
 {}

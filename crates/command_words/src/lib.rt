@@ -7,8 +7,10 @@ mod laws;
 mod numbers;
 mod reading;
 
-pub use command::{Command, MOST_BUDGET, Topic};
-pub use laws::{cmp_compares_two_words, min_is_one_word, most_budget_is_defined};
+pub use command::{Command, MOST_BUDGET, MOST_RULES, RuleCount, Topic};
+pub use laws::{
+    cmp_compares_two_words, min_is_one_word, most_budget_is_defined, most_rules_is_defined,
+};
 pub use reading::command_of;
 
 #[cfg(test)]

@@ -5,7 +5,7 @@ ghost use Rattle.command_words.specs.Forms as forms;
 ghost use Rattle.command_words.specs.Views.{form_if_some, arguments_if_some};
 
 use crate::arguments::{Arguments, Operands, arguments_of};
-use crate::command::{Command, Topic};
+use crate::command::{Command, MOST_RULES, RuleCount, Topic};
 use crate::numbers::number_up_to;
 
 /// Whether a word asks how something is used.
@@ -36,23 +36,44 @@ fn moved<'a>(from: &str, to: &str, budget: Option<u32>) -> Option<Command<'a>>
     }
 }
 
+/// The trial of a made sheet, where the word is a number of its rules.
+fn tried<'a>(rules: &str) -> Option<Command<'a>>
+    ensures { form_if_some result ≡ forms.tried (forms.number_up_to forms.most_rules rules.now) }
+{
+    match number_up_to(MOST_RULES, rules) {
+        Some(number) => Some(Command::Trial {
+            rules: RuleCount { number },
+        }),
+        None => None,
+    }
+}
+
 /// The command with these operands and options.
 fn asked<'a>(about: Topic, words: Option<Arguments<'a>>) -> Option<Command<'a>>
     ensures { form_if_some result ≡ forms.asked about (arguments_if_some words.entry) }
 {
     let arguments = words?;
-    match (about, arguments.operands, arguments.budget, arguments.log) {
-        (Topic::Min, Operands::None, budget, false) => Some(Command::Min { budget }),
-        (Topic::Style, Operands::None, None, false) => Some(Command::Style),
-        (Topic::Dead, Operands::None, budget, false) => Some(Command::Dead { budget }),
-        (Topic::Cmp, Operands::Two(left, right), budget, log) => Some(Command::Cmp {
+    match (
+        about,
+        arguments.operands,
+        arguments.budget,
+        arguments.log,
+        arguments.report,
+    ) {
+        (Topic::Min, Operands::None, budget, false, report) => {
+            Some(Command::Min { budget, report })
+        }
+        (Topic::Style, Operands::None, None, false, false) => Some(Command::Style),
+        (Topic::Dead, Operands::None, budget, false, false) => Some(Command::Dead { budget }),
+        (Topic::Cmp, Operands::Two(left, right), budget, log, false) => Some(Command::Cmp {
             left,
             right,
             budget,
             log,
         }),
-        (Topic::Check, Operands::None, None, false) => Some(Command::Check),
-        (Topic::Why, Operands::Two(from, to), budget, false) => moved(from, to, budget),
+        (Topic::Check, Operands::None, None, false, false) => Some(Command::Check),
+        (Topic::Why, Operands::Two(from, to), budget, false, false) => moved(from, to, budget),
+        (Topic::Trial, Operands::One(rules), None, false, false) => tried(rules),
         _ => None,
     }
 }
@@ -74,6 +95,8 @@ fn command_named(name: &str) -> Option<Topic>
         Some(Topic::Check)
     } else if name == "why" {
         Some(Topic::Why)
+    } else if name == "trial" {
+        Some(Topic::Trial)
     } else {
         None
     }

@@ -41,21 +41,21 @@ unspent pairs x y ledger none all_true held =
     (All-contains (λ (a : Answered). IsTrueAnswer a.left a.right pairs.budget a.answer) pairs.answers (record { left = x; right = y; answer = Spent ledger }) t.true_answers held)).limited none)
 
 -- where answers are held, a text was made by them
-made : (budget : Option ℕ) (status : Status) (input output : Change) (held : Option PairsParts) (pairs : PairsParts) → MinDoes budget status input output held → held ≡ Some pairs
-    → (read : List ℕ) × (text : List ℕ) × Merges budget read text held
-made budget Done input output held pairs does is = (does.read, does.text, does.made)
-made budget Usage input output held pairs does is = absurd does.0
-made budget (SheetRefused fault) input output held pairs does is = absurd (let none : held ≡ None = does.2 in let bad : ⊥ = cc in bad)
-made budget (NoItem fault) input output held pairs does is = absurd (let none : held ≡ None = does.2 in let bad : ⊥ = cc in bad)
-made budget (DocRefused fault) input output held pairs does is = absurd (let none : held ≡ None = does.2 in let bad : ⊥ = cc in bad)
-made budget (LogRefused fault) input output held pairs does is = absurd (let none : held ≡ None = does.2 in let bad : ⊥ = cc in bad)
-made budget ReadFault input output held pairs does is = absurd (let none : held ≡ None = does.1 in let bad : ⊥ = cc in bad)
-made budget WriteFault input output held pairs does is = (does.read, does.text, does.made)
-made budget NoMemory input output held pairs does is = absurd (let none : held ≡ None = does in let bad : ⊥ = cc in bad)
+made : (budget : Option ℕ) (asked : Bool) (status : Status) (input output err : Change) (held : Option PairsParts) (pairs : PairsParts) → MinDoes budget asked status input output err held → held ≡ Some pairs
+    → (read : List ℕ) × (text : List ℕ) × (report : List ℕ) × Merges budget asked read text report held
+made budget asked Done input output err held pairs does is = (does.read, does.text, does.report, does.made)
+made budget asked Usage input output err held pairs does is = absurd does.0
+made budget asked (SheetRefused fault) input output err held pairs does is = absurd (let none : held ≡ None = does.2 in let bad : ⊥ = cc in bad)
+made budget asked (NoItem fault) input output err held pairs does is = absurd (let none : held ≡ None = does.2 in let bad : ⊥ = cc in bad)
+made budget asked (DocRefused fault) input output err held pairs does is = absurd (let none : held ≡ None = does.2 in let bad : ⊥ = cc in bad)
+made budget asked (LogRefused fault) input output err held pairs does is = absurd (let none : held ≡ None = does.2 in let bad : ⊥ = cc in bad)
+made budget asked ReadFault input output err held pairs does is = absurd (let none : held ≡ None = does.1 in let bad : ⊥ = cc in bad)
+made budget asked WriteFault input output err held pairs does is = (does.read, does.text, does.report, does.made)
+made budget asked NoMemory input output err held pairs does is = absurd (let none : held ≡ None = does.0 in let bad : ⊥ = cc in bad)
 
-pub none_spent : (words : List (List ℕ)) (status : Status) (input output err : Change) (held : Option PairsParts) (pairs : PairsParts) (x y : SelectorParts) (ledger : List (List Lit)) → Ran words status input output err held
-    → form_of words ≡ Some (Min None) → held ≡ Some pairs → IsAnswered pairs.answers x y (Spent ledger) → ⊥
-none_spent words status input output err held pairs x y ledger ran min is spent =
-    let m = made None status input output held pairs (min_did words None status input output err held ran min) is in
-    let same : m.2.pairs ≡ pairs = (let a : held ≡ Some m.2.pairs = m.2.held_is in cc) in
-    unspent m.2.pairs x y ledger m.2.same_budget m.2.all_true (subst (λ (p : PairsParts). IsAnswered p.answers x y (Spent ledger)) (sym same) spent)
+pub none_spent : (words : List (List ℕ)) (asked : Bool) (status : Status) (input output err : Change) (held : Option PairsParts) (pairs : PairsParts) (x y : SelectorParts) (ledger : List (List Lit)) → Ran words status input output err held
+    → form_of words ≡ Some (Min None asked) → held ≡ Some pairs → IsAnswered pairs.answers x y (Spent ledger) → ⊥
+none_spent words asked status input output err held pairs x y ledger ran min is spent =
+    let m = made None asked status input output err held pairs (min_did words None asked status input output err held ran min) is in
+    let same : m.3.pairs ≡ pairs = (let a : held ≡ Some m.3.pairs = m.3.held_is in cc) in
+    unspent m.3.pairs x y ledger m.3.same_budget m.3.all_true (subst (λ (p : PairsParts). IsAnswered p.answers x y (Spent ledger)) (sym same) spent)

@@ -1,6 +1,7 @@
 mod Budgets
 mod Faults
 mod Forms
+mod Merging
 mod Outcomes
 mod Reading
 mod Told

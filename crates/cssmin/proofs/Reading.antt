@@ -27,7 +27,7 @@ long_read most Refused (Some bytes) left' cause taken = (cause bytes (above most
     above : (limit n : ℕ) → limit + 1 ≤ n → limit < n
     above limit n more = omega (arith, more)
 
-pub reads_too_long : (most : ℕ) (Makes : (read text : List ℕ) (held : Option PairsParts) → Type 0) (Refuses : Status → List ℕ → Type 0) (status : Status) (left left' : Option (List ℕ)) (n n' : ℕ)
+pub reads_too_long : (most : ℕ) (Makes : (read text report : List ℕ) (held : Option PairsParts) → Type 0) (Refuses : Status → List ℕ → Type 0) (status : Status) (left left' : Option (List ℕ)) (n n' : ℕ)
     → IsRefusal status → ((read : List ℕ) → most < length read → Refuses status read) → HasTaken (most + 1) left left'
     → Reads most Makes Refuses (Err status) (record { old = left; new = left'; old_faults = n; new_faults = n' })
 reads_too_long most Makes Refuses Done left left' n n' is cause taken = absurd is
@@ -50,7 +50,7 @@ refused_read most Refused (Some bytes) left' read all short is =
     past : (limit m n : ℕ) → m ≡ n → m ≤ limit → n ≤ limit + 1
     past limit m n same short = omega (arith, same, short)
 
-pub reads_answered : (most : ℕ) (Makes : (read text : List ℕ) (held : Option PairsParts) → Type 0) (Refuses : Status → List ℕ → Type 0) (result : Result Answer Status) (read : List ℕ)
+pub reads_answered : (most : ℕ) (Makes : (read text report : List ℕ) (held : Option PairsParts) → Type 0) (Refuses : Status → List ℕ → Type 0) (result : Result Answer Status) (read : List ℕ)
     (left left' : Option (List ℕ)) (n n' : ℕ) → IfSome left (λ bytes. (read ≡ bytes) × (left' ≡ Some [])) → length read ≤ most → IsAnswered Makes Refuses read result
     → Reads most Makes Refuses result (record { old = left; new = left'; old_faults = n; new_faults = n' })
 reads_answered most Makes Refuses (Ok answer) read left left' n n' all short is = (read, swap left left' read all, is)

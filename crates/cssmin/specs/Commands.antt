@@ -4,4 +4,5 @@ pub mod Cmp
 pub mod Dead
 pub mod Min
 pub mod Style
+pub mod Trial
 pub mod Why

@@ -1,6 +1,7 @@
--- Writing a text that a command made.
-use Rattle.std.specs.Prelude.{ℕ, ◌<◌, List, length, take}
+-- Writing a text that a command made, and its report.
+use Rattle.std.specs.Prelude.{◌⊎◌, ℕ, ◌<◌, List, [], length, take}
 use Rattle.cssmin.specs.Change.{Change, HasFailed, Adds}
+use Rattle.cssmin.specs.Telling.{Tells}
 use Rattle.cssmin.specs.declared.status.Status.{Status}
 use Rattle.cssmin.specs.declared.status.Status.TheVariants.{Done, WriteFault, NoMemory}
 
@@ -8,15 +9,19 @@ use Rattle.cssmin.specs.declared.status.Status.TheVariants.{Done, WriteFault, No
 abbrev pub AddsFront : List ℕ → Change → Type 0
 AddsFront text output = HasFailed output × ((count : ℕ) × (count < length text) × Adds (take count text) output)
 
--- What writing a text did, by the status: all of it was written, or a front of it.
-abbrev pub Writes : List ℕ → Status → Change → Type 0
-Writes text Done output = Adds text output
-Writes text WriteFault output = AddsFront text output
-Writes text status output = ⊥
+-- Only a front of a text was written, and that was told; or all of it was, and only a front of its report.
+abbrev pub Stops : (text report : List ℕ) → (output err : Change) → Type 0
+Stops text report output err = (AddsFront text output × Tells WriteFault err) ⊎ (Adds text output × AddsFront report err)
+
+-- What writing a text and then its report did, by the status: all of both was written, or it stopped.
+abbrev pub Writes : (text report : List ℕ) → Status → (output err : Change) → Type 0
+Writes text report Done output err = Adds text output × Adds report err
+Writes text report WriteFault output err = Stops text report output err
+Writes text report status output err = ⊥
 
 -- What a command that makes a text of this kind and writes it did, by its status.
-abbrev pub WritesSome : (kind : List ℕ → Type 0) → Status → Change → Type 0
-WritesSome kind Done output = (text : List ℕ) × kind text × Adds text output
-WritesSome kind WriteFault output = (text : List ℕ) × kind text × AddsFront text output
-WritesSome kind NoMemory output = Unit {0}
-WritesSome kind status output = ⊥
+abbrev pub WritesSome : (kind : List ℕ → Type 0) → Status → (output err : Change) → Type 0
+WritesSome kind Done output err = (text : List ℕ) × kind text × Writes text [] Done output err
+WritesSome kind WriteFault output err = (text : List ℕ) × kind text × Writes text [] WriteFault output err
+WritesSome kind NoMemory output err = Tells NoMemory err
+WritesSome kind status output err = ⊥

@@ -6,4 +6,5 @@ pub(crate) mod cmp;
 pub(crate) mod dead;
 pub(crate) mod min;
 pub(crate) mod style;
+pub(crate) mod trial;
 pub(crate) mod why;

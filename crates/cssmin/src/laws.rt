@@ -11,6 +11,7 @@ pub(crate) fn words_decide_usage()
     ensures style { laws.StyleDoesItsWord }
     ensures dead { laws.DeadDoesItsWord }
     ensures check { laws.CheckDoesItsWord }
+    ensures trial { laws.TrialDoesItsWord }
 {}
 
 /// What each status says of the input and the output.
@@ -21,6 +22,7 @@ pub(crate) fn each_status_has_its_cause()
     ensures read_fault { laws.ReadFaultHasFailed }
     ensures write_fault { laws.WriteFaultHasFailed }
     ensures front { laws.WriteFaultLeavesAFront }
+    ensures told { laws.StatusIsTold }
 {}
 
 /// Which status comes, but for want of memory, where no stream failed.

@@ -13,6 +13,7 @@ use crate::commands::cmp::cmp;
 use crate::commands::dead::Dead;
 use crate::commands::min::Min;
 use crate::commands::style::Style;
+use crate::commands::trial::trial;
 use crate::commands::why::Why;
 use crate::status::Status;
 use crate::tasks::perform;
@@ -22,30 +23,40 @@ use css_io::{Sink, Source};
 use overlap::Pairs;
 use std::alloc::{AllocError, Global};
 
-/// What a run does but for what it tells, by the command that the words are. Nothing is `held` before.
-fn obey<S: Source, O: Sink>(
+/// What a run does, by the command that the words are. Nothing is `held` before.
+fn obey<S: Source, O: Sink, E: Sink>(
     alloc: Global,
+    words: &Vec<String>,
     command: Option<Command<'_>>,
     input: &mut S,
     out: &mut O,
+    err: &mut E,
     held: &mut Option<Pairs>,
 ) -> Status
-    requires fits { (bytes : List ℕ) → O.fits out.old bytes }
+    requires out_fits { (bytes : List ℕ) → O.fits out.old bytes }
+    requires err_fits { (bytes : List ℕ) → E.fits err.old bytes }
     requires unheld { held.old ≡ None }
     ensures answers { Answers (form_if_some command.entry) result
         (change_of S.left S.faults input.old input.new)
-        (change_of O.written O.faults out.old out.new) held.new }
+        (change_of O.written O.faults out.old out.new)
+        (change_of E.written E.faults err.old err.new) held.new }
     ensures untouched { result ≢ Status.Done → result ≢ Status.WriteFault → out.new ≡ out.old }
     ensures bounded { TakesAtMost (most_taken (form_if_some command.entry))
         (change_of S.left S.faults input.old input.new) }
     ensures unread { needs_input (form_if_some command.entry) ≡ false → input.new ≡ input.old }
     ensures input_later { S.faults input.old ≤ S.faults input.new }
     ensures out_later { O.faults out.old ≤ O.faults out.new }
+    ensures err_later { E.faults err.old ≤ E.faults err.new }
 {
     match command {
-        Some(Command::Min { budget }) => perform(alloc, &Min { budget }, input, out, held),
-        Some(Command::Dead { budget }) => perform(alloc, &Dead { budget }, input, out, held),
-        Some(Command::Style) => perform(alloc, &Style, input, out, held),
+        Some(Command::Min { budget, report }) => {
+            let asked = report;
+            perform(alloc, words, &Min { budget, asked }, input, out, err, held)
+        }
+        Some(Command::Dead { budget }) => {
+            perform(alloc, words, &Dead { budget }, input, out, err, held)
+        }
+        Some(Command::Style) => perform(alloc, words, &Style, input, out, err, held),
         Some(
             Command::Cmp {
                 left,
@@ -53,25 +64,36 @@ fn obey<S: Source, O: Sink>(
                 budget,
                 log,
             },
-        ) => cmp(alloc, left, right, budget, log, out, held),
-        Some(Command::Check) => perform(alloc, &Check, input, out, held),
+        ) => cmp(alloc, left, right, budget, log, out, err, held),
+        Some(Command::Check) => perform(alloc, words, &Check, input, out, err, held),
         Some(Command::Why { from, to, budget }) => {
-            perform(alloc, &Why { from, to, budget }, input, out, held)
+            perform(
+                alloc,
+                words,
+                &Why { from, to, budget },
+                input,
+                out,
+                err,
+                held,
+            )
         }
-        Some(Command::Help(about)) => help(alloc, about, out),
-        Some(Command::Version) => version(alloc, out),
-        None => Status::Usage,
+        Some(Command::Trial { rules }) => trial(alloc, words, rules.number(), out, err, held),
+        Some(Command::Help(about)) => help(alloc, about, out, err),
+        Some(Command::Version) => version(alloc, out, err),
+        None => tell(alloc, words, Status::Usage, err),
     }
 }
 
 #[tactic(auto, using(crate::proofs::Forms::answered))]
 /// Runs the program on the words after its name. `min` reads a style sheet from `input` to its end, and writes
-/// it to `out` with the same winners of the cascade, in no more bytes. `dead` reads one too, and writes to `out` which
+/// it to `out` with the same winners of the cascade, in no more bytes; its report is told on `err`, where it is asked for,
+/// behind the text. `dead` reads one too, and writes to `out` which
 /// of its selectors match nothing. `style` reads a document and a
 /// sheet, and writes to `out` which declarations win. `cmp LEFT RIGHT` compares two selectors,
 /// and writes to `out` whether one element can match both. `check` reads a log, and writes to `out` whether it
 /// refutes its formula. `why FROM TO` reads a sheet, and writes to `out` what hinders the move of one rule to another;
-/// `NoItem` comes exactly where there is no item of one of these numbers. Words that ask for help or the version have it
+/// `NoItem` comes exactly where there is no item of one of these numbers. `trial N` merges a made sheet of N rules, and writes
+/// to `out` what came of it. Words that ask for help or the version have it
 /// written to `out`. What else happened is told on `err`.
 ///
 /// `Usage` comes exactly of words that have no form. A sheet with a fault is refused (`SheetRefused`), and so is
@@ -96,7 +118,7 @@ pub fn run<S: Source, O: Sink, E: Sink>(
     requires out_fits { (bytes : List ℕ) → O.fits out.old bytes }
     requires err_fits { (bytes : List ℕ) → E.fits err.old bytes }
 
-    // Exactly words without a form are refused; else what they ask for was done. The status was told.
+    // Exactly words without a form are refused; else what they ask for was done, and what came of it was told.
     ensures ran { Ran (map string_bytes words.now.items) result
         (change_of S.left S.faults input.old input.new)
         (change_of O.written O.faults out.old out.new)
@@ -114,8 +136,7 @@ pub fn run<S: Source, O: Sink, E: Sink>(
         × (E.faults err.old ≤ E.faults err.new) }
 {
     *held = None;
-    let status = obey(alloc, command_of(words), input, out, held);
-    tell(alloc, words, status, err)
+    obey(alloc, words, command_of(words), input, out, err, held)
 }
 
 /// Runs the program on its words, where there was room for them; else it tells that there was none.
@@ -136,7 +157,7 @@ pub fn run_words<S: Source, O: Sink, E: Sink>(
     ensures no_room { IsErr words → result ≡ Status.NoMemory }
     ensures unread { IsErr words → input.new ≡ input.old }
     ensures unheld { IsErr words → held.new ≡ None }
-    ensures told { Tells result (change_of E.written E.faults err.old err.new) }
+    ensures told { IsErr words → Tells result (change_of E.written E.faults err.old err.new) }
     ensures untouched { result ≢ Status.Done → result ≢ Status.WriteFault → out.new ≡ out.old }
 {
     match words {

@@ -75,6 +75,15 @@ pub(crate) fn tell_no_memory<E: Sink>(err: &mut E) -> Status
     Status::NoMemory
 }
 
+/// Tells that a write failed.
+pub(crate) fn tell_write_fault<E: Sink>(err: &mut E)
+    requires { (bytes : List ℕ) → E.fits err.old bytes }
+    ensures told { Tells Status.WriteFault (change_of E.written E.faults err.old err.new) }
+    ensures later { E.faults err.old ≤ E.faults err.new }
+{
+    tell_text(b"write fault\n", err);
+}
+
 /// Tells by this line why the input was refused, where there was memory for it. The answer is the status of that, or
 /// that there was no memory.
 fn tell_refusal<E: Sink>(line: Result<String, AllocError>, status: Status, err: &mut E) -> Status
@@ -114,7 +123,7 @@ pub(crate) fn tell<E: Sink>(
         Status::DocRefused(fault) => return tell_refusal(doc_refusal(alloc, fault), status, err),
         Status::NoItem(number) => return tell_refusal(item_refusal(alloc, number), status, err),
         Status::ReadFault => tell_text(b"read fault\n", err),
-        Status::WriteFault => tell_text(b"write fault\n", err),
+        Status::WriteFault => tell_write_fault(err),
         Status::NoMemory => return tell_no_memory(err),
     }
     status

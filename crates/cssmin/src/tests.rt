@@ -189,6 +189,55 @@ fn merges(rt: HostRuntime) -> Result<(), Fail> {
     Ok(())
 }
 
+// Sheets with the reports of them, worked by hand.
+const REPORTED: [(&str, &str, &str); 4] = [
+    ("", "", "items 0 0\nbytes 0 0\nsteps 0\n"),
+    (
+        ".a{top:0}.b{top:1px}.a{top:2px}",
+        ".a{top:0}.b{top:1px}.a{top:2px}",
+        "items 3 3\nbytes 31 31\nsteps 0\nblocked JoinSelUp 1 3 meet 2\nblocked JoinSelDown 1 3 meet 2\n",
+    ),
+    (
+        ".a{top:0;color:red;clear:both}.b{color:red;clear:both;width:1px}",
+        ".a{top:0}.a,.b{color:red;clear:both}.b{width:1px}",
+        "items 2 3\nbytes 64 49\nsteps 1\n",
+    ),
+    (
+        ".a{margin:0;margin-left:1px}.b{margin:0}",
+        ".a{margin:0;margin-left:1px}.b{margin:0}",
+        "items 2 2\nbytes 40 40\nsteps 0\nblocked Share 1 2 meet 1\n",
+    ),
+];
+
+#[test]
+fn reports(rt: HostRuntime) -> Result<(), Fail> {
+    let mut roomy = Outside::faultless();
+    roomy.err_room = 1000;
+    for (text, merged, report) in REPORTED {
+        let ran = run_over(rt.alloc(), "min --report", text.as_bytes(), roomy)?;
+        ran.assert_is(&rt, Status::Done, merged.as_bytes(), report.as_bytes());
+    }
+    // After a fault of the report alone the whole text stands on the output.
+    roomy.err_room = 8;
+    let ran = run_over(rt.alloc(), "min --report", SHEET, roomy)?;
+    ran.assert_is(&rt, Status::WriteFault, PRINTED, b"items 1 ");
+    Ok(())
+}
+
+#[test]
+fn tries_made_sheets(rt: HostRuntime) -> Result<(), Fail> {
+    for (line, text) in [
+        ("trial 0", "items 0 0\nbytes 0 0\nsteps 0\n"),
+        ("trial 1", "items 1 1\nbytes 16 16\nsteps 0\n"),
+        ("trial 3", "items 3 3\nbytes 61 61\nsteps 0\n"),
+    ] {
+        let ran = run_line(rt.alloc(), line, Outside::faultless())?;
+        ran.assert_wrote(&rt, text);
+        assert!(rt; ran.held.is_some(), "{line}");
+    }
+    Ok(())
+}
+
 fn fault(kind: FaultKind, at: u32) -> SheetFault {
     SheetFault { kind, at }
 }
@@ -280,6 +329,7 @@ fn tells_of_itself(rt: HostRuntime) -> Result<(), Fail> {
         "style --help",
         "dead --help",
         "check --help",
+        "trial --help",
     ] {
         let ran = run_line(rt.alloc(), line, roomy)?;
         assert!(rt; ran.status == Status::Done, "{line}");

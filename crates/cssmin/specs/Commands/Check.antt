@@ -4,7 +4,7 @@ use Rattle.log_text.specs.CheckedTexts as log
 use Rattle.log_text.specs.declared.error.CheckError.TheVariants as unchecked
 use Rattle.overlap.specs.PairsParts.{PairsParts}
 use Rattle.cssmin.specs.Change.{Change}
-use Rattle.cssmin.specs.Tasks.{Does}
+use Rattle.cssmin.specs.Tasks.{Does, Silent}
 use Rattle.cssmin.specs.declared.status.LogFault.TheVariants.{TooLong, BadLine}
 use Rattle.cssmin.specs.declared.status.Status.{Status}
 use Rattle.cssmin.specs.declared.status.Status.TheVariants.{LogRefused}
@@ -19,5 +19,5 @@ CheckRefuses (LogRefused TooLong) read = log.Refuses read unchecked.TooLong
 CheckRefuses (LogRefused (BadLine line)) read = log.Refuses read (unchecked.BadLine line)
 CheckRefuses status read = ⊥
 
-abbrev pub CheckDoes : Status → (input output : Change) → (held : Option PairsParts) → Type 0
-CheckDoes status input output held = Does log.max_log_bytes Checks CheckRefuses status input output held
+abbrev pub CheckDoes : Status → (input output err : Change) → (held : Option PairsParts) → Type 0
+CheckDoes status input output err held = Does log.max_log_bytes (Silent Checks) CheckRefuses status input output err held

@@ -5,8 +5,9 @@ use Rattle.compare_text.specs.ComparedTexts.{selector_or_reason, AsksFor, IsComp
 use Rattle.compare_text.specs.LoggedTexts.{IsComparedWithLog}
 use Rattle.css_model.specs.Documents.SelectorParts.{SelectorParts}
 use Rattle.overlap.specs.PairsParts.{PairsParts}
-use Rattle.cssmin.specs.Change.{Change, Adds}
-use Rattle.cssmin.specs.Writing.{AddsFront}
+use Rattle.cssmin.specs.Change.{Change}
+use Rattle.cssmin.specs.Telling.{Tells}
+use Rattle.cssmin.specs.Writing.{Writes}
 use Rattle.cssmin.specs.declared.status.Status.{Status}
 use Rattle.cssmin.specs.declared.status.Status.TheVariants.{Done, WriteFault, NoMemory}
 
@@ -29,8 +30,8 @@ pub record IsAnswer (left right : List ℕ) (budget : Option ℕ) (log : Bool) (
   pub compared : IsTextOf log (selector_or_reason left) (selector_or_reason right) pairs text
 
 -- What `cmp` did, by its status. Want of memory is told before the first byte is written.
-abbrev pub CmpDoes : (left right : List ℕ) (budget : Option ℕ) (log : Bool) → Status → (output : Change) → (held : Option PairsParts) → Type 0
-CmpDoes left right budget log Done output held = (text : List ℕ) × IsAnswer left right budget log held text × Adds text output
-CmpDoes left right budget log WriteFault output held = (text : List ℕ) × IsAnswer left right budget log held text × AddsFront text output
-CmpDoes left right budget log NoMemory output held = held ≡ None
-CmpDoes left right budget log status output held = ⊥
+abbrev pub CmpDoes : (left right : List ℕ) (budget : Option ℕ) (log : Bool) → Status → (output err : Change) → (held : Option PairsParts) → Type 0
+CmpDoes left right budget log Done output err held = (text : List ℕ) × IsAnswer left right budget log held text × Writes text [] Done output err
+CmpDoes left right budget log WriteFault output err held = (text : List ℕ) × IsAnswer left right budget log held text × Writes text [] WriteFault output err
+CmpDoes left right budget log NoMemory output err held = (held ≡ None) × Tells NoMemory err
+CmpDoes left right budget log status output err held = ⊥

@@ -7,7 +7,7 @@ use Rattle.overlap.specs.PairsParts.{PairsParts}
 use Rattle.cssmin.specs.Change.{Change}
 use Rattle.cssmin.specs.Commands.Cmp.{unasked}
 use Rattle.cssmin.specs.Commands.Min.{MinRefuses}
-use Rattle.cssmin.specs.Tasks.{Does}
+use Rattle.cssmin.specs.Tasks.{Does, Silent}
 use Rattle.cssmin.specs.declared.status.Status.{Status}
 
 -- What the run asked for is held, only for the selectors of the sheet, and the text tells each one's life by it.
@@ -15,5 +15,5 @@ abbrev pub TellsLives : (budget : Option ℕ) → (read text : List ℕ) (held :
 TellsLives budget read text held = (pairs : PairsParts) × (held ≡ Some pairs) × AsksOf (sheet_of read) (unasked budget) pairs × TellsOf pairs read text
 
 -- A sheet is refused as `min` refuses it.
-abbrev pub DeadDoes : (budget : Option ℕ) → Status → (input output : Change) → (held : Option PairsParts) → Type 0
-DeadDoes budget status input output held = Does max_bytes (TellsLives budget) MinRefuses status input output held
+abbrev pub DeadDoes : (budget : Option ℕ) → Status → (input output err : Change) → (held : Option PairsParts) → Type 0
+DeadDoes budget status input output err held = Does max_bytes (Silent (TellsLives budget)) MinRefuses status input output err held

@@ -1,8 +1,11 @@
--- What `min` does: a style sheet on the input, its merged text on the output.
-use Rattle.std.specs.Prelude.{◌≡◌, ℕ, List, map, Option, Some}
+-- What `min` does: a style sheet on the input, its merged text on the output, and a report where one is asked for.
+use Rattle.std.specs.Prelude.{◌≡◌, ℕ, Bool, true, false, List, [], map, Option, Some}
 use Rattle.css_model.specs.Sheets.Limits.{max_bytes}
 use Rattle.merge_laws.specs.Merged.{IsMerged}
-use Rattle.overlap.specs.PairsParts.{PairsParts}
+use Rattle.merge_report.specs.Reports.{IsReport}
+use Rattle.merge_text.specs.declared.merged.MergedText.{MergedText}
+use Rattle.merge_text.specs.MergedTexts.{IsTold}
+use Rattle.overlap.specs.PairsParts.{Answered, PairsParts}
 use Rattle.overlap.specs.Remembered.{IsTrueList}
 use Rattle.sheet_order.specs.Laws.{answer_seen}
 use Rattle.cssmin.specs.Change.{Change}
@@ -12,19 +15,32 @@ use Rattle.cssmin.specs.Tasks.{Does}
 use Rattle.cssmin.specs.declared.status.Status.{Status}
 use Rattle.cssmin.specs.declared.status.Status.TheVariants.{SheetRefused}
 
+-- what is told of a merged text: nothing, or its report where one is asked for
+abbrev pub IsToldOf : (asked : Bool) → List Answered → (read text report : List ℕ) → Type 0
+IsToldOf false answers read text report = report ≡ []
+IsToldOf true answers read text report = IsReport answers read text report
+
 -- What the run asked for is held, with the budget of the words, and it is true. By these answers the text is that of
--- the merged sheet: the same winners in every legal document, no more bytes, and nothing is left to do in it.
-pub record Merges (budget : Option ℕ) (read text : List ℕ) (held : Option PairsParts) : Type 0 where
+-- the merged sheet: the same winners in every legal document, no more bytes, and nothing is left to do in it; and the
+-- report is told by them.
+pub record Merges (budget : Option ℕ) (asked : Bool) (read text report : List ℕ) (held : Option PairsParts) : Type 0 where
   pub pairs : PairsParts
   pub held_is : held ≡ Some pairs
   pub same_budget : pairs.budget ≡ (unasked budget).budget
   pub all_true : ∥ IsTrueList pairs ∥₁
   pub merged : IsMerged (map answer_seen pairs.answers) read text
+  pub told : IsToldOf asked pairs.answers read text report
+
+-- what merging gave, on the way there
+pub record IsMergedBy (budget : Option ℕ) (read : List ℕ) (pairs : PairsParts) (m : MergedText) : Type 0 where
+  pub same_budget : pairs.budget ≡ (unasked budget).budget
+  pub merged : IsMerged (map answer_seen pairs.answers) read m.text.items
+  pub told : IsTold (map answer_seen pairs.answers) read m
 
 -- a sheet is refused for its fault
 abbrev pub MinRefuses : Status → List ℕ → Type 0
 MinRefuses (SheetRefused fault) read = HasFault read fault
 MinRefuses status read = ⊥
 
-abbrev pub MinDoes : (budget : Option ℕ) → Status → (input output : Change) → (held : Option PairsParts) → Type 0
-MinDoes budget status input output held = Does max_bytes (Merges budget) MinRefuses status input output held
+abbrev pub MinDoes : (budget : Option ℕ) (asked : Bool) → Status → (input output err : Change) → (held : Option PairsParts) → Type 0
+MinDoes budget asked status input output err held = Does max_bytes (Merges budget asked) MinRefuses status input output err held

@@ -4,7 +4,7 @@ use Rattle.css_model.specs.Sheets.Limits.{max_bytes}
 use Rattle.overlap.specs.PairsParts.{PairsParts}
 use Rattle.style_text.specs.Styled.{IsDocRefused, IsSheetRefused, IsStyled}
 use Rattle.cssmin.specs.Change.{Change}
-use Rattle.cssmin.specs.Tasks.{Does}
+use Rattle.cssmin.specs.Tasks.{Does, Silent}
 use Rattle.cssmin.specs.declared.status.Status.{Status}
 use Rattle.cssmin.specs.declared.status.Status.TheVariants.{SheetRefused, DocRefused}
 
@@ -18,5 +18,5 @@ StyleRefuses (SheetRefused fault) read = IsSheetRefused read fault
 StyleRefuses (DocRefused fault) read = IsDocRefused read fault
 StyleRefuses status read = ⊥
 
-abbrev pub StyleDoes : Status → (input output : Change) → (held : Option PairsParts) → Type 0
-StyleDoes status input output held = Does max_bytes TellsWinners StyleRefuses status input output held
+abbrev pub StyleDoes : Status → (input output err : Change) → (held : Option PairsParts) → Type 0
+StyleDoes status input output err held = Does max_bytes (Silent TellsWinners) StyleRefuses status input output err held

@@ -7,7 +7,7 @@ use Rattle.why_text.specs.WhyTexts.{Asks, IsCause, IsWhyText}
 use Rattle.why_text.specs.declared.error.WhyError.TheVariants as unexplained
 use Rattle.cssmin.specs.Change.{Change}
 use Rattle.cssmin.specs.Commands.Cmp.{unasked}
-use Rattle.cssmin.specs.Tasks.{Does}
+use Rattle.cssmin.specs.Tasks.{Does, Silent}
 use Rattle.cssmin.specs.declared.status.Status.{Status}
 use Rattle.cssmin.specs.declared.status.Status.TheVariants.{SheetRefused, NoItem}
 
@@ -21,5 +21,5 @@ WhyRefuses from to (SheetRefused fault) read = IsCause read from to (unexplained
 WhyRefuses from to (NoItem number) read = IsCause read from to (unexplained.NoItem number)
 WhyRefuses from to status read = ⊥
 
-abbrev pub WhyDoes : (from to : ℕ) (budget : Option ℕ) → Status → (input output : Change) → (held : Option PairsParts) → Type 0
-WhyDoes from to budget status input output held = Does max_bytes (ExplainsMove from to budget) (WhyRefuses from to) status input output held
+abbrev pub WhyDoes : (from to : ℕ) (budget : Option ℕ) → Status → (input output err : Change) → (held : Option PairsParts) → Type 0
+WhyDoes from to budget status input output err held = Does max_bytes (Silent (ExplainsMove from to budget)) (WhyRefuses from to) status input output err held

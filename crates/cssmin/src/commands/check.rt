@@ -2,6 +2,7 @@
 
 ghost use Rattle.cssmin.specs.Commands.Check.{CheckRefuses, Checks};
 ghost use Rattle.log_text.specs.CheckedTexts.{max_log_bytes};
+ghost use Rattle.cssmin.specs.Tasks.{Silent};
 
 use crate::status::{LogFault, Status};
 use crate::tasks::{Answer, Task};
@@ -15,7 +16,7 @@ pub(crate) struct Check;
 impl Task for Check {
     ghost most = { λ _. max_log_bytes };
 
-    ghost makes = { λ _. Checks };
+    ghost makes = { λ _. Silent Checks };
 
     ghost refuses = { λ _. CheckRefuses };
 
@@ -29,7 +30,11 @@ impl Task for Check {
 
     fn answer(&self, alloc: Global, bytes: &[u8]) -> Result<Answer, Status> {
         match check_text(alloc, bytes) {
-            Ok(text) => Ok(Answer { text, held: None }),
+            Ok(text) => Ok(Answer {
+                text,
+                report: Vec::new(alloc),
+                held: None,
+            }),
             Err(CheckError::TooLong) => Err(Status::LogRefused(LogFault::TooLong)),
             Err(CheckError::BadLine(line)) => Err(Status::LogRefused(LogFault::BadLine(line))),
             Err(CheckError::NoMemory) => Err(Status::NoMemory),

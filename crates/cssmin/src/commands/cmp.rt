@@ -6,6 +6,7 @@ ghost use Rattle.cssmin.specs.Change.{change_of};
 ghost use Rattle.cssmin.specs.Commands.Cmp.{unasked, CmpDoes, IsAnswer, IsTextOf};
 
 use crate::status::Status;
+use crate::telling::tell_no_memory;
 use crate::writing::write_text;
 use cnf::NO_LIMIT;
 use compare_text::{compare_texts, compare_texts_with_log};
@@ -61,28 +62,33 @@ fn answer(
 #[tactic(auto, using(crate::proofs::Wrote::wrote_answer))]
 /// Compares two texts as selectors, and writes the text of the answer to `out`. Nothing is written before the
 /// whole text is made. The answers that were asked for are `held` afterwards, and none where memory was short.
-pub(crate) fn cmp<O: Sink>(
+pub(crate) fn cmp<O: Sink, E: Sink>(
     alloc: Global,
     left: &str,
     right: &str,
     budget: Option<u32>,
     log: bool,
     out: &mut O,
+    err: &mut E,
     held: &mut Option<Pairs>,
 ) -> Status
-    requires { (bytes : List ℕ) → O.fits out.old bytes }
+    requires out_fits { (bytes : List ℕ) → O.fits out.old bytes }
+    requires err_fits { (bytes : List ℕ) → E.fits err.old bytes }
     ensures outcome { CmpDoes left.now right.now budget log result
-        (change_of O.written O.faults out.old out.new) held.new }
+        (change_of O.written O.faults out.old out.new)
+        (change_of E.written E.faults err.old err.new) held.new }
     ensures untouched { result ≢ Status.Done → result ≢ Status.WriteFault → out.new ≡ out.old }
-    ensures later { O.faults out.old ≤ O.faults out.new }
+    ensures out_later { O.faults out.old ≤ O.faults out.new }
+    ensures err_later { E.faults err.old ≤ E.faults err.new }
 {
     match answer(alloc, left, right, budget, log) {
         Ok((pairs, text)) => {
             *held = Some(pairs);
-            write_text(text.as_slice(), out)
+            write_text(text.as_slice(), &[], out, err)
         }
         Err(AllocError) => {
             *held = None;
+            tell_no_memory(err);
             Status::NoMemory
         }
     }

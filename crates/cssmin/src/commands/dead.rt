@@ -4,6 +4,7 @@ ghost use Rattle.std.specs.Prelude.{◌≡◌};
 ghost use Rattle.css_model.specs.Sheets.Limits.{max_bytes};
 ghost use Rattle.cssmin.specs.Commands.Dead.{TellsLives};
 ghost use Rattle.cssmin.specs.Commands.Min.{MinRefuses};
+ghost use Rattle.cssmin.specs.Tasks.{Silent};
 
 use crate::commands::cmp::unasked;
 use crate::status::{Status, too_long_sheet};
@@ -23,7 +24,7 @@ pub(crate) struct Dead {
 impl Task for Dead {
     ghost most = { λ _. max_bytes };
 
-    ghost makes = { λ task. TellsLives task.budget };
+    ghost makes = { λ task. Silent (TellsLives task.budget) };
 
     ghost refuses = { λ _. MinRefuses };
 
@@ -42,6 +43,7 @@ impl Task for Dead {
         match dead_lines(alloc, &mut pairs, bytes) {
             Ok(text) => Ok(Answer {
                 text,
+                report: Vec::new(alloc),
                 held: Some(pairs),
             }),
             Err(SheetError::Fault(fault)) => Err(Status::SheetRefused(fault)),

@@ -2,6 +2,7 @@
 
 ghost use Rattle.css_model.specs.Sheets.Limits.{max_bytes};
 ghost use Rattle.cssmin.specs.Commands.Style.{StyleRefuses, TellsWinners};
+ghost use Rattle.cssmin.specs.Tasks.{Silent};
 
 use crate::status::{Status, too_long_sheet};
 use crate::tasks::{Answer, Task};
@@ -16,7 +17,7 @@ pub(crate) struct Style;
 impl Task for Style {
     ghost most = { λ _. max_bytes };
 
-    ghost makes = { λ _. TellsWinners };
+    ghost makes = { λ _. Silent TellsWinners };
 
     ghost refuses = { λ _. StyleRefuses };
 
@@ -30,7 +31,11 @@ impl Task for Style {
 
     fn answer(&self, alloc: Global, bytes: &[u8]) -> Result<Answer, Status> {
         match style_lines(alloc, bytes) {
-            Ok(text) => Ok(Answer { text, held: None }),
+            Ok(text) => Ok(Answer {
+                text,
+                report: Vec::new(alloc),
+                held: None,
+            }),
             Err(StyleError::Document(fault)) => Err(Status::DocRefused(fault)),
             Err(StyleError::Sheet(fault)) => Err(Status::SheetRefused(fault)),
             Err(StyleError::NoMemory) => Err(Status::NoMemory),

@@ -3,6 +3,7 @@
 ghost use Rattle.std.specs.Prelude.{◌≡◌};
 ghost use Rattle.css_model.specs.Sheets.Limits.{max_bytes};
 ghost use Rattle.cssmin.specs.Commands.Why.{ExplainsMove, WhyRefuses};
+ghost use Rattle.cssmin.specs.Tasks.{Silent};
 
 use crate::commands::cmp::unasked;
 use crate::status::{Status, too_long_sheet};
@@ -25,7 +26,7 @@ pub(crate) struct Why {
 impl Task for Why {
     ghost most = { λ _. max_bytes };
 
-    ghost makes = { λ task. ExplainsMove task.from task.to task.budget };
+    ghost makes = { λ task. Silent (ExplainsMove task.from task.to task.budget) };
 
     ghost refuses = { λ task. WhyRefuses task.from task.to };
 
@@ -43,6 +44,7 @@ impl Task for Why {
         match why_lines(alloc, &mut pairs, bytes, self.from, self.to) {
             Ok(text) => Ok(Answer {
                 text,
+                report: Vec::new(alloc),
                 held: Some(pairs),
             }),
             Err(WhyError::Sheet(fault)) => Err(Status::SheetRefused(fault)),

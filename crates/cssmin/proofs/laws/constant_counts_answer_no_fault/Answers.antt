@@ -1,5 +1,6 @@
 use Rattle.std.proofs.Common.{◌≡◌, ◌<◌, ◌⊎◌, inl, inr, ℕ, refl, arith}
 use Rattle.css_io.specs.Io.{last_count}
+use Rattle.cssmin.specs.Change.{Change, HasFailed}
 use Rattle.cssmin.proofs.Forms.{read_fault_is, write_fault_is}
 use Rattle.cssmin.specs.declared.status.Status.TheVariants.{ReadFault, WriteFault}
 use Rattle.cssmin.proofs.laws.constant_counts_answer_no_fault.Goals as goal
@@ -12,6 +13,9 @@ pub returns-clause-no_read_fault : goal.returns-clause-no_read_fault
 returns-clause-no_read_fault c = λ words input output err held stays below ran.
     no_rise input.old_faults input.new_faults last_count stays below (read_fault_is words ReadFault input output err held ran refl)
 
+no_write : (output err : Change) → output.new_faults ≡ output.old_faults → output.old_faults < last_count → err.new_faults ≡ err.old_faults → err.old_faults < last_count → HasFailed output ⊎ HasFailed err → ⊥
+no_write output err stays below stays' below' (inl failed) = no_rise output.old_faults output.new_faults last_count stays below failed
+no_write output err stays below stays' below' (inr failed) = no_rise err.old_faults err.new_faults last_count stays' below' failed
+
 pub returns-clause-no_write_fault : goal.returns-clause-no_write_fault
-returns-clause-no_write_fault c = λ words input output err held stays below ran.
-    no_rise output.old_faults output.new_faults last_count stays below (write_fault_is words WriteFault input output err held ran refl)
+returns-clause-no_write_fault c = λ words input output err held stays below stays' below' ran. no_write output err stays below stays' below' (write_fault_is words WriteFault input output err held ran refl)

@@ -1,4 +1,4 @@
-use Rattle.cssmin.proofs.Forms.{done_is, front_is, read_fault_is, refused_is, write_fault_is}
+use Rattle.cssmin.proofs.Forms.{done_is, front_is, read_fault_is, refused_is, told_is, write_fault_is}
 use Rattle.cssmin.proofs.Budgets.{none_spent}
 use Rattle.cssmin.proofs.laws.each_status_has_its_cause.Goals as goal
 
@@ -16,6 +16,9 @@ returns-clause-read_fault c = read_fault_is
 
 pub returns-clause-write_fault : goal.returns-clause-write_fault
 returns-clause-write_fault c = write_fault_is
+
+pub returns-clause-told : goal.returns-clause-told
+returns-clause-told c = told_is
 
 pub returns-clause-front : goal.returns-clause-front
 returns-clause-front c = front_is

@@ -1,4 +1,4 @@
-use Rattle.cssmin.proofs.Forms.{why_did, style_did, dead_did, check_did, cmp_did, min_did, usage_is}
+use Rattle.cssmin.proofs.Forms.{why_did, style_did, dead_did, check_did, cmp_did, min_did, trial_did, usage_is}
 use Rattle.cssmin.proofs.laws.words_decide_usage.Goals as goal
 
 pub returns-clause-usage : goal.returns-clause-usage
@@ -18,6 +18,9 @@ returns-clause-dead c = dead_did
 
 pub returns-clause-style : goal.returns-clause-style
 returns-clause-style c = style_did
+
+pub returns-clause-trial : goal.returns-clause-trial
+returns-clause-trial c = trial_did
 
 pub returns-clause-why : goal.returns-clause-why
 returns-clause-why c = why_did

@@ -1,0 +1,13 @@
+use Rattle.std.proofs.Common.{refl, ◌∙◌}
+use Rattle.cssmin.proofs.Merging.{merged_more}
+use Rattle.cssmin.proofs.commands.min.merged_and_told.Goals as goal
+
+pub returns-clause-ok : goal.returns-clause-ok
+returns-clause-ok c = record {
+  pairs = c.told_of.new.pairs;
+  held_is = refl;
+  same_budget = c.in_ok-report.ensures.stays.budget ∙ c.in_ok-pairs.ensures.ok.same_budget;
+  all_true = c.are_true.ensures;
+  merged = merged_more c.in_ok-pairs.pairs c.told_of.new.pairs c.in_ok-report.ensures.stays c.args.bytes.now c.in_ok-pairs.merged.text.items c.in_ok-pairs.ensures.ok.merged;
+  told = c.in_ok-report.ensures.told;
+}
