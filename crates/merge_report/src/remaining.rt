@@ -11,7 +11,8 @@ ghost use Rattle.step_laws.specs.Leading.{IsDone};
 ghost use Rattle.step_laws.specs.Steps.{HasStep};
 
 use css_model::Sheet;
-use merge_plan::saved;
+use merge_laws::read_keeps_the_limits;
+use merge_plan::{KnownLengths, saved};
 use merge_steps::steps;
 use overlap::Pairs;
 use sheet_order::{Allowed, BlockCause, allowed_steps_are_free, permitted};
@@ -22,7 +23,7 @@ use step_laws::{Step, parts_are_few};
 fn cause_of(
     alloc: Global,
     pairs: &mut Pairs,
-    source: &[u8],
+    source: &KnownLengths<'_>,
     sheet: &Sheet,
     step: &Step,
 ) -> Result<Option<BlockCause>, AllocError>
@@ -63,7 +64,7 @@ fn push_told(
 fn remaining_of(
     alloc: Global,
     pairs: &mut Pairs,
-    source: &[u8],
+    source: &KnownLengths<'_>,
     sheet: &Sheet,
     list: &[Step],
 ) -> Result<Vec<(Option<u32>, Step, BlockCause)>, AllocError>
@@ -81,8 +82,26 @@ fn remaining_of(
     Ok(found)
 }
 
+/// The same of all steps of a sheet in which nothing is left to do, where the lengths of the source are known.
+fn remaining_among(
+    alloc: Global,
+    pairs: &mut Pairs,
+    source: &KnownLengths<'_>,
+    sheet: &Sheet,
+) -> Result<Vec<(Option<u32>, Step, BlockCause)>, AllocError>
+    requires plannable { IsPlannable source.now sheet.now.items }
+    requires done { IsDone (map answer_seen pairs.old.answers) source.now sheet.now.items }
+    ensures stays { Stays pairs.old pairs.new }
+    ensures are { IfOk result (λ found. AreRemaining pairs.new.answers source.now sheet.now.items found.items) }
+{
+    parts_are_few();
+    let list = steps(alloc, sheet)?;
+    remaining_of(alloc, pairs, source, sheet, list.as_slice())
+}
+
 /// Of all steps of a sheet in which nothing is left to do those that still save something, in their order, each with its
 /// cause by the answers that are held afterwards. All that was answered stays, also after `AllocError`.
+#[tactic(auto, using(merge_plan::proofs::ForCallers::short_source))]
 pub(crate) fn remaining_steps(
     alloc: Global,
     pairs: &mut Pairs,
@@ -94,7 +113,7 @@ pub(crate) fn remaining_steps(
     ensures stays { Stays pairs.old pairs.new }
     ensures are { IfOk result (λ found. AreRemaining pairs.new.answers source.now sheet.now.items found.items) }
 {
-    parts_are_few();
-    let list = steps(alloc, sheet)?;
-    remaining_of(alloc, pairs, source, sheet, list.as_slice())
+    read_keeps_the_limits();
+    let lengths = KnownLengths::of(alloc, source, sheet)?;
+    remaining_among(alloc, pairs, &lengths, sheet)
 }

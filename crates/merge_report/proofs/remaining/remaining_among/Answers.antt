@@ -1,7 +1,7 @@
 use Rattle.std.proofs.Common.{List, subst}
 use Rattle.std.specs.List.{Contains}
 use Rattle.merge_report.proofs.Growing.{all_remaining}
-use Rattle.merge_report.proofs.remaining.remaining_steps.Goals as goal
+use Rattle.merge_report.proofs.remaining.remaining_among.Goals as goal
 use Rattle.step_laws.specs.declared.step.Step.{Step}
 
 pub remaining_of-requires-clause-steps : goal.remaining_of-requires-clause-steps
