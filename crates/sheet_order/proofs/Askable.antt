@@ -39,7 +39,7 @@ rule_at [] n r all at = absurd (let e : None ≡ Some (Rule r) = at in cc)
 rule_at (item ∷ items) zero r all at = subst HasSelectorsInProfile (some-same at) all.0
 rule_at (item ∷ items) (suc n) r all at = rule_at items n r all.1 at
 
-pair_in_profile : (counts : ℕ → Bool) (items : List Item) (x : PlacedPair) → AllByRecursion HasSelectorsInProfile items → StandsLast counts items x → IsInProfile x.pair.selector
+pub pair_in_profile : (counts : ℕ → Bool) (items : List Item) (x : PlacedPair) → AllByRecursion HasSelectorsInProfile items → StandsLast counts items x → IsInProfile x.pair.selector
 pair_in_profile counts items x all stands = selector_at stands.rule.selectors x.place.selector x.pair.selector (rule_at items x.place.item stands.rule all stands.rule_at) stands.selector_at
 
 other_askable : (items items' : List Item) (m : Moved) (p : Pair) (o : Other) → AllByRecursion HasSelectorsInProfile items → IsReversedWith items items' m p o → IsAskableOther o

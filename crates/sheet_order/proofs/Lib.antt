@@ -11,3 +11,4 @@ mod Permission
 mod PuttingIn
 mod RuleSelectors
 mod Somewhere
+pub mod ForCallers

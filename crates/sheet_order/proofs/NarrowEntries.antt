@@ -36,7 +36,7 @@ parts_below (Rule q ∷ items) (suc n) r at = let h = parts_below items n r at i
 parts_below (KeptRule kept ∷ items) (suc n) r at = parts_below items n r at
 parts_below (KeptBlock piece ∷ items) (suc n) r at = parts_below items n r at
 
-narrow_place : PartsAreFew → (counts : ℕ → Bool) (items : List Item) (x : PlacedPair) → CanBePlanned items → StandsLast counts items x → IsNarrowPlace x.place
+pub narrow_place : PartsAreFew → (counts : ℕ → Bool) (items : List Item) (x : PlacedPair) → CanBePlanned items → StandsLast counts items x → IsNarrowPlace x.place
 narrow_place few counts items x sheet stands =
     let a : x.place.item < length items = below items x.place.item (Rule stands.rule) stands.rule_at in
     let b : length stands.rule.selectors + length stands.rule.decls ≤ part_count items = parts_below items x.place.item stands.rule stands.rule_at in

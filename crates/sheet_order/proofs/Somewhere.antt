@@ -27,7 +27,7 @@ at item position = record { item = item; position = position }
 abbrev numbered : {A : Type 0} → ℕ → A → ℕ × A
 numbered n x = (n, x)
 
-pair_is : (p q : Pair) → same_pair p q ≡ true → p ≡ q
+pub pair_is : (p q : Pair) → same_pair p q ≡ true → p ≡ q
 pair_is p q h =
     let w : (same_selector p.selector q.selector ≡ true) × (same_decl p.decl q.decl ≡ true) = and_parts (same_selector p.selector q.selector) (same_decl p.decl q.decl) h in
     ap₂ (λ (s : SelectorParts) (d : Decl). record { selector = s; decl = d }) ((selector_decides p.selector q.selector).0 w.0) ((decl_decides p.decl q.decl).0 w.1)
@@ -80,7 +80,7 @@ pairs_of_complete n r p hs hd =
       refl,
     )
 
-has_pair_from : (xs : List PlacedPair) (p : Pair) → has_pair xs p ≡ true → (x : PlacedPair) × Contains xs x × (x.pair ≡ p)
+pub has_pair_from : (xs : List PlacedPair) (p : Pair) → has_pair xs p ≡ true → (x : PlacedPair) × Contains xs x × (x.pair ≡ p)
 has_pair_from xs p h = let w : (x : PlacedPair) × Contains xs x × (same_pair x.pair p ≡ true) = any_from (λ x. same_pair x.pair p) xs h in (w.0, w.1, pair_is w.0.pair p w.2)
 
 among : (item : Item) (items : List Item) (p : Pair) (m position : ℕ) → IsPairAt (item ∷ items) p (at (suc m) position) → IsPairAt items p (at m position)

@@ -18,9 +18,11 @@ use related_props::related;
 
 /// The items of a sheet, and its last pairs.
 #[derive(Drop)]
-pub(crate) struct Ordered<'a> {
-    pub(crate) items: &'a [Item],
-    pub(crate) pairs: Vec<Placed<'a>>,
+pub struct Ordered<'a> {
+    /// The items.
+    pub items: &'a [Item],
+    /// Their pairs, each at its last place.
+    pub pairs: Vec<Placed<'a>>,
     ghost listed: { pairs.items ≡ last_pairs items.now },
 }
 
@@ -99,7 +101,7 @@ fn comes_before(sheet: &Ordered<'_>, p: &Placed<'_>, q: &Placed<'_>) -> bool
 }
 
 /// Whether an item is kept.
-pub(crate) fn is_kept(item: &Item) -> bool
+pub fn is_kept(item: &Item) -> bool
     ensures { result ≡ kept.is_kept item.now }
 {
     !matches!(item, Item::Rule(_))
@@ -115,7 +117,7 @@ fn kept_count(item: &Item) -> usize
 
 /// How many of so many first items are kept.
 #[tactic(auto, using(crate::proofs::KeptNumbers::kept_next, crate::proofs::KeptNumbers::kept_none))]
-fn kept_before(number: usize, items: &[Item]) -> usize
+pub fn kept_before(number: usize, items: &[Item]) -> usize
     ensures { result ≡ kept.kept_before number items.now }
 {
     let mut kept = 0;
@@ -144,12 +146,7 @@ fn comes_before_kept(sheet: &Ordered<'_>, p: &Placed<'_>, number: usize) -> bool
 }
 
 /// Whether a pair weighs with another one, and comes before it in one of two sheets alone.
-pub(crate) fn is_reversed(
-    old: &Ordered<'_>,
-    new: &Ordered<'_>,
-    p: &Placed<'_>,
-    q: &Placed<'_>,
-) -> bool
+pub fn is_reversed(old: &Ordered<'_>, new: &Ordered<'_>, p: &Placed<'_>, q: &Placed<'_>) -> bool
     requires first { KeepsLimits p.now.pair.selector }
     requires second { KeepsLimits q.now.pair.selector }
     ensures { result ≡ reversing.is_reversed old.now.items.now new.now.items.now p.now.pair q.now.pair }
@@ -158,7 +155,7 @@ pub(crate) fn is_reversed(
 }
 
 /// Whether a pair weighs with the kept item of this number, and comes before it in one of two sheets alone.
-pub(crate) fn is_reversed_kept(
+pub fn is_reversed_kept(
     old: &Ordered<'_>,
     new: &Ordered<'_>,
     p: &Placed<'_>,

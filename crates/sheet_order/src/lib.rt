@@ -13,11 +13,14 @@ mod reversing;
 mod sorting;
 mod taking;
 
+pub use comparing::{Ordered, is_kept, is_reversed, is_reversed_kept, kept_before};
 pub use laws::{allowed_steps_are_free, other_steps_are_blocked};
 pub use moving::move_rule;
+pub use pairs::{Placed, has_pair, last_pairs};
 pub use permitting::{Allowed, permitted};
 pub use places::{Moved, Other, PairPlace, Reversed};
-pub use reversing::reversed;
+pub use reversing::{narrow_place, ordered, reversed};
+pub use sorting::exceeds;
 pub use step_laws::BlockCause;
 
 #[cfg(test)]

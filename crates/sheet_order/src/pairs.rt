@@ -15,12 +15,17 @@ use std::marker::Model;
 /// A pair of a sheet at one of its places, by the numbers of its item, and in this of its selector and its
 /// declaration.
 #[derive(Drop)]
-pub(crate) struct Placed<'a> {
-    pub(crate) selector: &'a Selector,
-    pub(crate) decl: &'a Decl,
-    pub(crate) item: usize,
-    pub(crate) selector_number: usize,
-    pub(crate) decl_number: usize,
+pub struct Placed<'a> {
+    /// The selector.
+    pub selector: &'a Selector,
+    /// The declaration.
+    pub decl: &'a Decl,
+    /// The number of its item.
+    pub item: usize,
+    /// That of the selector.
+    pub selector_number: usize,
+    /// That of the declaration.
+    pub decl_number: usize,
 }
 
 impl<'a> Model for Placed<'a> {
@@ -36,7 +41,7 @@ impl<'a> Model for Placed<'a> {
 
 impl<'a> Placed<'a> {
     /// The same pair at the same place.
-    pub(crate) fn copy(&self) -> Placed<'a>
+    pub fn copy(&self) -> Placed<'a>
         ensures { result ≡ self.now }
     {
         Placed {
@@ -49,7 +54,7 @@ impl<'a> Placed<'a> {
     }
 
     /// Whether two pairs are the same, wherever they stand.
-    pub(crate) fn is_same(&self, other: &Placed<'_>) -> bool
+    pub fn is_same(&self, other: &Placed<'_>) -> bool
         ensures { result ≡ same_pair self.now.pair other.now.pair }
     {
         *self.selector == *other.selector && *self.decl == *other.decl
@@ -57,7 +62,7 @@ impl<'a> Placed<'a> {
 }
 
 /// Whether a pair is among these.
-fn has_pair(pairs: &[Placed<'_>], p: &Placed<'_>) -> bool
+pub fn has_pair(pairs: &[Placed<'_>], p: &Placed<'_>) -> bool
     ensures { result ≡ order.has_pair pairs.now p.now.pair }
 {
     pairs.iter().any(|q| q.is_same(p))
@@ -217,7 +222,7 @@ fn with_item<'a>(
 
 /// The pairs of the items that count, each once: where it stands last in these.
 #[tactic(auto, using(crate::proofs::LastItems::last_next))]
-pub(crate) fn last_pairs<'a>(
+pub fn last_pairs<'a>(
     alloc: Global,
     counts: Option<&[u32]>,
     items: &'a [Item],

@@ -21,7 +21,7 @@ use std::alloc::{AllocError, Global};
 use step_laws::parts_are_few;
 
 /// The items of a sheet with its last pairs.
-fn ordered<'a>(alloc: Global, items: &'a [Item]) -> Result<Ordered<'a>, AllocError>
+pub fn ordered<'a>(alloc: Global, items: &'a [Item]) -> Result<Ordered<'a>, AllocError>
     ensures { IfOk result (λ sheet. sheet.items.now ≡ items.now) }
 {
     let pairs = last_pairs(alloc, None, items)?;
@@ -48,7 +48,7 @@ pub(crate) fn reversals<'a>(
 }
 
 /// The place of a pair.
-fn narrow_place(p: &Placed<'_>) -> PairPlace
+pub fn narrow_place(p: &Placed<'_>) -> PairPlace
     requires { IsNarrowPlace p.now.place }
     ensures { result ≡ place_of p.now.place }
 {
