@@ -12,8 +12,9 @@ mod reading;
 
 pub use laws::{blocks_stay, merged_is_no_longer, opened_blocks_are_sheets};
 pub use media::Media;
-pub use opening::open_media;
-pub use printing::print_opened;
+pub use opening::{open_media, reading_of};
+pub use printing::{print_opened, put_piece};
+pub use reading::Reading;
 
 #[cfg(test)]
 mod tests;

@@ -188,6 +188,18 @@ fn opened_of(alloc: Global, reading: &Reading<'_>, items: &[Item]) -> Result<Vec
     Ok(media)
 }
 
+/// The source of a sheet, with its tokens.
+pub fn reading_of<'a>(
+    alloc: Global,
+    sheet: &Sheet,
+    source: &'a [u8],
+) -> Result<Reading<'a>, AllocError>
+    requires { sheet_of source.now ≡ Ok sheet.now.items }
+    ensures { IfOk result (λ r. r.source.now ≡ source.now) }
+{
+    Reading::new(alloc, source)
+}
+
 /// The blocks of media of a sheet, read from this source, that are opened, in their order: `@media` rules behind the last
 /// `@import` whose bodies are sheets of their own. The pieces of such a sheet are places in the bytes of its body.
 pub fn open_media(alloc: Global, sheet: &Sheet, source: &[u8]) -> Result<Vec<Media>, AllocError>

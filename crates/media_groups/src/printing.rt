@@ -45,7 +45,7 @@ fn put_tokens(out: &mut Vec<u8>, source: &[u8], tokens: &[Lexeme]) -> Result<(),
 }
 
 /// Writes the kept text of a piece.
-fn put_piece(out: &mut Vec<u8>, reading: &Reading<'_>, piece: Piece) -> Result<(), AllocError>
+pub fn put_piece(out: &mut Vec<u8>, reading: &Reading<'_>, piece: Piece) -> Result<(), AllocError>
     ensures { OnOk result (out.new.items ≡ out.old.items ++ kept_text reading.now.source.now piece) }
 {
     put_tokens(out, reading.source, reading.tokens_in(piece))

@@ -41,9 +41,9 @@ fn up_to(xs: &[Lexeme], at: u32) -> &[Lexeme]
 
 /// A source, with its tokens that are no white space.
 #[derive(Drop)]
-pub(crate) struct Reading<'a> {
+pub struct Reading<'a> {
     /// Its bytes.
-    pub(crate) source: &'a [u8],
+    pub source: &'a [u8],
     lexemes: Vec<Lexeme>,
     ghost short: { length source.now ≤ max_bytes },
     ghost tokens: { lexemes.items ≡ spelling.lexemes_of source.now },
