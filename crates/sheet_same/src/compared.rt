@@ -1,0 +1,29 @@
+//! What is found in two sheets.
+
+use css_model::Example;
+use sheet_order::PairPlace;
+
+/// What is found in two sheets.
+#[derive(Debug, PartialEq, Eq, Drop)]
+pub enum Compared {
+    /// Nothing: they style every page alike.
+    Same,
+    /// The pair at this place of the first sheet is not in the second one.
+    Missing(PairPlace),
+    /// The pair at this place of the second sheet is not in the first one.
+    Extra(PairPlace),
+    /// The kept item of this number, counted from 0 among the kept items, differs, or is reversed with a pair.
+    KeptItem(u32),
+    /// Two pairs whose selectors meet, by their places in the first sheet, come in the other order in the second one.
+    Reversed {
+        /// The one that comes first in the first sheet.
+        first: PairPlace,
+        /// The other one.
+        second: PairPlace,
+        /// Both selectors match the marked element of it.
+        example: Example,
+    },
+    /// Two pairs come in the other order, and it is not known whether their selectors meet: for the reason of this
+    /// number, or for 0 because the budget was spent.
+    Unsure(u32),
+}
