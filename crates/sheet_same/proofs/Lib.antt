@@ -1,5 +1,6 @@
 mod Askable
 mod FirstLacking
+mod FoundSomething
 mod Keeping
 mod KeptItems
 mod KeptNumbers

@@ -5,7 +5,7 @@ use Rattle.order_laws.specs.Places.{last_pairs}
 use Rattle.overlap.specs.PairsParts.{Answered}
 use Rattle.sheet_order.specs.declared.places.PairPlace.{PairPlace}
 use Rattle.sheet_same.specs.declared.compared.Compared.{Compared}
-use Rattle.sheet_same.specs.declared.compared.Compared.TheVariants.{Missing, Extra, KeptItem}
+use Rattle.sheet_same.specs.declared.compared.Compared.TheVariants.{Same, Missing, Extra, KeptItem, Reversed, Unsure}
 use Rattle.sheet_same.specs.Judging.{IsJudged}
 use Rattle.sheet_same.specs.Kept.{first_differing}
 use Rattle.sheet_same.specs.Lacking.{first_lacking}
@@ -33,3 +33,16 @@ FoundBehind held s t None result = IsJudged held s (turned s t) result
 -- This is found in two sheets by the four tests (own), where these answers are held.
 abbrev pub IsFound : List Answered → List ℕ → List Item → List ℕ → List Item → Option Compared → Type 0
 IsFound held source s other t result = FoundBehind held s t (found_in_parts source s other t) result
+
+-- what is found, where anything is (own)
+abbrev pub if_found : Compared → Option Compared
+if_found Same = None
+if_found (Missing place) = Some (Missing place)
+if_found (Extra place) = Some (Extra place)
+if_found (KeptItem number) = Some (KeptItem number)
+if_found (Reversed p q e) = Some (Reversed p q e)
+if_found (Unsure reason) = Some (Unsure reason)
+
+-- So two sheets compare, where these answers are held (own).
+abbrev pub IsCompared : List Answered → List ℕ → List Item → List ℕ → List Item → Compared → Type 0
+IsCompared held source s other t compared = IsFound held source s other t (if_found compared)

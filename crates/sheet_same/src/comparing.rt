@@ -110,14 +110,9 @@ fn found_in_sides(
     judged(pairs, side.sheet.items, &couples)
 }
 
-/// What is found in two sheets, each read from its source, by four tests, of which the first that finds something
-/// answers: the first pair that the second sheet lacks; the first pair that the first sheet lacks; the first place at
-/// which the lists of kept items differ; and the first couple of members that weigh and whose last order differs,
-/// unless it is of two pairs whose selectors are answered to be apart. Places are those where a pair stands last; they
-/// ascend by item, declaration and selector. The answers are asked for couple by couple, the earlier selector first.
-/// All answers that were held stay, also after `AllocError`.
+/// What is found in two sheets, each read from its source, by four tests.
 #[tactic(auto, using(sheet_order::proofs::ForCallers::stays_itself))]
-pub fn compare_parts(
+fn found_in_sheets(
     alloc: Global,
     pairs: &mut Pairs,
     sheet: &Sheet,
@@ -133,4 +128,31 @@ pub fn compare_parts(
     let here = side_of(alloc, sheet, source)?;
     let far = side_of(alloc, other, there)?;
     found_in_sides(alloc, pairs, &here, &far)
+}
+
+/// Compares two sheets, each read from its source, by four tests, of which the first that finds something answers:
+/// the first pair that the second sheet lacks; the first pair that the first sheet lacks; the first place at which the
+/// lists of kept items differ; and the first couple of members that weigh and whose last order differs, unless it is
+/// of two pairs whose selectors are answered to be apart. No block counts as opened. Places are those where a pair
+/// stands last; they ascend by item, declaration and selector. The answers are asked for couple by couple, the earlier
+/// selector first. All answers that were held stay, also after `AllocError`. Each two members of the first sheet are
+/// looked at.
+#[tactic(auto, using(crate::proofs::FoundSomething::found_is_told))]
+pub fn compare_plain(
+    alloc: Global,
+    pairs: &mut Pairs,
+    sheet: &Sheet,
+    source: &[u8],
+    other: &Sheet,
+    there: &[u8],
+) -> Result<Compared, AllocError>
+    requires first { sheet_of source.now ≡ Ok sheet.now.items }
+    requires second { sheet_of there.now ≡ Ok other.now.items }
+    ensures stays { Stays pairs.old pairs.new }
+    ensures compared { IfOk result (λ compared. spec.IsCompared pairs.new.answers source.now sheet.now.items there.now other.now.items compared) }
+{
+    match found_in_sheets(alloc, pairs, sheet, source, other, there)? {
+        None => Ok(Compared::Same),
+        Some(found) => Ok(found),
+    }
 }

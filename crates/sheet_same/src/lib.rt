@@ -11,6 +11,9 @@ mod members;
 mod turned;
 
 pub use compared::Compared;
-pub use comparing::compare_parts;
+pub use comparing::compare_plain;
 pub use laws::same_parts_keep;
 pub use sheet_order::PairPlace;
+
+#[cfg(test)]
+mod tests;
