@@ -5,17 +5,19 @@ usage: python3 bench/min.py PROGRAM SHEET..
 
 For each sheet, and for made sheets of 1 MiB, it runs both programs in turn and prints the median of
 their times, the ratio of the medians, and the peak memory of `cssmin` (which the system never gives
-as less than this script's own, some 15 MiB).
+as less than this script's own, some 15 MiB). A sheet that takes `cssmin` more than 20 seconds is only named.
 """
 
 import os
 import statistics
+import subprocess
 import sys
 import tempfile
 
 from timing import one_run
 
 ROUNDS = 15
+SECONDS = 20
 MIB = 1 << 20
 # The most items, and the most pairs of a selector and a declaration, that a sheet may have.
 ITEMS = 16_384
@@ -24,6 +26,12 @@ PAIRS = 262_144
 
 def measure(program, name, path):
     """Prints the line of one sheet."""
+    try:
+        with open(path, "rb") as sheet:
+            subprocess.run([program, "min"], stdin=sheet, stdout=subprocess.DEVNULL, timeout=SECONDS, check=False)
+    except subprocess.TimeoutExpired:
+        print(f"{name:22} {os.path.getsize(path):8} bytes  cssmin more than {SECONDS} s")
+        return
     ours, counts, memory = [], [], 0
     for _ in range(ROUNDS):
         took, peak = one_run([program, "min"], path)
