@@ -12,6 +12,7 @@ pub use Rattle.sheet_laws.proofs.Shown.Alike.{AreClosable, IsClosable, or_true}
 pub use Rattle.sheet_laws.proofs.Shown.Names.{IsNamed, TakesSpace, ends_with_sign, has_name, is_closable}
 pub use Rattle.sheet_laws.proofs.Shown.Tokens.{Shown, all_shown, closed, colon_gap, declaration_shown, importance_shown, inner, is_before_white, item_shown, joined, kept_shown, last_gap, last_of_item, last_of_value, printed_bytes, rule_shown, selector_shown, sheet_shown, shown, sign_shown, sourced_shown, value_shown, with_levels}
 pub use Rattle.sheet_laws.proofs.Shown.Values.{IsShut}
+pub use Rattle.sheet_laws.proofs.Soundness.{sheet-sound}
 pub use Rattle.sheet_laws.proofs.Source.Closed.{all_closed}
 pub use Rattle.sheet_laws.proofs.Source.Origins.{HasGoodTokens, declaration_from, kept_from, selector_from, stand_alone_in, value_alone}
 pub use Rattle.sheet_laws.proofs.Source.Parts.{IsPart, each_inside, none_before, split_stands, stands_dropped, stands_taken}
