@@ -5,7 +5,7 @@ pub use Rattle.sheet_laws.proofs.Printed.Blocks.{IsOfDeclaration}
 pub use Rattle.sheet_laws.proofs.Printed.Contents.{AreShownAgain, InOrder, IsShownAgain, IsShownAs, sourced_content}
 pub use Rattle.sheet_laws.proofs.Printed.Entries.{IsPrinted, at_rule_like, like_of, printed_like, sign_like}
 pub use Rattle.sheet_laws.proofs.Printed.Faults.{DoFit, IsPrintOf, IsSameSheet, IsShallow, find_none, is_deep, sheet_reads_back, by_tests, pairs_fit}
-pub use Rattle.sheet_laws.proofs.Printed.Items.{IsClosedRule, closed_rule, ends_in, ends_with_block, is_ended, is_nil, item_len_like}
+pub use Rattle.sheet_laws.proofs.Printed.Items.{IsClosedRule, closed_rule, ends_in, ends_with_block, is_ended, is_nil, item_len_like, StandAsItems, all_of_them, begins_item, ended_item_len, items_again}
 pub use Rattle.sheet_laws.proofs.Printed.Joins.{StandsIn, stands_behind, stands_inside, stands_whole}
 pub use Rattle.sheet_laws.proofs.Printed.Kept.{SameAt, inner_item_same}
 pub use Rattle.sheet_laws.proofs.Printed.Preludes.{IsOfSelector, selector_in}
