@@ -1,0 +1,2 @@
+mod BodyPlans
+pub mod ForCallers

@@ -1,0 +1,5 @@
+pub mod Again
+pub mod Contents
+pub mod Merged
+pub mod Plans
+pub mod Told
