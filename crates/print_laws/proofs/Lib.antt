@@ -1,3 +1,4 @@
+pub mod ForCallers
 mod Back
 mod Length
 mod Levels

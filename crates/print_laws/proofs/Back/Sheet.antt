@@ -62,12 +62,12 @@ clean-of source its e = which (nat_lt MAX_BYTES (length source)) (nat_lt (utf8_v
         record { utf8 = whole_is_utf8 source (let same : utf8_valid_len source ≡ length source = omega (arith, le, ge) in same); clean = fault; reads = e }
 
 -- it has none of the faults that are tested over the whole of it
-abbrev Tested : List ℕ → List Item → Type 0
+abbrev pub Tested : List ℕ → List Item → Type 0
 Tested source its =
     HasNoFault (too_deep (lexemes_of source)) (unclosed (tokens source true).tokens) (namespace_at source (raw_items source))
     (too_many_items (read_items source (raw_items source))) (too_many_pairs 0 (read_items source (raw_items source))) (read_items source (raw_items source)) its
 
-tested-of : (source : List ℕ) (its : List Item) → Clean source its → Tested source its
+pub tested-of : (source : List ℕ) (its : List Item) → Clean source its → Tested source its
 tested-of source its c =
     tested (too_deep (lexemes_of source)) (unclosed (tokens source true).tokens) (namespace_at source (raw_items source))
     (too_many_items (read_items source (raw_items source))) (too_many_pairs 0 (read_items source (raw_items source))) (read_items source (raw_items source)) its c.reads
@@ -103,7 +103,7 @@ block-ended (x ∷ xs) e = which (closes_block x) refl e (λ h. block-ended xs h
     which true is h later = last-ended x xs close_curly (sign-first close_curly 1 x is) (nil-is xs h)
     which false is h later = more-ended x xs (later h)
 
-item-ended : (a : Bool) (xs : List Lexeme) → ends_in a xs ≡ true → IsEndedBySign xs
+pub item-ended : (a : Bool) (xs : List Lexeme) → ends_in a xs ≡ true → IsEndedBySign xs
 item-ended a [] e = absurd (false≢true e)
 item-ended a (x ∷ xs) e = which (opens_block x) (a && is_sign_at semicolon 0 x) refl e (λ h. item-ended a xs h)
   where
@@ -112,11 +112,11 @@ item-ended a (x ∷ xs) e = which (opens_block x) (a && is_sign_at semicolon 0 x
     which false true is h later = last-ended x xs semicolon (sign-first semicolon 0 x (and_parts a (is_sign_at semicolon 0 x) is).1) (nil-is xs h)
     which false false is h later = more-ended x xs (later h)
 
-whole-ended : (xs : List Lexeme) → is_ended xs ≡ true → IsEndedBySign xs
+pub whole-ended : (xs : List Lexeme) → is_ended xs ≡ true → IsEndedBySign xs
 whole-ended [] e = absurd (false≢true e)
 whole-ended (x ∷ xs) e = item-ended _ (x ∷ xs) e
 
-ended-of : (source : List ℕ) (item : Item) → ends_itself source item ≡ true → IsEndedItem source item
+pub ended-of : (source : List ℕ) (item : Item) → ends_itself source item ≡ true → IsEndedItem source item
 ended-of source (Rule r) e = tt
 ended-of source (KeptRule k) e = whole-ended (tokens_in source k.piece) e
 ended-of source (KeptBlock piece) e = whole-ended (tokens_in source piece) e
@@ -126,12 +126,12 @@ read-all source [] order each = tt
 read-all source (item ∷ []) order (one, rest) = one.read
 read-all source (item ∷ next ∷ items) (before, ended, order) (one, rest) = (one.read, ended-of source item ended, read-all source (next ∷ items) order rest)
 
-each-is : {A : Type 0} (P Q : A → Type 0) (xs : List A) → ((x : A) → P x → Q x) → AllByRecursion P xs → AllByRecursion Q xs
+pub each-is : {A : Type 0} (P Q : A → Type 0) (xs : List A) → ((x : A) → P x → Q x) → AllByRecursion P xs → AllByRecursion Q xs
 each-is P Q [] f each = tt
 each-is P Q (x ∷ xs) f (one, rest) = (f x one, each-is P Q xs f rest)
 
 -- few pairs are not too many
-pairs-fit : (n : ℕ) (items : List Item) → n + pair_count items ≤ MAX_PAIRS → too_many_pairs n items ≡ None
+pub pairs-fit : (n : ℕ) (items : List Item) → n + pair_count items ≤ MAX_PAIRS → too_many_pairs n items ≡ None
 pairs-fit n [] fit = refl
 pairs-fit n (item ∷ items) fit = which (nat_lt MAX_PAIRS (n + pairs_of item)) refl (pairs-fit (n + pairs_of item) items (omega (arith, fit)))
   where
@@ -140,7 +140,7 @@ pairs-fit n (item ∷ items) fit = which (nat_lt MAX_PAIRS (n + pairs_of item)) 
     which true is later = absurd (let h = ltb-true MAX_PAIRS (n + pairs_of item) is in omega (arith, h, fit))
     which false is later = later
 
-marked-utf8 : (text : List ℕ) → IsUtf8 text → IsUtf8 (behind_mark text)
+pub marked-utf8 : (text : List ℕ) → IsUtf8 text → IsUtf8 (behind_mark text)
 marked-utf8 text utf8 = which (starts_with nat_eq text byte_order_mark)
   where
     which : (b : Bool) → IsUtf8 (cond b (space ∷ text) text)

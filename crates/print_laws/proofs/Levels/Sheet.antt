@@ -184,7 +184,7 @@ IsFlatItem source (Rule r) = IsFlatRule source r
 IsFlatItem source (KeptRule k) = IsFlatPiece source (tokens_in source k.piece)
 IsFlatItem source (KeptBlock piece) = IsFlatPiece source (tokens_in source piece)
 
-item-chain : (source : List ℕ) (item : Item) → IsFlatItem source item → Chain [] (item_shown source item) []
+pub item-chain : (source : List ℕ) (item : Item) → IsFlatItem source item → Chain [] (item_shown source item) []
 item-chain source (Rule r) flat = rule-chain source r flat
 item-chain source (KeptRule k) flat = kept-chain source (tokens_in source k.piece) flat.leveled flat.ends
 item-chain source (KeptBlock piece) flat = kept-chain source (tokens_in source piece) flat.leveled flat.ends

@@ -250,7 +250,7 @@ pub record IsReadPiece (source : List ℕ) (xs : List Lexeme) : Type 0 where
   pub lone : AllByRecursion IsLoneBeforeWhite xs
 
 -- it is read before nothing
-kept-alone : KeptLexed → (source : List ℕ) (ps : List Part) → IsSpelledBy source ps → (xs : List Lexeme) → IsReadPiece source xs → IsLexed (parts_of (kept_shown source xs) ++ [])
+pub kept-alone : KeptLexed → (source : List ℕ) (ps : List Part) → IsSpelledBy source ps → (xs : List Lexeme) → IsReadPiece source xs → IsLexed (parts_of (kept_shown source xs) ++ [])
 kept-alone kept_lexed source ps s xs read =
     let are = part-solids source ps xs s read.part in
     let other : ends_called (map (solid source) xs) ≡ false = not-called source [] xs (λ ds e. absurd (let n : 0 ≡ suc (length ds) = ap length (sym read.ends ∙ e) in omega (arith, n))) in
@@ -270,7 +270,7 @@ shown-last others last [] x = refl
 shown-last others last (y ∷ []) x = refl
 shown-last others last (y ∷ z ∷ front) x = ap (λ ss. others y ∷ ss) (shown-last others last (z ∷ front) x)
 
-kept-lexed : KeptLexed → (source : List ℕ) (ps : List Part) → IsSpelledBy source ps → (xs : List Lexeme) → IsReadPiece source xs → IsEndedBySign xs → (rest : List Part) → IsLexed rest
+pub kept-lexed : KeptLexed → (source : List ℕ) (ps : List Part) → IsSpelledBy source ps → (xs : List Lexeme) → IsReadPiece source xs → IsEndedBySign xs → (rest : List Part) → IsLexed rest
     → IsLexed (parts_of (kept_shown source xs) ++ rest)
 kept-lexed kept_lexed source ps s xs read e rest lexed =
     let end : Part = record { kind = Some e.last.kind; bytes = text_at source e.last.span } in
@@ -303,12 +303,12 @@ AreReadItems source [] = ⊤
 AreReadItems source (item ∷ []) = IsReadItem source item
 AreReadItems source (item ∷ next ∷ items) = IsReadItem source item × IsEndedItem source item × AreReadItems source (next ∷ items)
 
-last-lexed : KeptLexed → (source : List ℕ) (ps : List Part) → IsSpelledBy source ps → (item : Item) → IsReadItem source item → IsLexed (parts_of (item_shown source item) ++ [])
+pub last-lexed : KeptLexed → (source : List ℕ) (ps : List Part) → IsSpelledBy source ps → (item : Item) → IsReadItem source item → IsLexed (parts_of (item_shown source item) ++ [])
 last-lexed kept_lexed source ps s (Rule r) read = rule-lexed kept_lexed source ps s r read [] tt
 last-lexed kept_lexed source ps s (KeptRule k) read = kept-alone kept_lexed source ps s (tokens_in source k.piece) read
 last-lexed kept_lexed source ps s (KeptBlock piece) read = kept-alone kept_lexed source ps s (tokens_in source piece) read
 
-item-lexed : KeptLexed → (source : List ℕ) (ps : List Part) → IsSpelledBy source ps → (item : Item) → IsReadItem source item → IsEndedItem source item → (rest : List Part) → IsLexed rest
+pub item-lexed : KeptLexed → (source : List ℕ) (ps : List Part) → IsSpelledBy source ps → (item : Item) → IsReadItem source item → IsEndedItem source item → (rest : List Part) → IsLexed rest
     → IsLexed (parts_of (item_shown source item) ++ rest)
 item-lexed kept_lexed source ps s (Rule r) read ended rest lexed = rule-lexed kept_lexed source ps s r read rest lexed
 item-lexed kept_lexed source ps s (KeptRule k) read ended rest lexed = kept-lexed kept_lexed source ps s (tokens_in source k.piece) read ended rest lexed
