@@ -3,6 +3,7 @@
 pub use Rattle.print_laws.proofs.Back.Items.{SoundItem, sound-item}
 pub use Rattle.print_laws.proofs.Back.Sheet.{Clean, Tested, clean-of, ended-of, ground-of, marked-utf8, pairs-fit, tested-of, whole-ended}
 pub use Rattle.print_laws.proofs.Back.Tokens.{HasTokens, printed-tokens}
+pub use Rattle.print_laws.proofs.Length.Mark.{mark_front}
 pub use Rattle.print_laws.proofs.Levels.Brackets.{AreLeveled, leveled-append, open-append, open_behind}
 pub use Rattle.print_laws.proofs.Levels.Items.{IsItemOf, IsPartOf}
 pub use Rattle.print_laws.proofs.Levels.Sheet.{Chain, IsFlatItem, IsFlatPiece, chain-first, chain-none, chain-then, item-chain, kept-chain, sheet-chain}
