@@ -1,4 +1,5 @@
 pub mod Again
+pub mod Awaited
 pub mod Contents
 pub mod Merged
 pub mod Plans
