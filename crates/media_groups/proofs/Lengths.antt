@@ -109,7 +109,7 @@ texts_shorter source media bodies (item ∷ items) all =
     )
 
 pub no_longer : MergedIsNoLonger
-no_longer source old new bodies follows shorter all =
+no_longer source old new bodies n follows shorter all =
     let media = opened_of old source in
     let own = map (λ m. m.sheet) media in
     let kept : kept_items new ≡ kept_items old = follow_kept new old follows in

@@ -5,3 +5,4 @@ mod Places
 mod Sorting
 mod Staying
 mod Texts
+pub mod ForCallers

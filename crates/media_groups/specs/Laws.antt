@@ -1,5 +1,5 @@
 -- What holds of opened blocks.
-use Rattle.std.specs.Prelude.{ℕ, ◌≡◌, ◌≤◌, nat_eq, false, List, map, length, Ok}
+use Rattle.std.specs.Prelude.{ℕ, ◌+◌, ◌≡◌, ◌≤◌, nat_eq, false, List, map, length, Ok}
 use Rattle.std.specs.List.{AllByRecursion, AllZip, flat_map, starts_with}
 use Rattle.css_model.specs.declared.sheet.Item.{Item}
 use Rattle.css_model.specs.Sheets.ComesFrom.{Follows}
@@ -43,9 +43,9 @@ PrintedByOldBlocks = (source : List ℕ) (old new : List Item) (bodies : List Sh
 abbrev pub IsNoLongerBody : List ℕ → Media → SheetParts → Type 0
 IsNoLongerBody source m body = length (printed (text_at source m.body) body.items) ≤ length (printed (text_at source m.body) m.sheet.items)
 
--- Where the items become no longer and so does each opened body, their text with these bodies becomes no longer (without a space
--- before a byte order mark).
+-- Where the items become shorter by so many bytes, and each opened body no longer, their text with these bodies becomes shorter by as
+-- many (without a space before a byte order mark).
 abbrev pub MergedIsNoLonger : Type 0
-MergedIsNoLonger = (source : List ℕ) (old new : List Item) (bodies : List SheetParts) → Follows new old →
-    length (flat_map (printed_item source) new) ≤ length (flat_map (printed_item source) old) → AllZip (IsNoLongerBody source) (opened_of old source) bodies →
-    length (texts_with source (opened_of old source) bodies new) ≤ length (texts_with source (opened_of old source) (map (λ m. m.sheet) (opened_of old source)) old)
+MergedIsNoLonger = (source : List ℕ) (old new : List Item) (bodies : List SheetParts) (n : ℕ) → Follows new old →
+    length (flat_map (printed_item source) new) + n ≤ length (flat_map (printed_item source) old) → AllZip (IsNoLongerBody source) (opened_of old source) bodies →
+    length (texts_with source (opened_of old source) bodies new) + n ≤ length (texts_with source (opened_of old source) (map (λ m. m.sheet) (opened_of old source)) old)

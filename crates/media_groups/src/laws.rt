@@ -21,7 +21,8 @@ pub fn blocks_stay()
     ensures printed { PrintedByOldBlocks }
 {}
 
-/// Where the items of a sheet become no longer and so does each opened body, their text with these bodies becomes no longer.
+/// Where the items of a sheet become shorter by so many bytes, and each opened body no longer, their text with these bodies becomes
+/// shorter by as many.
 pub fn merged_is_no_longer()
     ensures { MergedIsNoLonger }
 {}

@@ -2,3 +2,4 @@ mod Limits
 mod Meanings
 mod Planning
 mod Writing
+pub mod ForCallers

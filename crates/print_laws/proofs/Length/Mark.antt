@@ -62,7 +62,8 @@ two_short : IsUtf8 (0xEF ∷ 0xBB ∷ []) → ⊥
 unfolding is_utf8 chars
 two_short whole = absurd (false≢true (is_utf8-from_IsUtf8 (0xEF ∷ 0xBB ∷ []) whole))
 
-mark_front : (bytes more tail : List ℕ) → IsUtf8 bytes → 0 < length bytes → starts_with nat_eq (bytes ++ more) byte_order_mark ≡ true → starts_with nat_eq (bytes ++ tail) byte_order_mark ≡ true
+-- so a text begins with a mark by its first part, where that is not empty
+pub mark_front : (bytes more tail : List ℕ) → IsUtf8 bytes → 0 < length bytes → starts_with nat_eq (bytes ++ more) byte_order_mark ≡ true → starts_with nat_eq (bytes ++ tail) byte_order_mark ≡ true
 mark_front [] more tail whole some is = absurd (omega (arith, some))
 mark_front (a ∷ []) more tail whole some is =
     let first = eqb-true 0xEF a (and_parts (nat_eq 0xEF a) _ is).0 in

@@ -1,0 +1,13 @@
+mod Again
+mod Answering
+mod BodyPlans
+mod KeptContents
+mod Lengths
+mod Marks
+mod Numbers
+mod ReadBack
+mod ReadContents
+mod ReadWinners
+mod Winners
+mod Writing
+pub mod ForCallers

@@ -1,0 +1,6 @@
+pub mod Again
+pub mod Awaited
+pub mod Contents
+pub mod Merged
+pub mod Plans
+pub mod Told

@@ -1,0 +1,10 @@
+//! From plans to what is written, where blocks of media are opened: the text of a sheet that was read and merged, and each opened body
+//! of it by itself, is one whose sheet has the same winners in every scene, and in which nothing is left to do either.
+#![tactic(auto)]
+
+mod awaited;
+mod bodies;
+mod merged;
+
+pub use bodies::planned_bodies_are_sound;
+pub use merged::{planned_is_merged_opened, planned_is_told_opened};

@@ -1,0 +1,54 @@
+//! What is written of a sheet that was merged with its opened blocks, each law as the contract of a function that does nothing.
+
+ghost use Rattle.opened_merge_laws.specs.Merged.{PlannedIsMergedOpened};
+ghost use Rattle.opened_merge_laws.specs.Told.{PlannedIsToldOpened};
+
+use crate::awaited::{opened_is_no_longer, opened_reads_back};
+use limit_laws::planned_comes_from;
+use media_groups::{blocks_stay, merged_is_no_longer, opened_blocks_are_sheets};
+use media_laws::{bodies_count_by_winners, scenes_give_meanings};
+use merge_laws::read_keeps_the_limits;
+use order_laws::keeping_keeps_winners;
+use plan_laws::{leading_keeps, twins_are_done, twins_but_blocks_are_done, twins_keep};
+use sheet_laws::read_is_sound;
+
+/// Both laws, which stand on the same ones.
+fn planned_is_written()
+    requires { ⊥ }
+    ensures merged { PlannedIsMergedOpened }
+    ensures told { PlannedIsToldOpened }
+{
+    read_is_sound();
+    read_keeps_the_limits();
+    planned_comes_from();
+    opened_blocks_are_sheets();
+    blocks_stay();
+    merged_is_no_longer();
+    opened_is_no_longer();
+    opened_reads_back();
+    leading_keeps();
+    twins_keep();
+    twins_are_done();
+    twins_but_blocks_are_done();
+    keeping_keeps_winners();
+    scenes_give_meanings();
+    bodies_count_by_winners();
+}
+
+/// A sheet that was read and planned by true answers until nothing was left to do, and so was each body of its opened blocks, and
+/// that was printed with these bodies: what is written is no longer than what was read, has the same winners in every scene, and
+/// nothing is left to do in it, nor in any body of its opened blocks.
+pub fn planned_is_merged_opened()
+    requires { ⊥ }
+    ensures { PlannedIsMergedOpened }
+{
+    planned_is_written();
+}
+
+/// What is written then has as many items as the planned sheets together.
+pub fn planned_is_told_opened()
+    requires { ⊥ }
+    ensures { PlannedIsToldOpened }
+{
+    planned_is_written();
+}
