@@ -1,9 +1,14 @@
 -- What the crates above cite of the proofs here: that one more kind of text is read where it stands as the tokens that
--- are shown for it, what a source that is read gives, and what the kept items of a printed text are read back as.
+-- are shown for it, what a source that is read gives, what the kept items of a printed text are read back as, and that a
+-- text which is put together item by item is no longer than its source.
 pub use Rattle.print_laws.proofs.Back.Items.{SoundItem, sound-item}
 pub use Rattle.print_laws.proofs.Back.Replaced.{AreKeptBack, IsBlockAlone, IsKeptBack, IsReplacedBack, IsSourcedKeptBack, block-alone, names-of, ready-of, replaced-kept-back, whole-stands}
 pub use Rattle.print_laws.proofs.Back.Sheet.{AreSound, Clean, IsReady, Tested, clean-of, ended-of, ground-of, items-utf8, marked-utf8, pairs-fit, read-all, tested-of, whole-ended}
 pub use Rattle.print_laws.proofs.Back.Tokens.{HasTokens, printed-places, printed-tokens}
+pub use Rattle.print_laws.proofs.Length.Filled.{AreFilled, Fills, fits_split}
+pub use Rattle.print_laws.proofs.Length.Items.{BeginsAs, BeginsWith, begins_more}
+pub use Rattle.print_laws.proofs.Length.Room.{Fits, cost, fits_weights, weight}
+pub use Rattle.print_laws.proofs.Length.Sheet.{AreRaw, HasFilling, HasRoom, has-filling}
 pub use Rattle.print_laws.proofs.Levels.Brackets.{AreLeveled, Closed, Found, IsInBlock, block-closes, curly-opens, found, length-none, leveled-append, open-append, open_behind, lexemes-open}
 pub use Rattle.print_laws.proofs.Levels.Items.{IsItemOf, IsPartOf}
 pub use Rattle.print_laws.proofs.Levels.Sheet.{Chain, IsFlatItem, IsFlatPiece, chain-first, chain-none, chain-then, item-chain, kept-chain, sheet-chain, sourced-chain}
