@@ -1,4 +1,5 @@
 pub mod Items
 pub mod Parts
+pub mod Replaced
 pub mod Sheet
 pub mod Tokens

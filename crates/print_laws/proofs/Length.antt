@@ -1,3 +1,4 @@
+pub mod Filled
 pub mod Items
 pub mod Mark
 pub mod Names

@@ -1,6 +1,7 @@
 //! The laws. They do nothing when they run.
 
 ghost use Rattle.print_laws.specs.Printing.{PrintedIsNoLonger, PrintedReadsBack, PrintedReadsBackAsTwin};
+ghost use Rattle.print_laws.specs.Replaced.{ReplacedReadsBack};
 ghost use Rattle.print_laws.specs.Profile.{PrintedSelectorsAreRead, SelectorsAreInProfile};
 
 /// The printed text of a sheet that was read, or of one that is made of its parts with its kept items in
@@ -14,6 +15,12 @@ pub fn printed_reads_back()
 /// and declaration by declaration, it says the same and is printed alike.
 pub fn printed_reads_back_as_twin()
     ensures { PrintedReadsBackAsTwin }
+{}
+
+/// Where whole blocks stand in the places of kept blocks, the printed text is read back as these items too, one by one as
+/// twins, and printed again it is the same text.
+pub fn replaced_reads_back()
+    ensures { ReplacedReadsBack }
 {}
 
 /// The printed text of a sheet as read is no longer than its source.

@@ -5,6 +5,6 @@
 mod laws;
 
 pub use laws::{
-    printed_is_no_longer, printed_reads_back, printed_reads_back_as_twin,
+    printed_is_no_longer, printed_reads_back, printed_reads_back_as_twin, replaced_reads_back,
     selectors_are_in_the_profile,
 };

@@ -1,4 +1,5 @@
 pub mod ForCallers
+mod OneSource
 mod Printed
 mod Shown
 mod Soundness

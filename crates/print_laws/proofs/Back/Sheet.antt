@@ -1,14 +1,13 @@
--- The printed text of a sheet is read back as the sheet.
-use Rattle.std.proofs.Common.{◌≡◌, ℕ, ◌+◌, ◌≤◌, nat_eq, nat_lt, Bool, true, false, cond, List, [], ◌∷◌, length, Option, Some, None, Ok, Err, refl, sym, ◌∙◌, ap, subst, arith}
-use Rattle.std.specs.Prelude.{◌&&◌, Result}
-use Rattle.std.specs.List.{AllByRecursion, find, flat_map, last_or, starts_with}
+-- The printed text of items, each of its own source, is read back as these items.
+use Rattle.std.proofs.Common.{◌≡◌, ℕ, ◌+◌, ◌≤◌, nat_eq, nat_lt, Bool, true, false, cond, List, [], ◌∷◌, length, Option, Some, None, Ok, Err, refl, sym, ap, subst, arith}
+use Rattle.std.specs.Prelude.{◌&&◌}
+use Rattle.std.specs.List.{AllByRecursion, flat_map, last_or, starts_with}
 use Rattle.std.specs.Option.{option_map}
 use Rattle.std.specs.Str.{IsUtf8}
 use Rattle.std.specs.Str.Lossy.{utf8_valid_len}
 use Rattle.std.proofs.lemmas.Bool.{false≢true, and_parts, eqb-true, ltb-true, ltb-false}
 use Rattle.std.proofs.lemmas.Str.{IsUtf8-append, utf8_valid_len-IsUtf8, utf8_valid_len_le}
 use Rattle.css_model.specs.declared.fault.FaultKind.TheVariants.{TooLong, NotUtf8}
-use Rattle.css_model.specs.declared.fault.SheetFault.{SheetFault}
 use Rattle.css_model.specs.declared.limits.TheConstants.{MAX_BYTES, MAX_PAIRS}
 use Rattle.css_model.specs.declared.sheet.Item.{Item}
 use Rattle.css_model.specs.declared.sheet.Item.TheVariants.{Rule, KeptRule, KeptBlock}
@@ -18,27 +17,26 @@ use Rattle.css_model.specs.declared.token.TokenKind.{TokenKind}
 use Rattle.css_model.specs.declared.token.TokenKind.TheVariants as kind
 use Rattle.css_model.specs.Text.Characters.{close_curly, semicolon, space}
 use Rattle.css_model.specs.Sheets.Items.{closes_block, opens_block}
-use Rattle.css_model.specs.Text.Lexemes.{is_sign_at, is_sign_of, piece_of}
-use Rattle.css_model.specs.Sheets.Printed.{behind_mark, printed, printed_item}
-use Rattle.css_model.specs.Sheets.Sheet.{is_namespace, namespace_at, pairs_of, read_items, sheet_of, sheet_of_stream, sheet_of_tokens, start_of, too_deep, too_many_items, too_many_pairs, unclosed}
-use Rattle.css_model.specs.Sheets.Sound.{IsSoundItem, raw_items}
+use Rattle.css_model.specs.Text.Lexemes.{is_sign_at, is_sign_of}
+use Rattle.css_model.specs.Sheets.Printed.{behind_mark}
+use Rattle.css_model.specs.Sheets.Sheet.{namespace_at, pairs_of, read_items, sheet_of, sheet_of_stream, sheet_of_tokens, start_of, too_deep, too_many_items, too_many_pairs, unclosed}
+use Rattle.css_model.specs.Sheets.Sound.{raw_items}
 use Rattle.css_model.specs.Sheets.Spelling.{lexemes_of, tokens_in}
 use Rattle.css_model.specs.Text.Tokens.{byte_order_mark, text_of, tokens}
 use Rattle.css_tokens.proofs.ForCallers.{whole_is_utf8}
-use Rattle.css_model.specs.Sheets.ComesFrom.{ComesFrom, pair_count}
+use Rattle.css_model.specs.Sheets.ComesFrom.{pair_count}
 use Rattle.css_model.specs.Sheets.Limits.{max_bytes}
-use Rattle.sheet_laws.specs.Twins.{AreTwins}
-use Rattle.print_laws.specs.Printing.{PrintedReadsBack, PrintedReadsBackAsTwin}
-use Rattle.list_facts.proofs.Cuts.{None_of}
-use Rattle.sheet_laws.proofs.ForCallers.{DoFit, IsPrintOf, IsSameSheet, find_none, sheet_reads_back, ends_in, ends_with_block, is_ended, is_nil, places_in_order, AreInOrder, IsFrom, ends_itself, item_shown, sheet_shown, HasNoFault, in_order, no_map, read_from, tested}
+use Rattle.sheet_laws.specs.Sourced.{SourcedItem, items_of, printed_sourced, sourced_text}
+use Rattle.sheet_laws.proofs.ForCallers.{AreSourcedInOrder, DoFit, HasNoFault, IsFrom, IsPrintOf, IsSameSheet, IsShallow, ends_in, ends_itself, ends_with_block, is_ended, is_nil, item_shown, places_in_order, sheet_reads_back, sourced_shown, tested}
 use Rattle.print_laws.proofs.Tokens.Chain.{chain-shown, parts_of}
 use Rattle.print_laws.proofs.Source.Items.{Ground, ground, sheet-bytes}
-use Rattle.print_laws.proofs.Tokens.Lexed.{AreReadItems, IsEndedBySign, IsEndedItem, IsSpelledBy, sheet-lexed}
-use Rattle.print_laws.proofs.Back.Tokens.{printed-tokens}
-use Rattle.print_laws.proofs.Levels.Sheet.{IsFlatItem, sheet-chain}
-use Rattle.print_laws.proofs.Back.Items.{SoundItem, sound-item}
+use Rattle.print_laws.proofs.Tokens.Lexed.{AreReadSourced, HasParts, IsEndedBySign, IsEndedItem, sourced-lexed}
+use Rattle.print_laws.proofs.Back.Tokens.{printed-places, printed-tokens}
+use Rattle.print_laws.proofs.Levels.Sheet.{IsFlatItem, sourced-chain}
+use Rattle.print_laws.proofs.Back.Items.{SoundItem}
 use Rattle.print_laws.proofs.Source.Tokens.{kept-is-lexed}
-use Rattle.print_laws.proofs.Tokens.Texts.{IsTextOfItem, sheet-text}
+use Rattle.print_laws.proofs.Tokens.Places.{ArePlaced}
+use Rattle.print_laws.proofs.Tokens.Texts.{IsTextOfItem, sourced-text}
 use Rattle.print_laws.proofs.Tokens.Utf8.{each-append, one-space, shown-utf8}
 
 -- a source that is read without a fault
@@ -121,10 +119,14 @@ ended-of source (Rule r) e = tt
 ended-of source (KeptRule k) e = whole-ended (tokens_in source k.piece) e
 ended-of source (KeptBlock piece) e = whole-ended (tokens_in source piece) e
 
-read-all : (source : List ℕ) (items : List Item) → AreInOrder source items → AllByRecursion (SoundItem source) items → AreReadItems source items
-read-all source [] order each = tt
-read-all source (item ∷ []) order (one, rest) = one.read
-read-all source (item ∷ next ∷ items) (before, ended, order) (one, rest) = (one.read, ended-of source item ended, read-all source (next ∷ items) order rest)
+-- the items of sheets, each of its own source
+abbrev pub AreSound : List SourcedItem → Type 0
+AreSound xs = AllByRecursion (λ x. SoundItem x.source x.item) xs
+
+pub read-all : (xs : List SourcedItem) → AreSourcedInOrder xs → AreSound xs → AreReadSourced xs
+read-all [] order each = tt
+read-all (x ∷ []) order (one, rest) = one.read
+read-all (x ∷ next ∷ xs) (before, ended, order) (one, rest) = (one.read, ended-of x.source x.item ended, read-all (next ∷ xs) order rest)
 
 pub each-is : {A : Type 0} (P Q : A → Type 0) (xs : List A) → ((x : A) → P x → Q x) → AllByRecursion P xs → AllByRecursion Q xs
 each-is P Q [] f each = tt
@@ -147,49 +149,43 @@ marked-utf8 text utf8 = which (starts_with nat_eq text byte_order_mark)
     which true = IsUtf8-append (space ∷ []) text one-space utf8
     which false = utf8
 
-sheet-utf8 : (source : List ℕ) (items : List Item) → AllByRecursion (SoundItem source) items → AllByRecursion (λ s. IsUtf8 s.bytes) (sheet_shown source items)
-sheet-utf8 source [] each = tt
-sheet-utf8 source (item ∷ items) (one, rest) = each-append (λ s. IsUtf8 s.bytes) (item_shown source item) (sheet_shown source items) one.utf8 (sheet-utf8 source items rest)
+pub items-utf8 : (xs : List SourcedItem) → AreSound xs → AllByRecursion (λ s. IsUtf8 s.bytes) (sourced_shown xs)
+items-utf8 [] each = tt
+items-utf8 (x ∷ xs) (one, rest) = each-append (λ s. IsUtf8 s.bytes) (item_shown x.source x.item) (sourced_shown xs) one.utf8 (items-utf8 xs rest)
 
--- the printed text of a sheet, as it is read
-read-back : (source : List ℕ) (old new : List Item) → sheet_of source ≡ Ok old → ComesFrom source old new → length (printed source new) ≤ max_bytes → IsSameSheet (printed source new) source new
-read-back source old new e from short =
-    let tests = tested-of source old (clean-of source old e) in
-    let g = ground-of source old e in
-    let names : None_of (is_namespace source) (raw_items source) =
-    find_none (is_namespace source) (raw_items source) (no_map (λ item. (piece_of item).start) (find (is_namespace source) (raw_items source)) tests.no_namespace) in
-    let sheet = read_from source old g.good e in
-    let order = in_order source new old from.follows sheet.order in
-    let each = each-is (IsSoundItem source) (SoundItem source) new (sound-item source g names) from.sound in
-    let spelled : IsSpelledBy source g.parts.ps = record { lexed = g.parts.lexed; solids = g.parts.spelled } in
-    let shown_ = sheet_shown source new in
+-- an item of a source that is read, which is not too deep
+pub record IsReady (x : SourcedItem) : Type 0 where
+  pub ground : Ground x.source
+  pub sound : SoundItem x.source x.item
+  pub shallow : IsShallow x
+
+-- what the printed text of items is read as, and where their tokens stand in it
+pub record IsBack (xs : List SourcedItem) : Type 0 where
+  pub sheet : IsSameSheet (printed_sourced xs) xs
+  pub placed : ArePlaced (printed_sourced xs) (sourced_shown xs)
+
+-- The printed text of items, each of its own source, is read back.
+pub sourced-back : (xs : List SourcedItem) → AllByRecursion IsReady xs → AreSourcedInOrder xs → DoFit (items_of xs) → length (printed_sourced xs) ≤ max_bytes → IsBack xs
+sourced-back xs ready order fit short =
+    let each : AreSound xs = each-is IsReady (λ x. SoundItem x.source x.item) xs (λ x h. h.sound) ready in
+    let spelled : AllByRecursion HasParts xs = each-is IsReady HasParts xs (λ x h. (h.ground.parts.ps, record { lexed = h.ground.parts.lexed; solids = h.ground.parts.spelled })) ready in
+    let shown_ = sourced_shown xs in
     let ps = parts_of shown_ in
-    let text = flat_map (printed_item source) new in
-    let lexed = sheet-lexed kept-is-lexed source g.parts.ps spelled new (read-all source new order each) in
-    let spells : text ≡ text_of ps = sym (sheet-text source new (each-is (SoundItem source) (IsTextOfItem source) new (λ x h. h.text) each)) in
-    let chain = sheet-chain source new (each-is (SoundItem source) (IsFlatItem source) new (λ x h. h.flat) each) in
+    let text = flat_map sourced_text xs in
+    let lexed = sourced-lexed kept-is-lexed xs spelled (read-all xs order each) in
+    let spells : text ≡ text_of ps = sym (sourced-text xs (each-is (λ x. SoundItem x.source x.item) (λ x. IsTextOfItem x.source x.item) xs (λ x h. h.text) each)) in
+    let chain = sourced-chain xs (each-is (λ x. SoundItem x.source x.item) (λ x. IsFlatItem x.source x.item) xs (λ x h. h.flat) each) in
     let has = printed-tokens ps shown_ text spells lexed (chain-shown [] shown_ chain.chain) chain in
-    let utf8 : IsUtf8 (printed source new) = marked-utf8 text (subst IsUtf8 (sym spells) (shown-utf8 shown_ (sheet-utf8 source new each))) in
-    let print : IsPrintOf (printed source new) source new = record {
+    let utf8 : IsUtf8 (printed_sourced xs) = marked-utf8 text (subst IsUtf8 (sym spells) (shown-utf8 shown_ (items-utf8 xs each))) in
+    let print : IsPrintOf (printed_sourced xs) xs = record {
       short = short;
-      valid = (let same = utf8_valid_len-IsUtf8 (printed source new) utf8 in omega (arith, same));
+      valid = (let same = utf8_valid_len-IsUtf8 (printed_sourced xs) utf8 in omega (arith, same));
       clean = has.clean;
       closed = ap (λ bs. option_map (λ b. b.at) (last_or None bs)) has.open_none;
-      ascending = (places_in_order (printed source new) (sheet-bytes (printed source new) has.clean)).0;
+      ascending = (places_in_order (printed_sourced xs) (sheet-bytes (printed_sourced xs) has.clean)).0;
       shown_as = has.shown_as;
     } in
-    let fit : DoFit new = record { items = from.few_items; pairs = pairs-fit 0 new (omega (arith, from.few_pairs)) } in
-    sheet_reads_back (printed source new) source new (each-is (SoundItem source) (IsFrom source) new (λ x h. h.from) each) order fit sheet.shallow print
-
-pub reads-back : PrintedReadsBack
-reads-back source old new e from short =
-    let same = read-back source old new e from short in
-    (same.read, same.reads, sym same.says, same.prints)
-
-pub reads-back-as-twin : PrintedReadsBackAsTwin
-reads-back-as-twin source old new again e from short read =
-    let same = read-back source old new e from short in
-    subst (AreTwins source (printed source new) new) (ok-same same.read again (sym same.reads ∙ read)) same.twins
-  where
-    ok-same : (xs ys : List Item) → ◌≡◌ {A = Result (List Item) SheetFault} (Ok xs) (Ok ys) → xs ≡ ys
-    ok-same xs ys e = cc
+    record {
+      sheet = sheet_reads_back (printed_sourced xs) xs (each-is (λ x. SoundItem x.source x.item) (λ x. IsFrom x.source x.item) xs (λ x h. h.from) each) order fit (each-is IsReady IsShallow xs (λ x h. h.shallow) ready) print;
+      placed = printed-places shown_ text spells lexed chain;
+    }

@@ -16,7 +16,9 @@ use Rattle.css_tokens.specs.Lexed.{IsLexed}
 use Rattle.token_laws.proofs.ForCallers.{space_read}
 use Rattle.css_tokens.proofs.ForCallers.{lexed_are_parts}
 use Rattle.sheet_laws.proofs.ForCallers.{Shown, shown}
-use Rattle.print_laws.proofs.Tokens.Chain.{closers_after_all, white_part}
+use Rattle.print_laws.proofs.Tokens.Chain.{chain-shown, closers_after_all, parts_of, white_part}
+use Rattle.print_laws.proofs.Tokens.Places.{AreAt, ArePlaced, parts-at}
+use Rattle.print_laws.proofs.Tokens.Texts.{shown_text}
 use Rattle.print_laws.proofs.Levels.Brackets.{lexemes-open, open_behind}
 use Rattle.print_laws.proofs.Tokens.Parts.{closers_after, closers_of, shown_parts, tokens-shown}
 use Rattle.print_laws.proofs.Levels.Sheet.{Chain}
@@ -35,11 +37,14 @@ none-open : (brackets : List Bracket) → closers_of brackets ≡ [] → bracket
 none-open [] e = refl
 none-open (b ∷ brackets) e = absurd (let n : suc (length (closers_of brackets)) ≡ 0 = ap length e in omega (arith, n))
 
--- the tokens of a text at whose start no byte order mark is skipped
+-- the stream of a text at whose start no byte order mark is skipped
+stream-is : (text : List ℕ) (ps : List Part) → text ≡ text_of ps → IsLexed ps → starts_with nat_eq text byte_order_mark ≡ false → tokens text true ≡ stream_of 0 false (record { parts = ps; flaw = None })
+stream-is text ps is lexed no_mark = cond-false _ _ _ no_mark ∙ ap (stream_of 0 false) (ap parts is ∙ lexed_are_parts ps lexed)
+
+-- the tokens of such a text
 has-tokens : (text : List ℕ) (ps : List Part) (ss : List Shown) → text ≡ text_of ps → IsLexed ps → starts_with nat_eq text byte_order_mark ≡ false → shown_parts [] ps ≡ ss → Chain [] ss [] → HasTokens text ss
 has-tokens text ps ss is lexed no_mark show chain =
-    let all_ : parts text ≡ record { parts = ps; flaw = None } = ap parts is ∙ lexed_are_parts ps lexed in
-    let here : tokens text true ≡ stream_of 0 false (record { parts = ps; flaw = None }) = cond-false _ _ _ no_mark ∙ ap (stream_of 0 false) all_ in
+    let here = stream-is text ps is lexed no_mark in
     let ts : (tokens text true).tokens ≡ tokens_at 0 false ps = ap (λ (s : Stream). s.tokens) here in
     let are : map (shown text) (lexemes_of text) ≡ ss = ap (λ ts. map (shown text) (lexemes ts)) ts ∙ tokens-shown text [] ps false [] is ∙ show in
     record {
@@ -65,3 +70,23 @@ printed-tokens ps ss text is lexed show chain = which (starts_with nat_eq text b
         has-tokens (space ∷ text) (white_part (space ∷ []) ∷ ps) ss (ap (λ (cs : List ℕ). space ∷ cs) is)
         (subst (λ (cs : List ℕ). part_at (space ∷ cs) ≡ Ok (Some kind.White, 1)) is (space_read text (mark-first text mark)), lexed)
         refl show chain
+
+-- Its tokens stand one behind the other.
+pub printed-places : (ss : List Shown) (text : List ℕ) → text ≡ shown_text ss → IsLexed (parts_of ss) → Chain [] ss [] → ArePlaced (behind_mark text) ss
+printed-places ss text is lexed chain = which (starts_with nat_eq text byte_order_mark) refl (printed-tokens (parts_of ss) ss text is lexed (chain-shown [] ss chain.chain) chain).shown_as
+  where
+    at : (whole : List ℕ) (ps : List Part) (front : List ℕ) → whole ≡ text_of ps → IsLexed ps → starts_with nat_eq whole byte_order_mark ≡ false
+        → AreAt (length front) ss (lexemes (tokens_at 0 false ps)) → AreAt (length front) ss (lexemes_of whole)
+    at whole ps front is lexed no_mark places = subst (λ (s : Stream). AreAt (length front) ss (lexemes s.tokens)) (sym (stream-is whole ps is lexed no_mark)) places
+
+    which : (b : Bool) → starts_with nat_eq text byte_order_mark ≡ b → map (shown (cond b (space ∷ text) text)) (lexemes_of (cond b (space ∷ text) text)) ≡ ss → ArePlaced (cond b (space ∷ text) text) ss
+    which false none shown_as = record { front = []; is = is; places = at text (parts_of ss) [] is lexed none (parts-at 0 false [] [] ss chain.chain); shown_as = shown_as }
+    which true mark shown_as = record {
+      front = space ∷ [];
+      is = ap (λ (cs : List ℕ). space ∷ cs) is;
+      places =
+          at (space ∷ text) (white_part (space ∷ []) ∷ parts_of ss) (space ∷ []) (ap (λ (cs : List ℕ). space ∷ cs) is)
+          (subst (λ (cs : List ℕ). part_at (space ∷ cs) ≡ Ok (Some kind.White, 1)) is (space_read text (mark-first text mark)), lexed) refl
+          (parts-at 1 false [] [] ss chain.chain);
+      shown_as = shown_as;
+    }

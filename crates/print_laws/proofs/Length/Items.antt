@@ -1,9 +1,9 @@
 -- What is printed for the items of a sheet fits in the room of their tokens, and begins with the first of them.
-use Rattle.std.proofs.Common.{ℕ, zero, suc, ◌+◌, ◌<◌, ◌≤◌, ◌≡◌, Bool, true, false, cond, List, [], ◌∷◌, ◌++◌, Some, None, Result, Ok, Err, length, map, drop, take, refl, sym, ap, ◌∙◌, subst, arith, append_assoc}
+use Rattle.std.proofs.Common.{ℕ, suc, ◌+◌, ◌<◌, ◌≤◌, ◌≡◌, Bool, true, false, cond, List, [], ◌∷◌, ◌++◌, Some, None, Result, Ok, Err, length, map, refl, sym, ap, ◌∙◌, subst, arith, append_assoc}
 use Rattle.std.specs.Prelude.{⊤, ◌||◌, if◌then◌else◌}
 use Rattle.std.specs.List.{AllByRecursion, before_first, after_first, position_or_len, slice_split, onto_first, list_any, filter, filter_map, join_with_byte}
 use Rattle.std.proofs.lemmas.Bool.{cond-true, cond-false}
-use Rattle.std.proofs.lemmas.List.{length-append, take-append-drop}
+use Rattle.std.proofs.lemmas.List.{length-append}
 use Rattle.std.proofs.lemmas.List.Folds.{list_any-append}
 use Rattle.css_model.specs.declared.reason.Reason.{Reason}
 use Rattle.css_model.specs.declared.sheet.DeclItem.{DeclItem}
@@ -14,7 +14,7 @@ use Rattle.css_model.specs.declared.sheet.SelItem.{SelItem}
 use Rattle.css_model.specs.declared.token.Lexeme.{Lexeme}
 use Rattle.css_model.specs.Text.Characters.{comma, semicolon, open_curly, close_curly}
 use Rattle.css_model.specs.Sheets.Declarations.{declaration, is_nested}
-use Rattle.css_model.specs.Sheets.Items.{is_at_rule, is_between_items, item_len, items_from, opens_block, closes_block, selector_parts, block, entries}
+use Rattle.css_model.specs.Sheets.Items.{is_at_rule, opens_block, closes_block, selector_parts, block, entries}
 use Rattle.css_model.specs.Text.Kept.{Solid, solid, spelled, behind_last, gap_text, kept}
 use Rattle.css_model.specs.Text.Lexemes.{is_sign_at, piece_of}
 use Rattle.css_model.specs.Sheets.Printed.{printed_selector, printed_declaration, printed_rule, printed_item}
@@ -28,12 +28,11 @@ use Rattle.css_model.specs.Selectors.Tokens.{selector_token}
 use Rattle.css_model.specs.Sheets.Sheet.{item_of, rule_of, rule_or_block}
 use Rattle.css_model.specs.Text.Source.{text_at}
 use Rattle.css_model.specs.Sheets.Spelling.{lexemes_of, tokens_in, kept_text}
-use Rattle.css_model.specs.Lists.{less_one}
 use Rattle.list_facts.proofs.Cuts.{before_here, before_later, after_some}
 use Rattle.sheet_laws.proofs.ForCallers.{IsClosedRule, closed_rule, or_true, StandsIn, stands_inside, IsPart, split_stands, stands_taken, AreAscending, stand_alone, IsRawItem, selector_in}
 use Rattle.list_facts.proofs.Sums.{total}
 use Rattle.list_facts.proofs.Elements.{all_with}
-use Rattle.print_laws.proofs.Length.Parts.{total-append, total_cut, total_split, total_chosen, total_all, join_size, kept_size, weight_some, declaration_size}
+use Rattle.print_laws.proofs.Length.Parts.{total_cut, total_split, total_chosen, total_all, join_size, kept_size, weight_some, declaration_size}
 use Rattle.print_laws.proofs.Length.Room.{cost, weight, Fits}
 
 -- tokens that have room stand in order
@@ -44,21 +43,6 @@ fits_ascending source at from (x ∷ xs) to le (low, some, fits) =
 
 weight_positive : (source : List ℕ) (x : Lexeme) → 0 < weight source x
 weight_positive source x = omega (arith, weight_some source x)
-
--- the items of tokens are no more than these
-pub total_items : (f : Lexeme → ℕ) (left : ℕ) (xs : List Lexeme) → total (total f) (items_from left xs) ≤ total f (drop left xs)
-total_items f left [] = omega arith
-total_items f (suc left) (x ∷ xs) = total_items f left xs
-total_items f zero (x ∷ xs) = which (is_between_items x.kind) (item_len (x ∷ xs)) (λ left. total_items f left xs)
-  where
-    rest : (m : ℕ) → total f xs ≡ total f (take m xs) + total f (drop m xs)
-    rest m = ap (total f) (sym (take-append-drop m xs)) ∙ total-append f (take m xs) (drop m xs)
-
-    which : (b : Bool) (n : ℕ) → ((left : ℕ) → total (total f) (items_from left xs) ≤ total f (drop left xs))
-        → total (total f) (if b then items_from 0 xs else take n (x ∷ xs) ∷ items_from (less_one n) xs) ≤ f x + total f xs
-    which true n later = omega (arith, later 0)
-    which false zero later = omega (arith, later 0)
-    which false (suc m) later = omega (arith, later m, rest m)
 
 pub total_filter : {A : Type 0} (f : A → ℕ) (p : A → Bool) (xs : List A) → total f (filter p xs) ≤ total f xs
 total_filter f p [] = omega arith
@@ -77,7 +61,7 @@ pub begins_more : (source : List ℕ) (x : Lexeme) (text behind : List ℕ) → 
 begins_more source x text behind b =
     record { more = b.more ++ behind; is = ap (λ (cs : List ℕ). cs ++ behind) b.is ∙ append_assoc (text_at source x.span) b.more behind }
 
-abbrev BeginsAs : List ℕ → List Lexeme → List ℕ → Type 0
+abbrev pub BeginsAs : List ℕ → List Lexeme → List ℕ → Type 0
 BeginsAs source [] text = ⊤
 BeginsAs source (x ∷ xs) text = BeginsWith source x text
 

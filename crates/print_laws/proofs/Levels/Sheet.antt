@@ -15,7 +15,8 @@ use Rattle.css_model.specs.Text.Kept.{is_lone}
 use Rattle.css_model.specs.Text.Lexemes.{is_white_kind}
 use Rattle.css_model.specs.Sheets.RuleParts.{RuleParts}
 use Rattle.css_model.specs.Sheets.Spelling.{tokens_in}
-use Rattle.sheet_laws.proofs.ForCallers.{Shown, all_shown, colon_gap, declaration_shown, importance_shown, inner, item_shown, joined, kept_shown, last_gap, last_of_item, last_of_value, rule_shown, selector_shown, sheet_shown, sign_shown, value_shown}
+use Rattle.sheet_laws.specs.Sourced.{SourcedItem, all_of_source}
+use Rattle.sheet_laws.proofs.ForCallers.{Shown, all_shown, colon_gap, declaration_shown, each_of_source, importance_shown, inner, item_shown, joined, kept_shown, last_gap, last_of_item, last_of_value, rule_shown, selector_shown, sheet_shown, sign_shown, sourced_shown, value_shown}
 use Rattle.print_laws.proofs.Tokens.Chain.{IsChain, IsTold, closers_after_all}
 use Rattle.print_laws.proofs.Levels.Brackets.{AreLeveled, open_behind}
 use Rattle.print_laws.proofs.Tokens.Parts.{closers_after}
@@ -189,7 +190,11 @@ item-chain source (Rule r) flat = rule-chain source r flat
 item-chain source (KeptRule k) flat = kept-chain source (tokens_in source k.piece) flat.leveled flat.ends
 item-chain source (KeptBlock piece) flat = kept-chain source (tokens_in source piece) flat.leveled flat.ends
 
+-- the tokens of printed items, each of its own source
+pub sourced-chain : (xs : List SourcedItem) → AllByRecursion (λ x. IsFlatItem x.source x.item) xs → Chain [] (sourced_shown xs) []
+sourced-chain [] each = chain-none []
+sourced-chain (x ∷ xs) (one, rest) = chain-then [] [] [] (item_shown x.source x.item) (sourced_shown xs) (item-chain x.source x.item one) (sourced-chain xs rest)
+
 -- the tokens of a printed sheet
 pub sheet-chain : (source : List ℕ) (items : List Item) → AllByRecursion (IsFlatItem source) items → Chain [] (sheet_shown source items) []
-sheet-chain source [] each = chain-none []
-sheet-chain source (item ∷ items) (one, rest) = chain-then [] [] [] (item_shown source item) (sheet_shown source items) (item-chain source item one) (sheet-chain source items rest)
+sheet-chain source items each = sourced-chain (all_of_source source items) (each_of_source (λ x. IsFlatItem x.source x.item) source items each)

@@ -25,7 +25,8 @@ use Rattle.token_laws.specs.Solids.{IsBehind, ends_called, is_ender, is_function
 use Rattle.token_laws.proofs.ForCallers.{ends_anywhere, ends_sign, sign_read, rows_again, is_plain, space_read, kept_parts, part_again, rule_part}
 use Rattle.token_laws.specs.Alike.{EndsAlike}
 use Rattle.css_model.specs.declared.token.Gap.TheVariants as gap
-use Rattle.sheet_laws.proofs.ForCallers.{Shown, all_shown, inner, item_shown, kept_shown, last_of_item, sheet_shown, colon_gap, declaration_shown, importance_shown, joined, rule_shown, selector_shown, sign_shown, value_shown}
+use Rattle.sheet_laws.specs.Sourced.{SourcedItem, all_of_source}
+use Rattle.sheet_laws.proofs.ForCallers.{Shown, all_shown, inner, item_shown, kept_shown, last_of_item, sheet_shown, colon_gap, declaration_shown, importance_shown, joined, rule_shown, selector_shown, sign_shown, sourced_shown, value_shown}
 use Rattle.print_laws.proofs.Tokens.Chain.{gap_parts, parts_of}
 use Rattle.print_laws.proofs.Levels.Items.{IsPartOf}
 use Rattle.print_laws.proofs.Levels.Brackets.{open_behind}
@@ -265,7 +266,11 @@ pub record IsEndedBySign (xs : List Lexeme) : Type 0 where
   pub are : xs ≡ front ++ last ∷ []
   pub is_sign : last.kind ≡ kind.Sign sign
 
-shown-last : (others last : Lexeme → Shown) (front : List Lexeme) (x : Lexeme) → all_shown others last (front ++ x ∷ []) ≡ map others front ++ last x ∷ []
+-- nothing is printed behind a sign that is the last token
+pub sign-gap : (k : TokenKind) (sign : ℕ) → k ≡ kind.Sign sign → gap_parts k (cond (is_lone k) gap.White gap.Nothing) ≡ []
+sign-gap k sign is = ap (λ k. gap_parts k (cond (is_lone k) gap.White gap.Nothing)) is
+
+pub shown-last : (others last : Lexeme → Shown) (front : List Lexeme) (x : Lexeme) → all_shown others last (front ++ x ∷ []) ≡ map others front ++ last x ∷ []
 shown-last others last [] x = refl
 shown-last others last (y ∷ []) x = refl
 shown-last others last (y ∷ z ∷ front) x = ap (λ ss. others y ∷ ss) (shown-last others last (z ∷ front) x)
@@ -278,16 +283,13 @@ kept-lexed kept_lexed source ps s xs read e rest lexed =
     let are : parts_of (kept_shown source xs) ≡ front ++ end ∷ [] =
     ap (λ ys. parts_of (kept_shown source ys)) e.are ∙ ap parts_of (shown-last (inner source) (last_of_item source) e.front e.last)
     ∙ parts-append (map (inner source) e.front) (last_of_item source e.last ∷ [])
-    ∙ ap (λ gaps. front ++ end ∷ (gaps ++ [])) (no-gap e.last.kind e.is_sign) in
+    ∙ ap (λ gaps. front ++ end ∷ (gaps ++ [])) (sign-gap e.last.kind e.sign e.is_sign) in
     let alone : IsLexed (front ++ end ∷ []) = subst IsLexed (append-nil (parts_of (kept_shown source xs)) ∙ are) (kept-alone kept_lexed source ps s xs read) in
     let anywhere : EndsAlike end [] (text_of rest) = subst (λ k. EndsAlike (record { kind = Some k; bytes = text_at source e.last.span }) [] (text_of rest)) (sym e.is_sign)
     (ends_anywhere (record { kind = Some (kind.Sign e.sign); bytes = text_at source e.last.span }) [] (text_of rest) refl refl refl) in
     subst IsLexed (sym (ap (λ parts. parts ++ rest) are ∙ append_assoc front (end ∷ []) rest)) (rows_again front end [] rest alone lexed anywhere)
-  where
-    no-gap : (k : TokenKind) → k ≡ kind.Sign e.sign → gap_parts k (cond (is_lone k) gap.White gap.Nothing) ≡ []
-    no-gap k is = ap (λ k. gap_parts k (cond (is_lone k) gap.White gap.Nothing)) is
 
--- items of a source, of which the last alone may end by the end of the source
+-- items, each of its own source, of which the last alone may end by the end of its source
 abbrev pub IsReadItem : List ℕ → Item → Type 0
 IsReadItem source (Rule r) = IsReadRuleOf source r
 IsReadItem source (KeptRule k) = IsReadPiece source (tokens_in source k.piece)
@@ -298,10 +300,14 @@ IsEndedItem source (Rule r) = ⊤
 IsEndedItem source (KeptRule k) = IsEndedBySign (tokens_in source k.piece)
 IsEndedItem source (KeptBlock piece) = IsEndedBySign (tokens_in source piece)
 
+abbrev pub AreReadSourced : List SourcedItem → Type 0
+AreReadSourced [] = ⊤
+AreReadSourced (x ∷ []) = IsReadItem x.source x.item
+AreReadSourced (x ∷ next ∷ xs) = IsReadItem x.source x.item × IsEndedItem x.source x.item × AreReadSourced (next ∷ xs)
+
+-- the same of items of one source
 abbrev pub AreReadItems : List ℕ → List Item → Type 0
-AreReadItems source [] = ⊤
-AreReadItems source (item ∷ []) = IsReadItem source item
-AreReadItems source (item ∷ next ∷ items) = IsReadItem source item × IsEndedItem source item × AreReadItems source (next ∷ items)
+AreReadItems source items = AreReadSourced (all_of_source source items)
 
 pub last-lexed : KeptLexed → (source : List ℕ) (ps : List Part) → IsSpelledBy source ps → (item : Item) → IsReadItem source item → IsLexed (parts_of (item_shown source item) ++ [])
 last-lexed kept_lexed source ps s (Rule r) read = rule-lexed kept_lexed source ps s r read [] tt
@@ -314,11 +320,23 @@ item-lexed kept_lexed source ps s (Rule r) read ended rest lexed = rule-lexed ke
 item-lexed kept_lexed source ps s (KeptRule k) read ended rest lexed = kept-lexed kept_lexed source ps s (tokens_in source k.piece) read ended rest lexed
 item-lexed kept_lexed source ps s (KeptBlock piece) read ended rest lexed = kept-lexed kept_lexed source ps s (tokens_in source piece) read ended rest lexed
 
+-- the parts of the source of such an item
+abbrev pub HasParts : SourcedItem → Type 0
+HasParts x = (ps : List Part) × IsSpelledBy x.source ps
+
+-- The parts of printed items, each of its own source, are read where they stand.
+pub sourced-lexed : KeptLexed → (xs : List SourcedItem) → AllByRecursion HasParts xs → AreReadSourced xs → IsLexed (parts_of (sourced_shown xs))
+sourced-lexed kept_lexed [] spelled read = tt
+sourced-lexed kept_lexed (x ∷ []) ((ps, s), rest) read =
+    subst IsLexed (sym (parts-append (item_shown x.source x.item) [])) (last-lexed kept_lexed x.source ps s x.item read)
+sourced-lexed kept_lexed (x ∷ next ∷ xs) ((ps, s), rest) (read, ended, later) =
+    subst IsLexed (sym (parts-append (item_shown x.source x.item) (sourced_shown (next ∷ xs))))
+    (item-lexed kept_lexed x.source ps s x.item read ended (parts_of (sourced_shown (next ∷ xs))) (sourced-lexed kept_lexed (next ∷ xs) rest later))
+
 -- The parts of a printed sheet are read where they stand.
 pub sheet-lexed : KeptLexed → (source : List ℕ) (ps : List Part) → IsSpelledBy source ps → (items : List Item) → AreReadItems source items → IsLexed (parts_of (sheet_shown source items))
-sheet-lexed kept_lexed source ps s [] read = tt
-sheet-lexed kept_lexed source ps s (item ∷ []) read =
-    subst IsLexed (sym (parts-append (item_shown source item) [])) (last-lexed kept_lexed source ps s item read)
-sheet-lexed kept_lexed source ps s (item ∷ next ∷ items) (read, ended, later) =
-    subst IsLexed (sym (parts-append (item_shown source item) (sheet_shown source (next ∷ items))))
-    (item-lexed kept_lexed source ps s item read ended (parts_of (sheet_shown source (next ∷ items))) (sheet-lexed kept_lexed source ps s (next ∷ items) later))
+sheet-lexed kept_lexed source ps s items read = sourced-lexed kept_lexed (all_of_source source items) (all_spelled items) read
+  where
+    all_spelled : (items : List Item) → AllByRecursion HasParts (all_of_source source items)
+    all_spelled [] = tt
+    all_spelled (item ∷ items) = ((ps, s), all_spelled items)

@@ -19,7 +19,8 @@ use Rattle.css_model.specs.Sheets.RuleParts.{RuleParts}
 use Rattle.css_model.specs.Text.Source.{text_at}
 use Rattle.css_model.specs.Sheets.Spelling.{tokens_in}
 use Rattle.css_model.specs.Text.Tokens.{Part, text_of}
-use Rattle.sheet_laws.proofs.ForCallers.{Shown, all_shown, closed, colon_gap, declaration_shown, importance_shown, inner, item_shown, joined, kept_shown, last_of_item, last_of_value, printed_bytes, rule_shown, selector_shown, sheet_shown, sign_shown, value_shown}
+use Rattle.sheet_laws.specs.Sourced.{SourcedItem, all_of_source, sourced_text}
+use Rattle.sheet_laws.proofs.ForCallers.{Shown, all_shown, closed, colon_gap, declaration_shown, importance_shown, inner, item_shown, joined, kept_shown, last_of_item, last_of_value, printed_bytes, each_of_source, rule_shown, selector_shown, sheet_shown, sign_shown, sourced_shown, text_of_source, value_shown}
 use Rattle.print_laws.proofs.Tokens.Chain.{gap_parts, parts_of, token_part}
 
 pub text-append : (ps qs : List Part) → text_of (ps ++ qs) ≡ text_of ps ++ text_of qs
@@ -176,9 +177,14 @@ item-text source (Rule r) each = rule-text source r each.0 each.1
 item-text source (KeptRule k) each = kept-text source (tokens_in source k.piece) each
 item-text source (KeptBlock piece) each = kept-text source (tokens_in source piece) each
 
+-- The printed text of items, each of its own source, is the text of their tokens.
+pub sourced-text : (xs : List SourcedItem) → AllByRecursion (λ x. IsTextOfItem x.source x.item) xs → shown_text (sourced_shown xs) ≡ flat_map sourced_text xs
+sourced-text [] each = refl
+sourced-text (x ∷ xs) (one, rest) =
+    shown-append (item_shown x.source x.item) (sourced_shown xs)
+    ∙ ap (λ (cs : List ℕ). cs ++ shown_text (sourced_shown xs)) (item-text x.source x.item one)
+    ∙ ap (λ (cs : List ℕ). sourced_text x ++ cs) (sourced-text xs rest)
+
 pub sheet-text : (source : List ℕ) (items : List Item) → AllByRecursion (IsTextOfItem source) items → shown_text (sheet_shown source items) ≡ flat_map (printed_item source) items
-sheet-text source [] each = refl
-sheet-text source (item ∷ items) (one, rest) =
-    shown-append (item_shown source item) (sheet_shown source items)
-    ∙ ap (λ (cs : List ℕ). cs ++ shown_text (sheet_shown source items)) (item-text source item one)
-    ∙ ap (λ (cs : List ℕ). printed_item source item ++ cs) (sheet-text source items rest)
+sheet-text source items each =
+    sourced-text (all_of_source source items) (each_of_source (λ x. IsTextOfItem x.source x.item) source items each) ∙ text_of_source source items

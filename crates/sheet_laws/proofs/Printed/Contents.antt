@@ -1,6 +1,7 @@
 -- A sheet that is read from what was printed for another says what that one says, and is printed alike.
-use Rattle.std.proofs.Common.{◌≡◌, ℕ, ◌*◌, List, [], ◌∷◌, ◌++◌, length, map, None, refl, sym, ◌∙◌, ap, ap₂}
-use Rattle.std.specs.List.{AllZip, AllByRecursion, flat_map, join_with_byte, filter, find}
+use Rattle.std.proofs.Common.{◌≡◌, ℕ, ◌*◌, List, [], ◌∷◌, ◌++◌, length, map, None, refl, sym, ◌∙◌, ap, ap₂, subst}
+use Rattle.std.specs.Prelude.{⊤}
+use Rattle.std.specs.List.{AllZip, flat_map, join_with_byte, filter, find}
 use Rattle.css_model.specs.declared.sheet.DeclItem.{DeclItem}
 use Rattle.css_model.specs.declared.sheet.Item.{Item}
 use Rattle.css_model.specs.declared.sheet.Item.TheVariants.{Rule, KeptRule, KeptBlock}
@@ -13,16 +14,19 @@ use Rattle.css_model.specs.Text.Kept.{solid, kept}
 use Rattle.css_model.specs.Sheets.Printed.{printed_selector, importance, printed_declaration, printed_item, behind_mark, printed}
 use Rattle.css_model.specs.Sheets.PrintedSelector.{selector_text}
 use Rattle.css_model.specs.Sheets.Sheet.{is_namespace, read_items, pairs_of}
+use Rattle.css_model.specs.Text.Lexemes.{piece_of}
 use Rattle.css_model.specs.Text.Source.{text_at}
-use Rattle.css_model.specs.Sheets.Spelling.{Style, Kept, Block, content, all_content, lexemes_of, tokens_in, kept_text}
+use Rattle.css_model.specs.Sheets.Spelling.{Content, Style, Kept, Block, content, all_content, lexemes_of, tokens_in, kept_text}
 use Rattle.css_model.specs.Sheets.StyleRule.{selectors_of}
-use Rattle.sheet_laws.specs.Twins.{selector_with_text, decl_with_text, AreTwinItems, AreTwins}
+use Rattle.sheet_laws.specs.Sourced.{AreTwinsOfSourced, SourcedItem, items_of, printed_sourced, sourced_text}
+use Rattle.sheet_laws.specs.Twins.{selector_with_text, decl_with_text, AreTwinItems}
 use Rattle.sheet_laws.proofs.Printed.Blocks.{IsDeclarationAgain}
 use Rattle.list_facts.proofs.Zips.{zip_length}
 use Rattle.sheet_laws.proofs.Source.Pieces.{AreAscending, stand_alone}
 use Rattle.sheet_laws.proofs.Printed.Preludes.{IsSelectorAgain}
-use Rattle.sheet_laws.proofs.Printed.Sheet.{IsFrom, AreInOrder, IsKeptAgain, IsAgain, sheet_again}
-use Rattle.sheet_laws.proofs.Shown.Tokens.{shown, sheet_shown}
+use Rattle.sheet_laws.proofs.Printed.Joins.{StandsIn}
+use Rattle.sheet_laws.proofs.Printed.Sheet.{AreFromSources, AreSourcedInOrder, IsKeptAgain, IsAgain, IsSourcedAgain, sheet_again}
+use Rattle.sheet_laws.proofs.Shown.Tokens.{kept_shown, shown, sourced_shown}
 
 -- the tokens of a source stand in order
 abbrev pub InOrder : List ℕ → Type 0
@@ -105,23 +109,27 @@ item_says new old order (KeptBlock p') (KeptBlock p) again =
     let text = kept_says new old order p' p again in
     record { says = ap Block text; prints = text; pairs = refl }
 
--- the same of all items of a sheet
-record SayAlike (new old : List ℕ) (its' its : List Item) : Type 0 where
-  says : all_content new its' ≡ all_content old its
-  prints : flat_map (printed_item new) its' ≡ flat_map (printed_item old) its
-  pairs : map pairs_of its' ≡ map pairs_of its
+-- what such an item says
+abbrev pub sourced_content : SourcedItem → Content
+sourced_content x = content x.source x.item
 
-items_say : (new old : List ℕ) → InOrder new → (its' its : List Item) → AllZip (IsAgain new old (lexemes_of new)) its' its → SayAlike new old its' its
-items_say new old order [] [] z = record { says = refl; prints = refl; pairs = refl }
-items_say new old order [] (item ∷ its) z = absurd z
-items_say new old order (item' ∷ its') [] z = absurd z
-items_say new old order (item' ∷ its') (item ∷ its) z =
-    let here = item_says new old order item' item z.0 in
-    let rest = items_say new old order its' its z.1 in
+-- the same of all items of a sheet
+record SayAlike (new : List ℕ) (its : List Item) (xs : List SourcedItem) : Type 0 where
+  says : all_content new its ≡ map sourced_content xs
+  prints : flat_map (printed_item new) its ≡ flat_map sourced_text xs
+  pairs : map pairs_of its ≡ map pairs_of (items_of xs)
+
+items_say : (new : List ℕ) → InOrder new → (its : List Item) (xs : List SourcedItem) → AllZip (IsSourcedAgain new (lexemes_of new)) its xs → SayAlike new its xs
+items_say new order [] [] z = record { says = refl; prints = refl; pairs = refl }
+items_say new order [] (x ∷ xs) z = absurd z
+items_say new order (item ∷ its) [] z = absurd z
+items_say new order (item ∷ its) (x ∷ xs) z =
+    let here = item_says new x.source order item x.item z.0 in
+    let rest = items_say new order its xs z.1 in
     record {
-      says = ap (λ t. t ∷ all_content new its') here.says ∙ ap (λ ts. content old item ∷ ts) rest.says;
-      prints = ap (λ t. t ++ flat_map (printed_item new) its') here.prints ∙ ap (λ t. printed_item old item ++ t) rest.prints;
-      pairs = ap (λ (n : ℕ). n ∷ map pairs_of its') here.pairs ∙ ap (λ (ns : List ℕ). pairs_of item ∷ ns) rest.pairs;
+      says = ap (λ t. t ∷ all_content new its) here.says ∙ ap (λ ts. sourced_content x ∷ ts) rest.says;
+      prints = ap (λ t. t ++ flat_map (printed_item new) its) here.prints ∙ ap (λ t. sourced_text x ++ t) rest.prints;
+      pairs = ap (λ (n : ℕ). n ∷ map pairs_of its) here.pairs ∙ ap (λ (ns : List ℕ). pairs_of x.item ∷ ns) rest.pairs;
     }
 
 -- ---- Item by item, with the texts of the parts
@@ -154,29 +162,73 @@ twin_items new old order (KeptBlock p') (Rule r) again = absurd again
 twin_items new old order (KeptBlock p') (KeptRule k) again = absurd again
 twin_items new old order (KeptBlock p') (KeptBlock p) again = sym (kept_says new old order p' p again)
 
-twins : (new old : List ℕ) → InOrder new → (its' its : List Item) → AllZip (IsAgain new old (lexemes_of new)) its' its → AreTwins old new its its'
-twins new old order [] [] z = tt
-twins new old order [] (item ∷ its) z = absurd z
-twins new old order (item' ∷ its') [] z = absurd z
-twins new old order (item' ∷ its') (item ∷ its) z = (twin_items new old order item' item z.0, twins new old order its' its z.1)
+twins : (new : List ℕ) → InOrder new → (its : List Item) (xs : List SourcedItem) → AllZip (IsSourcedAgain new (lexemes_of new)) its xs → AreTwinsOfSourced new xs its
+twins new order [] [] z = tt
+twins new order [] (x ∷ xs) z = absurd z
+twins new order (item ∷ its) [] z = absurd z
+twins new order (item ∷ its) (x ∷ xs) z = (twin_items new x.source order item x.item z.0, twins new order its xs z.1)
 
--- a sheet that is read from a text that was printed for another, with its source
-pub record IsReadBack (new old : List ℕ) (its : List Item) : Type 0 where
+-- ---- The tokens of kept items
+
+-- in a text the tokens of a kept item stand between others, and they are those that are shown for a kept item of another text
+pub record IsShownAs (new old : List ℕ) (piece' piece : Piece) : Type 0 where
+  pub stands : StandsIn (lexemes_of new) (tokens_in new piece')
+  pub is_piece : piece_of (tokens_in new piece') ≡ piece'
+  pub shown_as : map (shown new) (tokens_in new piece') ≡ kept_shown old (tokens_in old piece)
+
+-- the same of an item of another text and one of this text, where they are kept
+abbrev pub AreShownAgain : List ℕ → List ℕ → Item → Item → Type 0
+AreShownAgain new old (KeptRule k) (KeptRule k') = IsShownAs new old k'.piece k.piece
+AreShownAgain new old (KeptBlock p) (KeptBlock p') = IsShownAs new old p' p
+AreShownAgain new old _ _ = ⊤
+
+abbrev pub IsShownAgain : List ℕ → SourcedItem → Item → Type 0
+IsShownAgain new x item = AreShownAgain new x.source x.item item
+
+kept_shown_as : (new old : List ℕ) → InOrder new → (p' p : Piece) → IsKeptAgain new old (lexemes_of new) p' p → IsShownAs new old p' p
+kept_shown_as new old order p' p again =
+    let are : tokens_in new p' ≡ again.tokens = ap (tokens_in new) again.stands ∙ stand_alone 0 (lexemes_of new) again.tokens order again.inside in
+    record {
+      stands = subst (StandsIn (lexemes_of new)) (sym are) again.inside;
+      is_piece = ap piece_of are ∙ sym again.stands;
+      shown_as = ap (map (shown new)) are ∙ again.shown_as;
+    }
+
+shown_again : (new old : List ℕ) → InOrder new → (item' item : Item) → IsAgain new old (lexemes_of new) item' item → AreShownAgain new old item item'
+shown_again new old order (Rule r') (Rule r) again = tt
+shown_again new old order (Rule r') (KeptRule k) again = absurd again
+shown_again new old order (Rule r') (KeptBlock p) again = absurd again
+shown_again new old order (KeptRule k') (Rule r) again = absurd again
+shown_again new old order (KeptRule k') (KeptRule k) again = kept_shown_as new old order k'.piece k.piece again.0
+shown_again new old order (KeptRule k') (KeptBlock p) again = absurd again
+shown_again new old order (KeptBlock p') (Rule r) again = absurd again
+shown_again new old order (KeptBlock p') (KeptRule k) again = absurd again
+shown_again new old order (KeptBlock p') (KeptBlock p) again = kept_shown_as new old order p' p again
+
+all_shown_again : (new : List ℕ) → InOrder new → (its : List Item) (xs : List SourcedItem) → AllZip (IsSourcedAgain new (lexemes_of new)) its xs → AllZip (IsShownAgain new) xs its
+all_shown_again new order [] [] z = tt
+all_shown_again new order [] (x ∷ xs) z = absurd z
+all_shown_again new order (item ∷ its) [] z = absurd z
+all_shown_again new order (item ∷ its) (x ∷ xs) z = (shown_again new x.source order item x.item z.0, all_shown_again new order its xs z.1)
+
+-- items that are read from a text that was printed for others, each with its source
+pub record IsReadBack (new : List ℕ) (xs : List SourcedItem) : Type 0 where
   pub raw : List (List Lexeme)
   pub is_raw : filter is_whole (items (lexemes_of new)) ≡ raw
   pub no_namespace : find (is_namespace new) raw ≡ None
   pub read : List Item
   pub reads : read_items new raw ≡ read
-  pub says : all_content new read ≡ all_content old its
-  pub prints : printed new read ≡ printed old its
-  pub pairs : map pairs_of read ≡ map pairs_of its
-  pub twins : AreTwins old new its read
+  pub says : all_content new read ≡ map sourced_content xs
+  pub prints : printed new read ≡ printed_sourced xs
+  pub pairs : map pairs_of read ≡ map pairs_of (items_of xs)
+  pub twins : AreTwinsOfSourced new xs read
+  pub shown_as : AllZip (IsShownAgain new) xs read
 
-pub items_read_back : (new old : List ℕ) (its : List Item) → AllByRecursion (IsFrom old) its → AreInOrder old its → InOrder new
-    → map (shown new) (lexemes_of new) ≡ sheet_shown old its → IsReadBack new old its
-items_read_back new old its sound order ascending e =
-    let again = sheet_again new old (lexemes_of new) its sound order e in
-    let alike = items_say new old ascending again.read its again.each in
+pub items_read_back : (new : List ℕ) (xs : List SourcedItem) → AreFromSources xs → AreSourcedInOrder xs → InOrder new
+    → map (shown new) (lexemes_of new) ≡ sourced_shown xs → IsReadBack new xs
+items_read_back new xs sound order ascending e =
+    let again = sheet_again new (lexemes_of new) xs sound order e in
+    let alike = items_say new ascending again.read xs again.each in
     record {
       raw = again.raw;
       is_raw = again.is_raw;
@@ -186,5 +238,6 @@ items_read_back new old its sound order ascending e =
       says = alike.says;
       prints = ap behind_mark alike.prints;
       pairs = alike.pairs;
-      twins = twins new old ascending again.read its again.each;
+      twins = twins new ascending again.read xs again.each;
+      shown_as = all_shown_again new ascending again.read xs again.each;
     }

@@ -3,7 +3,7 @@ use Rattle.std.proofs.Common.{◌≡◌, ℕ, suc, ◌+◌, ◌==◌, ◌≤◌,
 use Rattle.std.proofs.lemmas.Bool.{le-ltb, ne_eqb}
 use Rattle.std.proofs.lemmas.Option.{slice_get_past}
 use Rattle.std.specs.Prelude.{◌&&◌, if◌then◌else◌, nat_lt}
-use Rattle.std.specs.List.{AllByRecursion, filter, find}
+use Rattle.std.specs.List.{AllByRecursion, AllZip, filter, find}
 use Rattle.std.specs.Option.{option_map}
 use Rattle.std.specs.Str.Lossy.{utf8_valid_len}
 use Rattle.css_model.specs.declared.fault.FaultKind.TheVariants.{TooLong, NotUtf8, EndInside, TooDeep, Namespace, TooManyItems, TooManyPairs}
@@ -28,16 +28,16 @@ use Rattle.css_model.specs.Sheets.Fault.{fault_of, unless}
 use Rattle.css_model.specs.Sheets.Sound.{raw_items}
 use Rattle.css_model.specs.Sheets.Spelling.{stands_in, lexemes_of, tokens_in, all_content}
 use Rattle.css_model.specs.Text.Tokens.{tokens}
-use Rattle.sheet_laws.specs.Twins.{AreTwins}
+use Rattle.sheet_laws.specs.Sourced.{AreTwinsOfSourced, SourcedItem, items_of, printed_sourced}
 use Rattle.sheet_laws.proofs.Shown.Alike.{and_false}
 use Rattle.list_facts.proofs.Cuts.{None_of, none_append}
 use Rattle.sheet_laws.proofs.Printed.Joins.{none_joined}
 use Rattle.list_facts.proofs.Zips.{cons_head, cons_tail, cons_not_empty, some_not_none}
-use Rattle.sheet_laws.proofs.Printed.Contents.{InOrder, IsReadBack, items_read_back}
+use Rattle.sheet_laws.proofs.Printed.Contents.{InOrder, IsReadBack, IsShownAgain, items_read_back, sourced_content}
 use Rattle.sheet_laws.proofs.Printed.Preludes.{IsOfSelector}
-use Rattle.sheet_laws.proofs.Printed.Sheet.{IsFrom, AreInOrder}
+use Rattle.sheet_laws.proofs.Printed.Sheet.{AreFromSources, AreSourcedInOrder, IsFrom}
 use Rattle.selector_text_laws.specs.Back.{AreShallow, back}
-use Rattle.sheet_laws.proofs.Shown.Tokens.{Shown, shown, all_shown, inner, last_of_value, last_of_item, kept_shown, value_shown, joined, sign_shown, selector_shown, with_levels, importance_shown, declaration_shown, item_shown, sheet_shown}
+use Rattle.sheet_laws.proofs.Shown.Tokens.{Shown, shown, all_shown, inner, last_of_value, last_of_item, kept_shown, value_shown, joined, sign_shown, selector_shown, with_levels, importance_shown, declaration_shown, item_shown, sourced_shown}
 
 -- a token that opens a bracket too many, and one that is shown so
 abbrev pub is_deep : Lexeme → Bool
@@ -109,18 +109,6 @@ deep_item source fail (Rule r) from =
     (refl, none_joined is_shown_deep (sign_shown semicolon 1) (map (declaration_shown source) r.decls) refl (deep_declarations source fail r.decls)))
     (refl, tt)
 
-deep_sheet : (source : List ℕ) → None_of is_deep (lexemes_of source) → (its : List Item) → AllByRecursion (IsFrom source) its → None_of is_shown_deep (sheet_shown source its)
-deep_sheet source fail [] from = tt
-deep_sheet source fail (item ∷ its) from =
-    none_append is_shown_deep (item_shown source item) (sheet_shown source its) (deep_item source fail item from.0) (deep_sheet source fail its from.1)
-
-not_deep : (source : List ℕ) (ys : List Lexeme) (ss : List Shown) → map (shown source) ys ≡ ss → None_of is_shown_deep ss → find is_deep ys ≡ None
-not_deep source [] ss e fail = refl
-not_deep source (y ∷ ys) [] e fail = absurd (cons_not_empty (shown source y) (map (shown source) ys) e)
-not_deep source (y ∷ ys) (s ∷ ss) e fail =
-    ap (λ b. if b then Some y else find is_deep ys) (ap is_shown_deep (cons_head (shown source y) s (map (shown source) ys) ss e) ∙ fail.0)
-    ∙ not_deep source ys ss (cons_tail (shown source y) s (map (shown source) ys) ss e) fail.1
-
 pub find_none : {A : Type 0} (p : A → Bool) (xs : List A) → find p xs ≡ None → None_of p xs
 find_none p [] e = tt
 find_none p (x ∷ xs) e = which (p x) refl (find_none p xs)
@@ -128,6 +116,23 @@ find_none p (x ∷ xs) e = which (p x) refl (find_none p xs)
     which : (b : Bool) → p x ≡ b → (find p xs ≡ None → None_of p xs) → None_of p (x ∷ xs)
     which true is again = absurd (some_not_none x (sym (ap (λ b. if b then Some x else find p xs) is) ∙ e))
     which false is again = (is, again (sym (ap (λ b. if b then Some x else find p xs) is) ∙ e))
+
+-- such an item is of a source without a bracket too many
+abbrev pub IsShallow : SourcedItem → Type 0
+IsShallow x = find is_deep (lexemes_of x.source) ≡ None
+
+deep_items : (xs : List SourcedItem) → AllByRecursion IsShallow xs → AreFromSources xs → None_of is_shown_deep (sourced_shown xs)
+deep_items [] shallow from = tt
+deep_items (x ∷ xs) shallow from =
+    none_append is_shown_deep (item_shown x.source x.item) (sourced_shown xs)
+    (deep_item x.source (find_none is_deep (lexemes_of x.source) shallow.0) x.item from.0) (deep_items xs shallow.1 from.1)
+
+not_deep : (source : List ℕ) (ys : List Lexeme) (ss : List Shown) → map (shown source) ys ≡ ss → None_of is_shown_deep ss → find is_deep ys ≡ None
+not_deep source [] ss e fail = refl
+not_deep source (y ∷ ys) [] e fail = absurd (cons_not_empty (shown source y) (map (shown source) ys) e)
+not_deep source (y ∷ ys) (s ∷ ss) e fail =
+    ap (λ b. if b then Some y else find is_deep ys) (ap is_shown_deep (cons_head (shown source y) s (map (shown source) ys) ss e) ∙ fail.0)
+    ∙ not_deep source ys ss (cons_tail (shown source y) s (map (shown source) ys) ss e) fail.1
 
 pairs_fit : (n : ℕ) (its' its : List Item) → map pairs_of its' ≡ map pairs_of its → too_many_pairs n its ≡ None → too_many_pairs n its' ≡ None
 pairs_fit n [] its e fits = refl
@@ -144,26 +149,28 @@ pairs_fit n (item' ∷ its') (item ∷ its) e fits = which (nat_lt MAX_PAIRS (n 
         ∙ ap (λ b. if b then Some (start_of item') else too_many_pairs (n + pairs_of item) its') is
         ∙ again (sym (ap (λ b. if b then Some (start_of item) else too_many_pairs (n + pairs_of item) its) is) ∙ fits)
 
--- a text whose tokens are those that are shown for a sheet
-pub record IsPrintOf (new old : List ℕ) (its : List Item) : Type 0 where
+-- a text whose tokens are those that are shown for items, each of its own source
+pub record IsPrintOf (new : List ℕ) (xs : List SourcedItem) : Type 0 where
   pub short : length new ≤ MAX_BYTES
   pub valid : length new ≤ utf8_valid_len new
   pub clean : (tokens new true).fault ≡ None
   pub closed : unclosed (tokens new true).tokens ≡ None
   pub ascending : InOrder new
-  pub shown_as : map (shown new) (lexemes_of new) ≡ sheet_shown old its
+  pub shown_as : map (shown new) (lexemes_of new) ≡ sourced_shown xs
 
 -- the items of a sheet fit, and so do the pairs of its rules
 pub record DoFit (its : List Item) : Type 0 where
   pub items : length its ≤ MAX_ITEMS
   pub pairs : too_many_pairs 0 its ≡ None
 
-pub record IsSameSheet (new old : List ℕ) (its : List Item) : Type 0 where
+-- what a text is read as that was printed for items, each of its own source
+pub record IsSameSheet (new : List ℕ) (xs : List SourcedItem) : Type 0 where
   pub read : List Item
   pub reads : sheet_of new ≡ Ok read
-  pub says : all_content new read ≡ all_content old its
-  pub prints : printed new read ≡ printed old its
-  pub twins : AreTwins old new its read
+  pub says : all_content new read ≡ map sourced_content xs
+  pub prints : printed new read ≡ printed_sourced xs
+  pub twins : AreTwinsOfSourced new xs read
+  pub shown_as : AllZip (IsShownAgain new) xs read
 
 length-pairs : (its : List Item) → length (map pairs_of its) ≡ length its
 length-pairs [] = refl
@@ -174,20 +181,20 @@ abbrev pub by_tests : Option ℕ → Option ℕ → Option ℕ → Option ℕ �
 by_tests deep unclosed namespace many pairs read =
     unless (fault_of TooDeep deep ∷ fault_of EndInside unclosed ∷ fault_of Namespace namespace ∷ fault_of TooManyItems many ∷ fault_of TooManyPairs pairs ∷ []) read
 
--- A text whose tokens are those that are shown for a sheet is read as a sheet that says the same, and that is printed alike.
-pub sheet_reads_back : (new old : List ℕ) (its : List Item) → AllByRecursion (IsFrom old) its → AreInOrder old its → DoFit its → find is_deep (lexemes_of old) ≡ None → IsPrintOf new old its
-    → IsSameSheet new old its
-sheet_reads_back new old its sound order fit shallow print =
-    record { read = back.read; reads = reads; says = back.says; prints = back.prints; twins = back.twins }
+-- A text whose tokens are those that are shown for items, each of its own source, is read as items that say the same, and that are printed alike.
+pub sheet_reads_back : (new : List ℕ) (xs : List SourcedItem) → AreFromSources xs → AreSourcedInOrder xs → DoFit (items_of xs) → AllByRecursion IsShallow xs → IsPrintOf new xs
+    → IsSameSheet new xs
+sheet_reads_back new xs sound order fit shallow print =
+    record { read = back.read; reads = reads; says = back.says; prints = back.prints; twins = back.twins; shown_as = back.shown_as }
   where
-    back : IsReadBack new old its
-    back = items_read_back new old its sound order print.ascending print.shown_as
+    back : IsReadBack new xs
+    back = items_read_back new xs sound order print.ascending print.shown_as
 
     ts : List Token
     ts = (tokens new true).tokens
 
     not_deep_at : too_deep (lexemes_of new) ≡ None
-    not_deep_at = ap (option_map (λ x. x.span.start)) (not_deep new (lexemes_of new) (sheet_shown old its) print.shown_as (deep_sheet old (find_none is_deep (lexemes_of old) shallow) its sound))
+    not_deep_at = ap (option_map (λ x. x.span.start)) (not_deep new (lexemes_of new) (sourced_shown xs) print.shown_as (deep_items xs shallow sound))
 
     names : namespace_at new (raw_items new) ≡ None
     names = ap (λ raw. option_map (λ item. (piece_of item).start) (find (is_namespace new) raw)) back.is_raw ∙ ap (option_map (λ item. (piece_of item).start)) back.no_namespace
@@ -195,14 +202,14 @@ sheet_reads_back new old its sound order fit shallow print =
     is_read : read_items new (raw_items new) ≡ back.read
     is_read = ap (read_items new) back.is_raw ∙ back.reads
 
-    number : length back.read ≡ length its
-    number = sym (length-pairs back.read) ∙ ap length back.pairs ∙ length-pairs its
+    number : length back.read ≡ length (items_of xs)
+    number = sym (length-pairs back.read) ∙ ap length back.pairs ∙ length-pairs (items_of xs)
 
     few_items : too_many_items back.read ≡ None
     few_items = ap (option_map start_of) (slice_get_past back.read MAX_ITEMS (omega (arith, number, fit.items)))
 
     few_pairs : too_many_pairs 0 back.read ≡ None
-    few_pairs = pairs_fit 0 back.read its back.pairs fit.pairs
+    few_pairs = pairs_fit 0 back.read (items_of xs) back.pairs fit.pairs
 
     of_tokens : sheet_of_tokens new ts ≡ Ok back.read
     of_tokens =

@@ -20,6 +20,7 @@ use Rattle.css_model.specs.Sheets.Sheet.{is_at_rule_named, is_import, is_namespa
 use Rattle.css_model.specs.Text.Source.{text_at}
 use Rattle.css_model.specs.Sheets.Spelling.{tokens_in, kept_text}
 use Rattle.css_model.specs.Text.Names.{unescaped}
+use Rattle.sheet_laws.specs.Sourced.{SourcedItem, all_of_source}
 use Rattle.sheet_laws.proofs.Shown.Alike.{IsLike, AreClosable, name_in, all_shut, item_like}
 use Rattle.sheet_laws.proofs.Printed.Entries.{at_rule_like, sign_like}
 use Rattle.sheet_laws.proofs.Printed.Items.{begins_item, is_ended, ended_item_len, all_of_them, StandAsItems, items_again, ended_like, begins_like, item_len_like}
@@ -28,7 +29,7 @@ use Rattle.sheet_laws.proofs.Printed.Kept.{SameAt, kept_item_same}
 use Rattle.list_facts.proofs.Zips.{AreBoth, cut_at, zip_length, zip_any, zip_map}
 use Rattle.sheet_laws.proofs.Printed.Preludes.{IsSelectorAgain}
 use Rattle.sheet_laws.proofs.Printed.Rules.{IsOfRule, IsRuleAgain, rule_again}
-use Rattle.sheet_laws.proofs.Shown.Tokens.{shown, inner, last_of_item, kept_shown, item_shown, sheet_shown, last_from_shown}
+use Rattle.sheet_laws.proofs.Shown.Tokens.{shown, inner, last_of_item, kept_shown, item_shown, sourced_shown, last_from_shown}
 use Rattle.sheet_laws.proofs.Shown.Values.{kept_same}
 
 -- a kept item, by the tokens in its piece: they are an item of the source
@@ -38,6 +39,7 @@ pub record IsOfItem (source : List ℕ) (piece : Piece) : Type 0 where
   pub is_item : item_len (tokens_in source piece) ≡ length (tokens_in source piece)
   pub ended : is_at_rule (tokens_in source piece) ≡ false → is_ended (tokens_in source piece) ≡ true
   pub is_kept : is_whole (tokens_in source piece) ≡ true
+  pub with_block : list_any opens_block (tokens_in source piece) ≡ true → is_ended (tokens_in source piece) ≡ true
   pub no_namespace : is_namespace source (tokens_in source piece) ≡ false
   pub stands : piece_of (tokens_in source piece) ≡ piece
 
@@ -65,21 +67,34 @@ IsBefore source import (Rule r) = import ≡ false
 IsBefore source import (KeptRule k) = (import ≡ false) × (item_of source (tokens_in source k.piece) ≡ Some (KeptRule k))
 IsBefore source import (KeptBlock piece) = import ≡ false → item_of source (tokens_in source piece) ≡ Some (KeptBlock piece)
 
--- an item that others follow ends by itself
-abbrev pub EndsBefore : List ℕ → List Item → Item → Type 0
-EndsBefore source [] item = ⊤
-EndsBefore source (next ∷ rest) item = ends_itself source item ≡ true
+-- such an item is an `@import`
+abbrev pub is_sourced_import : SourcedItem → Bool
+is_sourced_import x = imports x.source x.item
 
--- items in the order of a source: each is as it is read before the others, and only the last may end by the end of the source
+-- an item that others follow ends by itself
+abbrev pub EndsBefore : List SourcedItem → SourcedItem → Type 0
+EndsBefore [] x = ⊤
+EndsBefore (next ∷ rest) x = ends_itself x.source x.item ≡ true
+
+-- Items each in the order of a source: each is as it is read before the others, and only the last may end by the end of its source.
+abbrev pub AreSourcedInOrder : List SourcedItem → Type 0
+AreSourcedInOrder [] = ⊤
+AreSourcedInOrder (x ∷ rest) = IsBefore x.source (list_any is_sourced_import rest) x.item × EndsBefore rest x × AreSourcedInOrder rest
+
+-- the same of items of one source
 abbrev pub AreInOrder : List ℕ → List Item → Type 0
-AreInOrder source [] = ⊤
-AreInOrder source (item ∷ rest) = IsBefore source (list_any (imports source) rest) item × EndsBefore source rest item × AreInOrder source rest
+AreInOrder source its = AreSourcedInOrder (all_of_source source its)
+
+-- items that are each of their source
+abbrev pub AreFromSources : List SourcedItem → Type 0
+AreFromSources xs = AllByRecursion (λ x. IsFrom x.source x.item) xs
 
 -- a kept item that is read from tokens of the same kept text
 pub record IsKeptAgain (new old : List ℕ) (whole : List Lexeme) (piece' piece : Piece) : Type 0 where
   pub tokens : List Lexeme
   pub inside : StandsIn whole tokens
   pub stands : piece' ≡ piece_of tokens
+  pub shown_as : map (shown new) tokens ≡ kept_shown old (tokens_in old piece)
   pub text : kept (map (solid new) tokens) ≡ kept_text old piece
 
 -- an item that is read back
@@ -132,6 +147,7 @@ kept_again new old ys piece sound e =
       tokens = ys;
       inside = stands_whole ys;
       stands = refl;
+      shown_as = e;
       text = kept_same new old ys (tokens_in old piece) (last_from_shown (shown new) (inner old) (last_of_item old) ys (tokens_in old piece) e) (all_shut old (tokens_in old piece) sound.closable);
     }
 
@@ -224,31 +240,32 @@ item_again new old ys (KeptBlock p) sound e =
         let same = subst (λ m. AreBoth (SameAt (piece_of ys) (piece_of (tokens_in old p))) (item_of new ys) m) (before refl) (same_kept new old ys p sound e) in
         kept_block_reads new old ys p (piece_of (tokens_in old p)) (item_of new ys) same (kept_again new old ys p sound e)
 
--- tokens that are shown as a sheet's, cut into those of its items
-record AreCutItems (new old : List ℕ) (ys : List Lexeme) (its : List Item) : Type 0 where
+-- tokens of an item among those of a sheet
+abbrev IsRaw : List ℕ → List Lexeme → List Lexeme → SourcedItem → Type 0
+IsRaw new ys zs x = IsReadItem new x.source zs x.item × StandsIn ys zs
+
+-- tokens that are shown as those of items, cut into those of each
+record AreCutItems (new : List ℕ) (ys : List Lexeme) (xs : List SourcedItem) : Type 0 where
   raw : List (List Lexeme)
   whole : ys ≡ all_of_them raw
-  each : AllZip (λ zs item. IsReadItem new old zs item × StandsIn ys zs) raw its
+  each : AllZip (IsRaw new ys) raw xs
 
-wider_items : (new old : List ℕ) (outer inner : List Lexeme) (raw : List (List Lexeme)) (its : List Item) → StandsIn outer inner
-    → AllZip (λ zs item. IsReadItem new old zs item × StandsIn inner zs) raw its → AllZip (λ zs item. IsReadItem new old zs item × StandsIn outer zs) raw its
-wider_items new old outer inner [] [] inside z = tt
-wider_items new old outer inner [] (item ∷ its) inside z = absurd z
-wider_items new old outer inner (zs ∷ raw) [] inside z = absurd z
-wider_items new old outer inner (zs ∷ raw) (item ∷ its) inside z = ((z.0.0, stands_inside outer inner zs inside z.0.1), wider_items new old outer inner raw its inside z.1)
+wider_items : (new : List ℕ) (outer inner : List Lexeme) (raw : List (List Lexeme)) (xs : List SourcedItem) → StandsIn outer inner
+    → AllZip (IsRaw new inner) raw xs → AllZip (IsRaw new outer) raw xs
+wider_items new outer inner raw xs inside = zip_map (IsRaw new inner) (IsRaw new outer) (λ zs x r. (r.0, stands_inside outer inner zs inside r.1)) raw xs
 
-cut_items : (new old : List ℕ) (ys : List Lexeme) (its : List Item) → AllByRecursion (IsFrom old) its → map (shown new) ys ≡ sheet_shown old its → AreCutItems new old ys its
-cut_items new old [] [] sound e = record { raw = []; whole = refl; each = tt }
-cut_items new old (y ∷ ys) [] sound e = absurd (omega (arith, ap length e))
-cut_items new old ys (item ∷ its) sound e =
-    let cut = cut_at (shown new) ys (item_shown old item) (sheet_shown old its) e in
-    let rest = cut_items new old cut.lower its sound.1 cut.is_behind in
+cut_items : (new : List ℕ) (ys : List Lexeme) (xs : List SourcedItem) → AreFromSources xs → map (shown new) ys ≡ sourced_shown xs → AreCutItems new ys xs
+cut_items new [] [] sound e = record { raw = []; whole = refl; each = tt }
+cut_items new (y ∷ ys) [] sound e = absurd (omega (arith, ap length e))
+cut_items new ys (x ∷ xs) sound e =
+    let cut = cut_at (shown new) ys (item_shown x.source x.item) (sourced_shown xs) e in
+    let rest = cut_items new cut.lower xs sound.1 cut.is_behind in
     record {
       raw = cut.upper ∷ rest.raw;
       whole = cut.whole ∙ ap (λ zs. cut.upper ++ zs) rest.whole;
       each = (
-        (item_again new old cut.upper item sound.0 cut.is_front, subst (λ zs. StandsIn zs cut.upper) (sym cut.whole) (stands_front cut.upper cut.lower)),
-        wider_items new old ys cut.lower rest.raw its (subst (λ zs. StandsIn zs cut.lower) (sym cut.whole) (stands_behind cut.upper cut.lower)) rest.each,
+        (item_again new x.source cut.upper x.item sound.0 cut.is_front, subst (λ zs. StandsIn zs cut.upper) (sym cut.whole) (stands_front cut.upper cut.lower)),
+        wider_items new ys cut.lower rest.raw xs (subst (λ zs. StandsIn zs cut.lower) (sym cut.whole) (stands_behind cut.upper cut.lower)) rest.each,
       );
     }
 
@@ -258,7 +275,7 @@ wider_selectors new old outer inner inside = zip_map (IsSelectorAgain new old in
 
 wider_kept : (new old : List ℕ) (outer inner : List Lexeme) → StandsIn outer inner → (p' p : Piece) → IsKeptAgain new old inner p' p → IsKeptAgain new old outer p' p
 wider_kept new old outer inner inside p' p again =
-    record { tokens = again.tokens; inside = stands_inside outer inner again.tokens inside again.inside; stands = again.stands; text = again.text }
+    record { tokens = again.tokens; inside = stands_inside outer inner again.tokens inside again.inside; stands = again.stands; shown_as = again.shown_as; text = again.text }
 
 wider_again : (new old : List ℕ) (outer inner : List Lexeme) → StandsIn outer inner → (read item : Item) → IsAgain new old inner read item → IsAgain new old outer read item
 wider_again new old outer inner inside (Rule r') (Rule r) again =
@@ -272,84 +289,84 @@ wider_again new old outer inner inside (KeptBlock p') (Rule r) again = absurd ag
 wider_again new old outer inner inside (KeptBlock p') (KeptRule k) again = absurd again
 wider_again new old outer inner inside (KeptBlock p') (KeptBlock p) again = wider_kept new old outer inner inside p' p again
 
--- tokens of an item among those of a sheet
-abbrev IsRaw : List ℕ → List ℕ → List Lexeme → List Lexeme → Item → Type 0
-IsRaw new old ys zs item = IsReadItem new old zs item × StandsIn ys zs
+raw_stand : (new : List ℕ) (ys : List Lexeme) (raw : List (List Lexeme)) (xs : List SourcedItem) → AllZip (IsRaw new ys) raw xs → AreSourcedInOrder xs → StandAsItems raw
+raw_stand new ys [] [] z order = tt
+raw_stand new ys [] (x ∷ xs) z order = absurd z
+raw_stand new ys (zs ∷ raw) [] z order = absurd z
+raw_stand new ys (zs ∷ []) (x ∷ []) z order = (z.0.0.begins, z.0.0.is_item)
+raw_stand new ys (zs ∷ []) (x ∷ next ∷ xs) z order = absurd z.1
+raw_stand new ys (zs ∷ later ∷ raw) (x ∷ []) z order = absurd z.1
+raw_stand new ys (zs ∷ later ∷ raw) (x ∷ next ∷ xs) z order =
+    (z.0.0.begins, z.0.0.ended ∙ order.1, raw_stand new ys (later ∷ raw) (next ∷ xs) z.1 order.2)
 
-raw_stand : (new old : List ℕ) (ys : List Lexeme) (raw : List (List Lexeme)) (its : List Item) → AllZip (IsRaw new old ys) raw its → AreInOrder old its → StandAsItems raw
-raw_stand new old ys [] [] z order = tt
-raw_stand new old ys [] (item ∷ its) z order = absurd z
-raw_stand new old ys (zs ∷ raw) [] z order = absurd z
-raw_stand new old ys (zs ∷ []) (item ∷ []) z order = (z.0.0.begins, z.0.0.is_item)
-raw_stand new old ys (zs ∷ []) (item ∷ next ∷ its) z order = absurd z.1
-raw_stand new old ys (zs ∷ later ∷ raw) (item ∷ []) z order = absurd z.1
-raw_stand new old ys (zs ∷ later ∷ raw) (item ∷ next ∷ its) z order =
-    (z.0.0.begins, z.0.0.ended ∙ order.1, raw_stand new old ys (later ∷ raw) (next ∷ its) z.1 order.2)
+raw_whole : (new : List ℕ) (ys : List Lexeme) (raw : List (List Lexeme)) (xs : List SourcedItem) → AllZip (IsRaw new ys) raw xs → filter is_whole raw ≡ raw
+raw_whole new ys [] [] z = refl
+raw_whole new ys [] (x ∷ xs) z = absurd z
+raw_whole new ys (zs ∷ raw) [] z = absurd z
+raw_whole new ys (zs ∷ raw) (x ∷ xs) z =
+    ap (λ b. if b then zs ∷ filter is_whole raw else filter is_whole raw) z.0.0.is_kept ∙ ap (λ rest. zs ∷ rest) (raw_whole new ys raw xs z.1)
 
-raw_whole : (new old : List ℕ) (ys : List Lexeme) (raw : List (List Lexeme)) (its : List Item) → AllZip (IsRaw new old ys) raw its → filter is_whole raw ≡ raw
-raw_whole new old ys [] [] z = refl
-raw_whole new old ys [] (item ∷ its) z = absurd z
-raw_whole new old ys (zs ∷ raw) [] z = absurd z
-raw_whole new old ys (zs ∷ raw) (item ∷ its) z =
-    ap (λ b. if b then zs ∷ filter is_whole raw else filter is_whole raw) z.0.0.is_kept ∙ ap (λ rest. zs ∷ rest) (raw_whole new old ys raw its z.1)
+raw_names : (new : List ℕ) (ys : List Lexeme) (raw : List (List Lexeme)) (xs : List SourcedItem) → AllZip (IsRaw new ys) raw xs → find (is_namespace new) raw ≡ None
+raw_names new ys [] [] z = refl
+raw_names new ys [] (x ∷ xs) z = absurd z
+raw_names new ys (zs ∷ raw) [] z = absurd z
+raw_names new ys (zs ∷ raw) (x ∷ xs) z =
+    ap (λ b. if b then Some zs else find (is_namespace new) raw) z.0.0.no_namespace ∙ raw_names new ys raw xs z.1
 
-raw_names : (new old : List ℕ) (ys : List Lexeme) (raw : List (List Lexeme)) (its : List Item) → AllZip (IsRaw new old ys) raw its → find (is_namespace new) raw ≡ None
-raw_names new old ys [] [] z = refl
-raw_names new old ys [] (item ∷ its) z = absurd z
-raw_names new old ys (zs ∷ raw) [] z = absurd z
-raw_names new old ys (zs ∷ raw) (item ∷ its) z =
-    ap (λ b. if b then Some zs else find (is_namespace new) raw) z.0.0.no_namespace ∙ raw_names new old ys raw its z.1
+raw_imports : (new : List ℕ) (ys : List Lexeme) (raw : List (List Lexeme)) (xs : List SourcedItem) → AllZip (IsRaw new ys) raw xs → list_any (is_import new) raw ≡ list_any is_sourced_import xs
+raw_imports new ys = zip_any (IsRaw new ys) (is_import new) is_sourced_import (λ zs x r. r.0.import)
 
-raw_imports : (new old : List ℕ) (ys : List Lexeme) (raw : List (List Lexeme)) (its : List Item) → AllZip (IsRaw new old ys) raw its → list_any (is_import new) raw ≡ list_any (imports old) its
-raw_imports new old ys = zip_any (IsRaw new old ys) (is_import new) (imports old) (λ zs item r. r.0.import)
+-- an item that such an item is read back as
+abbrev pub IsSourcedAgain : List ℕ → List Lexeme → Item → SourcedItem → Type 0
+IsSourcedAgain new whole read x = IsAgain new x.source whole read x.item
 
-record AreRead (new old : List ℕ) (ys : List Lexeme) (raw : List (List Lexeme)) (its : List Item) : Type 0 where
+record AreRead (new : List ℕ) (ys : List Lexeme) (raw : List (List Lexeme)) (xs : List SourcedItem) : Type 0 where
   read : List Item
   reads : read_items new raw ≡ read
-  each : AllZip (IsAgain new old ys) read its
+  each : AllZip (IsSourcedAgain new ys) read xs
 
-read_first : (new old : List ℕ) (ys zs : List Lexeme) (raw : List (List Lexeme)) (item : Item) (its : List Item) → IsRaw new old ys zs item → IsBefore old (list_any (imports old) its) item
-    → list_any (is_import new) raw ≡ list_any (imports old) its → AreRead new old ys raw its → AreRead new old ys (zs ∷ raw) (item ∷ its)
-read_first new old ys zs raw item its r before imported rest =
-    let here = r.0.reads (list_any (imports old) its) before in
+read_first : (new : List ℕ) (ys zs : List Lexeme) (raw : List (List Lexeme)) (x : SourcedItem) (xs : List SourcedItem) → IsRaw new ys zs x → IsBefore x.source (list_any is_sourced_import xs) x.item
+    → list_any (is_import new) raw ≡ list_any is_sourced_import xs → AreRead new ys raw xs → AreRead new ys (zs ∷ raw) (x ∷ xs)
+read_first new ys zs raw x xs r before imported rest =
+    let here = r.0.reads (list_any is_sourced_import xs) before in
     record {
       read = here.0 ∷ rest.read;
       reads =
           ap (λ b. cons_option (if b then Some (KeptBlock (piece_of zs)) else item_of new zs) (read_items new raw)) imported
-          ∙ ap (λ x. cons_option x (read_items new raw)) here.1
-          ∙ ap (λ xs. here.0 ∷ xs) rest.reads;
-      each = (wider_again new old ys zs r.1 here.0 item here.2, rest.each);
+          ∙ ap (λ read. cons_option read (read_items new raw)) here.1
+          ∙ ap (λ read. here.0 ∷ read) rest.reads;
+      each = (wider_again new x.source ys zs r.1 here.0 x.item here.2, rest.each);
     }
 
-raw_read : (new old : List ℕ) (ys : List Lexeme) (raw : List (List Lexeme)) (its : List Item) → AllZip (IsRaw new old ys) raw its → AreInOrder old its → AreRead new old ys raw its
-raw_read new old ys [] [] z order = record { read = []; reads = refl; each = tt }
-raw_read new old ys [] (item ∷ its) z order = absurd z
-raw_read new old ys (zs ∷ raw) [] z order = absurd z
-raw_read new old ys (zs ∷ raw) (item ∷ its) z order =
-    read_first new old ys zs raw item its z.0 order.0 (raw_imports new old ys raw its z.1) (raw_read new old ys raw its z.1 order.2)
+raw_read : (new : List ℕ) (ys : List Lexeme) (raw : List (List Lexeme)) (xs : List SourcedItem) → AllZip (IsRaw new ys) raw xs → AreSourcedInOrder xs → AreRead new ys raw xs
+raw_read new ys [] [] z order = record { read = []; reads = refl; each = tt }
+raw_read new ys [] (x ∷ xs) z order = absurd z
+raw_read new ys (zs ∷ raw) [] z order = absurd z
+raw_read new ys (zs ∷ raw) (x ∷ xs) z order =
+    read_first new ys zs raw x xs z.0 order.0 (raw_imports new ys raw xs z.1) (raw_read new ys raw xs z.1 order.2)
 
 -- what the tokens of a printed sheet are read as
-pub record IsSheetAgain (new old : List ℕ) (ys : List Lexeme) (its : List Item) : Type 0 where
+pub record IsSheetAgain (new : List ℕ) (ys : List Lexeme) (xs : List SourcedItem) : Type 0 where
   pub raw : List (List Lexeme)
   pub is_raw : filter is_whole (items ys) ≡ raw
   pub no_namespace : find (is_namespace new) raw ≡ None
   pub read : List Item
   pub reads : read_items new raw ≡ read
-  pub each : AllZip (IsAgain new old ys) read its
+  pub each : AllZip (IsSourcedAgain new ys) read xs
 
--- Tokens that are shown as those of a sheet are read as its items.
-pub sheet_again : (new old : List ℕ) (ys : List Lexeme) (its : List Item) → AllByRecursion (IsFrom old) its → AreInOrder old its → map (shown new) ys ≡ sheet_shown old its
-    → IsSheetAgain new old ys its
-sheet_again new old ys its sound order e =
-    let cut = cut_items new old ys its sound e in
-    let read = raw_read new old ys cut.raw its cut.each order in
+-- Tokens that are shown as those of items, each of its own source, are read as these items.
+pub sheet_again : (new : List ℕ) (ys : List Lexeme) (xs : List SourcedItem) → AreFromSources xs → AreSourcedInOrder xs → map (shown new) ys ≡ sourced_shown xs
+    → IsSheetAgain new ys xs
+sheet_again new ys xs sound order e =
+    let cut = cut_items new ys xs sound e in
+    let read = raw_read new ys cut.raw xs cut.each order in
     record {
       raw = cut.raw;
       is_raw =
           ap (λ zs. filter is_whole (items zs)) cut.whole
-          ∙ ap (filter is_whole) (items_again cut.raw (raw_stand new old ys cut.raw its cut.each order))
-          ∙ raw_whole new old ys cut.raw its cut.each;
-      no_namespace = raw_names new old ys cut.raw its cut.each;
+          ∙ ap (filter is_whole) (items_again cut.raw (raw_stand new ys cut.raw xs cut.each order))
+          ∙ raw_whole new ys cut.raw xs cut.each;
+      no_namespace = raw_names new ys cut.raw xs cut.each;
       read = read.read;
       reads = read.reads;
       each = read.each;

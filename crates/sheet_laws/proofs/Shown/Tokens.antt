@@ -19,6 +19,7 @@ use Rattle.css_model.specs.Sheets.RuleParts.{RuleParts}
 use Rattle.css_model.specs.Text.Source.{text_at}
 use Rattle.css_model.specs.Sheets.Spelling.{tokens_in}
 use Rattle.list_facts.proofs.Zips.{AllLast, cons_head, cons_tail, cons_not_empty}
+use Rattle.sheet_laws.specs.Sourced.{SourcedItem, all_of_source}
 use Rattle.selector_text_laws.specs.Back.{back}
 
 -- a token apart from where it stands
@@ -119,8 +120,13 @@ item_shown source (Rule r) = rule_shown source r
 item_shown source (KeptRule k) = kept_shown source (tokens_in source k.piece)
 item_shown source (KeptBlock piece) = kept_shown source (tokens_in source piece)
 
+-- of the print of items each of its own source
+abbrev pub sourced_shown : List SourcedItem → List Shown
+sourced_shown xs = flat_map (λ x. item_shown x.source x.item) xs
+
+-- of the print of a sheet
 abbrev pub sheet_shown : List ℕ → List Item → List Shown
-sheet_shown source items = flat_map (item_shown source) items
+sheet_shown source items = sourced_shown (all_of_source source items)
 
 pub last_from_shown : (f others last : Lexeme → Shown) (ys xs : List Lexeme) → map f ys ≡ all_shown others last xs
     → AllLast (λ y x. f y ≡ others x) (λ y x. f y ≡ last x) ys xs

@@ -36,7 +36,8 @@ use Rattle.sheet_laws.proofs.Printed.Preludes.{IsOfSelector, selector_in, some_s
 use Rattle.selector_text_laws.specs.Back.{IsClosableSolid}
 use Rattle.selector_text_laws.proofs.ForCallers.{selectors_read_back}
 use Rattle.sheet_laws.proofs.Source.Raw.{IsRawItem, EndBefore}
-use Rattle.sheet_laws.proofs.Printed.Sheet.{not_named, IsOfItem, IsFrom, imports, ends_itself, IsBefore, EndsBefore, AreInOrder}
+use Rattle.sheet_laws.specs.Sourced.{all_of_source, of_source}
+use Rattle.sheet_laws.proofs.Printed.Sheet.{not_named, IsOfItem, IsFrom, imports, is_sourced_import, ends_itself, IsBefore, EndsBefore, AreInOrder}
 
 -- the tokens of a source: they stand in order, and white space closes the escapes that they end in
 pub record HasGoodTokens (source : List ℕ) : Type 0 where
@@ -168,6 +169,7 @@ kept_from source good xs raw name =
       is_item = subst (λ zs. item_len zs ≡ length zs) (sym alone) raw.is_item.is_item;
       ended = subst (λ zs. is_at_rule zs ≡ false → is_ended zs ≡ true) (sym alone) (raw.is_item.ended raw.is_kept);
       is_kept = ap is_whole alone ∙ raw.is_kept;
+      with_block = subst (λ zs. list_any opens_block zs ≡ true → is_ended zs ≡ true) (sym alone) raw.is_item.with_block;
       no_namespace = ap (is_namespace source) alone ∙ name;
       stands = ap piece_of alone;
     }
@@ -253,22 +255,22 @@ dropped_no_import source xs none = which (is_at_rule xs) refl
 pub record AreOrigins (source : List ℕ) (raw : List (List Lexeme)) (read : List Item) : Type 0 where
   pub from : AllByRecursion (IsFrom source) read
   pub order : AreInOrder source read
-  pub import : list_any (imports source) read ≡ list_any (is_import source) raw
+  pub import : list_any is_sourced_import (all_of_source source read) ≡ list_any (is_import source) raw
   pub some : raw ≡ [] → read ≡ []
 
 -- an item before others that were read
 origin_first : (source : List ℕ) (xs : List Lexeme) (raw : List (List Lexeme)) (read : List Item) (item : Item) → EndBefore (xs ∷ raw) → AreOrigins source raw read
-    → IsFrom source item → IsBefore source (list_any (imports source) read) item → imports source item ≡ is_import source xs → (is_ended xs ≡ true → ends_itself source item ≡ true)
+    → IsFrom source item → IsBefore source (list_any is_sourced_import (all_of_source source read)) item → imports source item ≡ is_import source xs → (is_ended xs ≡ true → ends_itself source item ≡ true)
     → AreOrigins source (xs ∷ raw) (item ∷ read)
 origin_first source xs raw read item order rest from before import ends =
     record {
       from = (from, rest.from);
       order = (before, by_lists raw read order rest.some, rest.order);
-      import = ap (λ b. b || list_any (imports source) read) import ∙ ap (λ b. is_import source xs || b) rest.import;
+      import = ap (λ b. b || list_any is_sourced_import (all_of_source source read)) import ∙ ap (λ b. is_import source xs || b) rest.import;
       some = λ none. absurd (cons_not_empty xs raw none);
     }
   where
-    by_lists : (raw : List (List Lexeme)) (read : List Item) → EndBefore (xs ∷ raw) → (raw ≡ [] → read ≡ []) → EndsBefore source read item
+    by_lists : (raw : List (List Lexeme)) (read : List Item) → EndBefore (xs ∷ raw) → (raw ≡ [] → read ≡ []) → EndsBefore (all_of_source source read) (of_source source item)
     by_lists raw [] order some = tt
     by_lists [] (next ∷ read) order some = absurd (cons_not_empty next read (some refl))
     by_lists (ys ∷ raw) (next ∷ read) order some = ends order.0

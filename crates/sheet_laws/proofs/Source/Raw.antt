@@ -69,6 +69,7 @@ pub record IsItemOf (whole item : List Lexeme) : Type 0 where
   pub begins : begins_item item ≡ true
   pub is_item : item_len item ≡ length item
   pub ended : is_whole item ≡ true → is_at_rule item ≡ false → is_ended item ≡ true
+  pub with_block : list_any opens_block item ≡ true → is_ended item ≡ true
 
 -- items of which all but the last end by themselves
 abbrev pub EndBefore : List (List Lexeme) → Type 0
@@ -145,6 +146,7 @@ first_item_of x xs closed other = which (list_any (ends_prelude a) (x ∷ xs)) r
             begins = begins;
             is_item = ap item_len (sym (append-nil item)) ∙ ended_item_len item [] ended;
             ended = λ kept qualified. ended;
+            with_block = λ some. ended;
           };
           end = inl ended;
         }
@@ -157,6 +159,7 @@ first_item_of x xs closed other = which (list_any (ends_prelude a) (x ∷ xs)) r
             begins = begins;
             is_item = ap item_len is ∙ all ∙ ap length (sym is);
             ended = λ kept qualified. absurd (true≢false (sym kept ∙ ap is_whole is ∙ dropped (sym (ap is_at_rule is) ∙ qualified)));
+            with_block = λ some. absurd (true≢false (sym some ∙ ap (list_any opens_block) is ∙ any_weaker (is_at_keyword x.kind) (x ∷ xs) none));
           };
           end = inr all;
         }
@@ -171,7 +174,7 @@ end_before item (next ∷ rest) ended order = (ended, order)
 wider_raw : (outer inner : List Lexeme) → StandsIn outer inner → (raw : List (List Lexeme)) → AllByRecursion (IsItemOf inner) raw → AllByRecursion (IsItemOf outer) raw
 wider_raw outer inner inside [] each = tt
 wider_raw outer inner inside (item ∷ raw) each = (
-  record { stands = stands_inside outer inner item inside each.0.stands; begins = each.0.begins; is_item = each.0.is_item; ended = each.0.ended },
+  record { stands = stands_inside outer inner item inside each.0.stands; begins = each.0.begins; is_item = each.0.is_item; ended = each.0.ended; with_block = each.0.with_block },
   wider_raw outer inner inside raw each.1,
 )
 

@@ -17,11 +17,12 @@ use Rattle.css_model.specs.Sheets.Spelling.{lexemes_of}
 use Rattle.css_model.specs.Text.Tokens.{tokens}
 use Rattle.css_model.specs.Sheets.ComesFrom.{Follows}
 use Rattle.sheet_laws.proofs.Printed.Blocks.{IsOfDeclaration}
-use Rattle.sheet_laws.proofs.Printed.Faults.{DoFit, IsPrintOf, IsSameSheet, by_tests, is_deep, find_none, sheet_reads_back}
+use Rattle.sheet_laws.proofs.Printed.Faults.{DoFit, by_tests, is_deep, find_none}
 use Rattle.list_facts.proofs.Zips.{cons_not_empty, some_not_none}
 use Rattle.sheet_laws.proofs.Source.Origins.{HasGoodTokens, AreOrigins, origins}
 use Rattle.sheet_laws.proofs.Source.Raw.{raw_stand}
-use Rattle.sheet_laws.proofs.Printed.Sheet.{IsFrom, AreInOrder, EndsBefore, imports, IsBefore}
+use Rattle.sheet_laws.specs.Sourced.{all_of_source, of_source}
+use Rattle.sheet_laws.proofs.Printed.Sheet.{IsFrom, AreInOrder, EndsBefore, imports, is_sourced_import, IsBefore}
 use Rattle.sheet_laws.proofs.Source.Closed.{all_closed}
 
 abbrev ok_or : {A E : Type 0} → A → Result A E → A
@@ -137,7 +138,7 @@ follows_joined ((Rule r) ∷ before) upper lower joined behind =
 follows_joined ((KeptRule k) ∷ before) upper lower joined behind = (refl, follows_joined before upper lower joined behind)
 follows_joined ((KeptBlock p) ∷ before) upper lower joined behind = (refl, follows_joined before upper lower joined behind)
 
-imports_follow : (source : List ℕ) (its old : List Item) → Follows its old → list_any (imports source) its ≡ list_any (imports source) old
+imports_follow : (source : List ℕ) (its old : List Item) → Follows its old → list_any is_sourced_import (all_of_source source its) ≡ list_any is_sourced_import (all_of_source source old)
 imports_follow source [] [] f = refl
 imports_follow source (item ∷ its) [] f = absurd f
 imports_follow source [] ((Rule r) ∷ old) f = imports_follow source [] old f
@@ -149,21 +150,21 @@ imports_follow source ((KeptRule j) ∷ its) ((Rule r) ∷ old) f = imports_foll
 imports_follow source ((KeptBlock o) ∷ its) ((Rule r) ∷ old) f = imports_follow source ((KeptBlock o) ∷ its) old f
 imports_follow source ((Rule q) ∷ its) ((KeptRule k) ∷ old) f = absurd f
 imports_follow source ((KeptRule j) ∷ its) ((KeptRule k) ∷ old) f =
-    ap (λ k. imports source (KeptRule k) || list_any (imports source) its) f.0 ∙ ap (λ b. imports source (KeptRule k) || b) (imports_follow source its old f.1)
+    ap (λ k. imports source (KeptRule k) || list_any is_sourced_import (all_of_source source its)) f.0 ∙ ap (λ b. imports source (KeptRule k) || b) (imports_follow source its old f.1)
 imports_follow source ((KeptBlock o) ∷ its) ((KeptRule k) ∷ old) f = absurd f
 imports_follow source ((Rule q) ∷ its) ((KeptBlock p) ∷ old) f = absurd f
 imports_follow source ((KeptRule j) ∷ its) ((KeptBlock p) ∷ old) f = absurd f
 imports_follow source ((KeptBlock o) ∷ its) ((KeptBlock p) ∷ old) f =
-    ap (λ p. imports source (KeptBlock p) || list_any (imports source) its) f.0 ∙ ap (λ b. imports source (KeptBlock p) || b) (imports_follow source its old f.1)
+    ap (λ p. imports source (KeptBlock p) || list_any is_sourced_import (all_of_source source its)) f.0 ∙ ap (λ b. imports source (KeptBlock p) || b) (imports_follow source its old f.1)
 
 -- where nothing follows, nothing followed but rules
-ends_follow : (source : List ℕ) (its old : List Item) (item : Item) → Follows its old → EndsBefore source old item → EndsBefore source its item
+ends_follow : (source : List ℕ) (its old : List Item) (item : Item) → Follows its old → EndsBefore (all_of_source source old) (of_source source item) → EndsBefore (all_of_source source its) (of_source source item)
 ends_follow source [] old item f ends = tt
 ends_follow source (next ∷ its) [] item f ends = absurd f
 ends_follow source (next ∷ its) (o ∷ old) item f ends = ends
 
 pub first_follows : (source : List ℕ) (its old : List Item) (item : Item) → Follows its old → AreInOrder source its
-    → IsBefore source (list_any (imports source) old) item → EndsBefore source old item → AreInOrder source (item ∷ its)
+    → IsBefore source (list_any is_sourced_import (all_of_source source old)) item → EndsBefore (all_of_source source old) (of_source source item) → AreInOrder source (item ∷ its)
 first_follows source its old item f order before ends =
     (subst (λ b. IsBefore source b item) (sym (imports_follow source its old f)) before, ends_follow source its old item f ends, order)
 
@@ -204,10 +205,3 @@ joined_from source upper lower first second = record {
     each_append : {A : Type 0} → (P : A → Type 0) (xs ys : List A) → AllByRecursion P xs → AllByRecursion P ys → AllByRecursion P (xs ++ ys)
     each_append P [] ys first second = second
     each_append P (x ∷ xs) ys first second = (first.0, each_append P xs ys first.1 second)
-
--- A sheet of rules and kept items of a source that was read, in its order, is read back from a text whose tokens are those that are shown for it.
-pub printed_reads_back : (new old : List ℕ) (read its : List Item) → HasGoodTokens old → sheet_of old ≡ Ok read → Follows its read → AllByRecursion (IsFrom old) its → DoFit its → IsPrintOf new old its
-    → IsSameSheet new old its
-printed_reads_back new old read its good reads follows from fit print =
-    let sheet = read_from old read good reads in
-    sheet_reads_back new old its from (in_order old its read follows sheet.order) fit sheet.shallow print
