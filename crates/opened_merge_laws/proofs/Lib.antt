@@ -5,6 +5,7 @@ mod KeptContents
 mod Lengths
 mod Marks
 mod Numbers
+mod OpenedExamples
 mod ReadBack
 mod ReadContents
 mod ReadWinners
