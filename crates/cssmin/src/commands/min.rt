@@ -36,7 +36,7 @@ pub(crate) fn merged(
 }
 
 /// What is told of a merged text: nothing, or its report where one is asked for.
-#[tactic(auto, using(crate::proofs::Merging::stays_itself))]
+#[tactic(auto, using(crate::proofs::Staying::stays_itself))]
 fn told_of(
     alloc: Global,
     asked: bool,
