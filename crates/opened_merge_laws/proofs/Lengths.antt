@@ -47,7 +47,7 @@ marked text = which (starts_with nat_eq text byte_order_mark)
     which true = omega arith
     which false = omega arith
 
-unmarked : (text : List ℕ) → length text ≤ length (behind_mark text)
+pub unmarked : (text : List ℕ) → length text ≤ length (behind_mark text)
 unmarked text = which (starts_with nat_eq text byte_order_mark)
   where
     which : (b : Bool) → length text ≤ length (if b then space ∷ text else text)
