@@ -2,7 +2,7 @@
 # make check      the whole gate: every proof, must-fail edit, test and program, and the process tried
 # make install    installs it below PREFIX (/usr/local), with its man page and completions for bash, zsh and fish
 # make examples   checks that the program gives the outputs beside the examples
-# make bench      measures it, and its reading of tokens, against wc -c on the same files
+# make bench      measures it, its reading of tokens and its answers for pairs, against wc -c on the same files
 # make sizes      prints the sizes that it and esbuild give the examples
 # make recipes    tries the recipes for builds in examples/build
 
@@ -34,8 +34,10 @@ examples: cssmin
 
 bench: cssmin
 	cd crates/token_count && $(RT) run </dev/null
+	cd crates/pair_count && $(RT) run </dev/null
 	python3 bench/min.py ./cssmin $(SHEETS)
 	python3 bench/tokens.py crates/token_count/out/token_count
+	python3 bench/pairs.py crates/pair_count/out/pair_count $(SHEETS)
 
 sizes: cssmin
 	python3 bench/sizes.py ./cssmin $(SHEETS)

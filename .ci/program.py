@@ -12,6 +12,7 @@ import glob
 import os
 import re
 import resource
+import shlex
 import subprocess
 import sys
 import tempfile
@@ -111,6 +112,62 @@ def try_words(tries):
         tries.check_read(name, words, SHEET, 2, b"", told, 0)
 
 
+# Lines of words of no form. A word that has spaces, or nothing, stands in quotes.
+WRONG_LINES = """
+min --budget 20001
+min --budget=20001
+min --budget=07
+min --budget
+min --budget=
+min --budget=+1
+min --budget -1
+min --budget 0x1
+min --budget 99999999999999999999
+min --budget 1 --budget 1
+min --budget --report
+min --report --report
+min --report=1
+min --log
+min sheet.css
+min -
+min --
+Min
+--min
+'min '
+''
+trial
+trial 2001
+trial 007
+trial +7
+trial ''
+trial 1 2
+trial 3 --budget 1
+cmp a
+cmp a b c
+cmp -a b
+cmp -- a b
+cmp a b --report
+cmp a b --log --log
+why 1
+why 01 1
+why 1 4294967296
+why 1 2 3
+help min
+--version --version
+"""
+
+
+def try_wrong_lines(tries):
+    for line in WRONG_LINES.strip().splitlines():
+        with tempfile.TemporaryFile(buffering=0) as sheet:
+            sheet.write(SHEET)
+            sheet.seek(0)
+            ran = tries.run(shlex.split(line), sheet)
+            told = ran.stderr == USAGE or ran.stderr.startswith(b"error: ") and ran.stderr.endswith(b"\n")
+            found = (ran.returncode, ran.stdout, told, sheet.tell())
+            tries.is_same(line, "the status, standard output, whether it is told, and what was read", found, (2, b"", True, 0))
+
+
 def try_itself(tries):
     """Help and the version, which is that of README."""
     with open("README.md", encoding="utf-8") as file:
@@ -143,7 +200,8 @@ def try_pages(tries):
 
 
 def try_pairs(tries):
-    overlap = b"overlap\nchild 0 pseudo none\n0 1 - x\n1 1 * x class=icon-a%20b%20a\n"
+    page = b"overlap\nchild 0 pseudo none\n0 1 - x\n"
+    overlap = page + b"1 1 * x class=icon-a%20b%20a\n"
     for words, text in [
         (["#a #a", "b"], b"disjoint\n"),
         ([":nth-child(2n)+p", ":nth-child(2n)"], b"disjoint\n"),
@@ -151,8 +209,33 @@ def try_pairs(tries):
         (['[class^="icon-"]', ".b"], overlap),
         (["a:is(b)", "c"], b"outside 1\n"),
         (["", "a"], b"outside 10\n"),
+        (["a:link", "a:visited", "--budget", "0"], b"disjoint\n"),
+        (["a:link", "a:visited", "--budget=0"], b"disjoint\n"),
+        ([":nth-child(32n+1)", ":nth-last-child(31n+5)"], page + b"1 1 * x\n1 4 - x\n"),
+        (["[lang|=en]:not([lang^=\"en-\"])", "[lang=en-GB]"], b"disjoint\n"),
+        (["a:hover:link:not(:empty)", "[id]"], page + b"1 1 * a +text :link :hover id=\n"),
+        ([":root:first-child", "html"], b"overlap\nchild 1 pseudo none\n0 1 * html\n"),
+        (["a", "x|y"], b"outside 3\n"),
+        (["li:nth-child(33n)", "a"], b"outside 8\n"),
+        (["p:nth-child(2n):nth-child(3n)", "p:nth-child(5n):nth-child(7n)"], page + b"1 209 - x\n1 1 * p\n"),
+        (["p:nth-child(2n):nth-child(3n):nth-child(5n)", "p:nth-child(7n):nth-child(11n)"], b"outside 11\n"),
+        (["[a~=b]:not([a*=\"\\9\\a\\c\\d\\20\"])", "a"], b"outside 12\n"),
     ]:
         tries.check_read(" ".join(words), ["cmp", *words], SHEET, 0, text, b"", 0)
+    # Of these two some document is right, by what their declarations do in it.
+    met = tries.run(["cmp", "ul>li+li", "li:last-child"], b"").stdout
+    shown = met.removeprefix(b"overlap\n") + b"\nul>li+li{top:0}li:last-child{width:0}"
+    lines = b"kept 0\ntop:0 0,0,3\nwidth:0 0,1,1\n"
+    tries.check_read("the document of a pair", ["style"], shown, 0, lines, b"", len(shown))
+    for words, text in [
+        (["#a #a", "b"], b"disjoint\n"),
+        ([":nth-child(2n)+p", ":nth-child(2n)"], b"disjoint\n"),
+        (["a:empty>b", "b"], b"disjoint\n"),
+        (["a>b", ":root"], b"disjoint\n"),
+        (["ul>li+li", "li:last-child"], met),
+    ]:
+        for more in [[], ["--budget", "2000"]]:
+            tries.check_read(" ".join(words + more), ["cmp", *words, *more], SHEET, 0, text, b"", 0)
     with open("/dev/full", "wb") as full:
         tries.check("a pair for a full output", ["cmp", "a", "b"], SHEET, 5, b"", WRITE_FAULT, stdout=full)
 
@@ -191,6 +274,18 @@ def try_moves(tries):
     lines = b"blocked\n.a{top:2px}\n.b{top:1px}\nchild 0 pseudo none\n0 1 - x\n1 1 * x class=a%20b\n"
     tries.check_read("a move", ["why", "3", "1"], sheet, 0, lines, b"", len(sheet))
     tries.check_read("a move of no item", ["why", "4", "1"], sheet, 7, b"", b"no item 4\n", len(sheet))
+    apart = b".a{color:red}.b{top:0}.a{left:0}"
+    tries.check_read("a move of the item before the first", ["why", "0", "1"], apart, 7, b"", b"no item 0\n", len(apart))
+    with open(".ci/page.css", "rb") as file:
+        page = file.read()
+    lines = b"blocked\n.link{color:#06c}\n.btn{color:#fff}\nchild 0 pseudo none\n0 1 - x\n1 1 * x class=link%20btn\n"
+    for move, status, text, told in [
+        (["20", "17"], 0, lines, b""),
+        (["15", "13"], 0, b"free\n", b""),
+        (["24", "22"], 0, b"kept 23\n", b""),
+        (["1", "26"], 7, b"", b"no item 26\n"),
+    ]:
+        tries.check_read(" ".join(["why", *move]), ["why", *move], page, status, text, told, len(page))
 
 
 def try_reports(tries):
@@ -199,7 +294,9 @@ def try_reports(tries):
     tries.check_read("a report", ["min", "--report"], sheet, 0, sheet, report, len(sheet))
     with open("/dev/full", "wb") as full:
         tries.check("a report for a full standard error", ["min", "--report"], sheet, 5, sheet, b"", stderr=full)
-    tries.check_read("a made sheet", ["trial", "3"], SHEET, 0, b"items 3 3\nbytes 61 61\nsteps 0\n", b"", 0)
+    for rules, size in [("0", 0), ("1", 16), ("3", 61)]:
+        text = b"items %s %s\nbytes %d %d\nsteps 0\n" % (rules.encode(), rules.encode(), size, size)
+        tries.check_read(f"a made sheet of {rules} rules", ["trial", rules], SHEET, 0, text, b"", 0)
 
 
 def try_sheets(tries):
@@ -271,6 +368,7 @@ def main():
     os.chdir(os.path.join(os.path.dirname(os.path.abspath(__file__)), ".."))
     tries = Tries(program)
     try_words(tries)
+    try_wrong_lines(tries)
     try_itself(tries)
     try_pages(tries)
     try_pairs(tries)

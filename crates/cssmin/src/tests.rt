@@ -308,6 +308,11 @@ fn other_words_read_nothing(rt: HostRuntime) -> Result<(), Fail> {
         assert!(rt; ran.err.bytes().ends_with(b"\n"), "{line}");
         assert_eq!(rt; ran.input.rest(), SHEET, "after {line}");
     }
+    let none = Vec::new(rt.alloc());
+    let mut mute = Outside::faultless();
+    mute.err_room = 0;
+    let ran = run_words(rt.alloc(), &none, SHEET.to_vec(rt.alloc())?, mute)?;
+    ran.assert_is(&rt, Status::Usage, b"", b"");
     Ok(())
 }
 
@@ -341,7 +346,7 @@ fn tells_of_itself(rt: HostRuntime) -> Result<(), Fail> {
 }
 
 // Pairs with their answers, worked by hand.
-const COMPARED: [(&str, &str); 16] = [
+const COMPARED: [(&str, &str); 18] = [
     ("cmp a:link a:visited --budget 0", "disjoint\n"),
     ("cmp a:link a:visited --budget=0", "disjoint\n"),
     (
@@ -376,6 +381,14 @@ const COMPARED: [(&str, &str); 16] = [
         "outside 11\n",
     ),
     ("cmp  ", "outside 10\n"),
+    (
+        "cmp p:nth-child(2n):nth-child(3n) p:nth-child(5n):nth-child(7n)",
+        "overlap\nchild 0 pseudo none\n0 1 - x\n1 209 - x\n1 1 * p\n",
+    ),
+    (
+        "cmp [a~=b]:not([a*=\"\\9\\a\\c\\d\\20\"]) a",
+        "outside 12\n",
+    ),
 ];
 
 #[test]
@@ -384,6 +397,32 @@ fn compares(rt: HostRuntime) -> Result<(), Fail> {
         let ran = run_line(rt.alloc(), line, Outside::faultless())?;
         ran.assert_wrote(&rt, text);
         assert!(rt; ran.held.is_some(), "{line}");
+    }
+    Ok(())
+}
+
+// Pairs that take a solver, or words with spaces, and how what is printed of them begins.
+const SOLVED: [(&str, &str, &str); 5] = [
+    ("#a #a", "b", "disjoint\n"),
+    (":nth-child(2n)+p", ":nth-child(2n)", "disjoint\n"),
+    ("a:empty>b", "b", "disjoint\n"),
+    ("a>b", ":root", "disjoint\n"),
+    ("ul>li+li", "li:last-child", "overlap\nchild "),
+];
+
+#[test]
+fn a_budget_that_suffices_changes_nothing(rt: HostRuntime) -> Result<(), Fail> {
+    let alloc = rt.alloc();
+    for (left, right, front) in SOLVED {
+        let mut words = Vec::new(alloc);
+        for word in ["cmp", left, right] {
+            words.push(String::from_str(alloc, word)?)?;
+        }
+        let free = run_words(alloc, &words, SHEET.to_vec(alloc)?, Outside::faultless())?;
+        assert!(rt; free.out.bytes().starts_with(front.as_bytes()), "{left}");
+        words.push(String::from_str(alloc, "--budget=2000")?)?;
+        let bound = run_words(alloc, &words, SHEET.to_vec(alloc)?, Outside::faultless())?;
+        bound.assert_is(&rt, Status::Done, free.out.bytes(), b"");
     }
     Ok(())
 }
@@ -459,8 +498,14 @@ fn tells_why_a_rule_may_not_be_moved(rt: HostRuntime) -> Result<(), Fail> {
         ran.assert_is(&rt, Status::Done, text, b"");
         assert!(rt; ran.held.is_some(), "{line}");
     }
-    let ran = run_over(rt.alloc(), "why 1 5", sheet, Outside::faultless())?;
-    ran.assert_is(&rt, Status::NoItem(5), b"", b"no item 5\n");
+    for (line, number, told) in [
+        ("why 1 5", 5, &b"no item 5\n"[..]),
+        ("why 0 1", 0, b"no item 0\n"),
+        ("why 6 0", 6, b"no item 6\n"),
+    ] {
+        let ran = run_over(rt.alloc(), line, sheet, Outside::faultless())?;
+        ran.assert_is(&rt, Status::NoItem(number), b"", told);
+    }
     Ok(())
 }
 

@@ -15,7 +15,7 @@ use Rattle.hold_laws.specs.Turns.{NamesTellSteps, named}
 use Rattle.lead_laws.specs.Mended.{AreRenamed, TurnLeads}
 use Rattle.lead_laws.specs.Remembering.{entry_of, pairs_of, HasEntryOf, AreRemembered, is_untouched, untouched, AreWoken}
 use Rattle.lead_laws.proofs.StepNames.{within, new_first, new_last, named_on}
-use Rattle.lead_plan.specs.Asides.{entry, is_under, leads_under}
+use Rattle.lead_plan.specs.Asides.{entry, is_under, leads_under, place_of}
 use Rattle.lead_plan.specs.declared.aside.Entry.{Entry}
 use Rattle.lead_plan.specs.declared.lead.Lead.{Lead}
 use Rattle.lead_plan.specs.Told.{lead_told}
@@ -37,7 +37,7 @@ pub found : (entries : List Entry) (selector decl : ℕ) (c : Lead) → Contains
 found entries selector decl c among =
     map_has (λ (e : Entry). e.lead) (filter (is_under selector decl) entries) (entry selector decl c)
     (Contains-filtered (is_under selector decl) entries (entry selector decl c) among
-    (and_from (selector == selector) (decl == decl) ((Decides-eqb selector selector).1 refl) ((Decides-eqb decl decl).1 refl)))
+    (and_from (selector == selector) (place_of decl == place_of decl) ((Decides-eqb selector selector).1 refl) ((Decides-eqb (place_of decl) (place_of decl)).1 refl)))
 
 -- ---- One more
 

@@ -20,10 +20,9 @@ use Rattle.lead_plan.specs.declared.lead.Lead.{Lead}
 use Rattle.lead_plan.specs.Told.{step_of_kind, lead_told}
 use Rattle.list_facts.proofs.Members.{Contains-here, Contains-there, Contains-nil, Contains-cons_cases}
 use Rattle.order_laws.proofs.ForCallers.{map_from}
-use Rattle.plan_laws.specs.Cover.{Turn, IsSooner}
+use Rattle.plan_laws.specs.Cover.{IsSooner}
 use Rattle.hold_laws.specs.Turns.{TurnsAreOrdered}
 use Rattle.step_laws.specs.Steps.{rank}
-use Rattle.wall_laws.specs.Holding.{turn_of}
 
 abbrev kind_cmp : Kind → Kind → Ordering
 kind_cmp = (kind_ord.ghosts).cmp
@@ -79,7 +78,7 @@ above x y h = grind (arith, nat_tests)
 same : (x y : ℕ) → x ≡ y → nat_cmp x y ≡ Equal
 same x y e = grind (arith, nat_tests)
 
-is_same : (x y : ℕ) → nat_cmp x y ≡ Equal → x ≡ y
+pub is_same : (x y : ℕ) → nat_cmp x y ≡ Equal → x ≡ y
 is_same x y e = grind (arith, nat_tests)
 
 pub exceeding : (x y : ℕ) (xs ys : List ℕ) → exceeds (x ∷ xs) (y ∷ ys) ≡ true → (y < x) ⊎ ((x ≡ y) × (exceeds xs ys ≡ true))
@@ -118,7 +117,7 @@ not_before a b less (inr (equal, over)) = false≢true last.1
 
 -- ---- Leads that are told apart
 
-then_equal : (o p : Ordering) → ordering_then o p ≡ Equal → (o ≡ Equal) × (p ≡ Equal)
+pub then_equal : (o p : Ordering) → ordering_then o p ≡ Equal → (o ≡ Equal) × (p ≡ Equal)
 then_equal Less p e = absurd (cc)
 then_equal Equal p e = (refl, e)
 then_equal Greater p e = absurd (cc)
@@ -129,8 +128,8 @@ same_bool false true e = absurd (cc)
 same_bool true false e = absurd (cc)
 same_bool true true e = refl
 
-pub same_told : (a b : Lead) → lead_cmp a b ≡ Equal → lead_told a ≡ lead_told b
-same_told a b e =
+pub same_lead : (a b : Lead) → lead_cmp a b ≡ Equal → a ≡ b
+same_lead a b e =
     let s = then_equal (nat_cmp b.saving.0 a.saving.0) (ordering_then (kind_cmp a.kind b.kind) (ordering_then (nat_cmp a.first b.first) (ordering_then (nat_cmp a.second b.second) (ordering_then (nat_cmp a.owner b.owner) (bool_cmp a.alone b.alone))))) e in
     let k = then_equal (kind_cmp a.kind b.kind) (ordering_then (nat_cmp a.first b.first) (ordering_then (nat_cmp a.second b.second) (ordering_then (nat_cmp a.owner b.owner) (bool_cmp a.alone b.alone)))) s.1 in
     let f = then_equal (nat_cmp a.first b.first) (ordering_then (nat_cmp a.second b.second) (ordering_then (nat_cmp a.owner b.owner) (bool_cmp a.alone b.alone))) k.1 in
@@ -142,15 +141,17 @@ same_told a b e =
     let second : a.second ≡ b.second = is_same a.second b.second g.0 in
     let owner : a.owner ≡ b.owner = is_same a.owner b.owner o.0 in
     let alone : a.alone ≡ b.alone = same_bool a.alone b.alone o.1 in
-    let step : step_of_kind a.kind a.first a.second ≡ step_of_kind b.kind b.first b.second = ap (λ (z : Kind). step_of_kind z a.first a.second) kind ∙ ap₂ (step_of_kind b.kind) first second in
-    let turn : turn_of a.saving.0 (step_of_kind a.kind a.first a.second) ≡ turn_of b.saving.0 (step_of_kind b.kind b.first b.second) = ap₂ turn_of saving step in
-    told turn owner alone
+    made saving kind first second owner alone
   where
-    make : Turn → ℕ → Bool → held.Lead
-    make t n b = record { turn = t; owner = n; alone = b }
+    make : ℕ → Kind → (first second owner : ℕ) → Bool → Lead
+    make saving kind first second owner alone = record { saving = record { 0 = saving }; kind = kind; first = first; second = second; owner = owner; alone = alone }
 
-    told : {t u : Turn} {m n : ℕ} {b d : Bool} → t ≡ u → m ≡ n → b ≡ d → make t m b ≡ make u n d
-    told {t = t} {u = u} {m = m} {n = n} {b = b} {d = d} e g h = ap (λ (z : Turn). make z m b) e ∙ ap₂ (make u) g h
+    made : {s s' f f' g g' o o' : ℕ} {k k' : Kind} {b b' : Bool} → s ≡ s' → k ≡ k' → f ≡ f' → g ≡ g' → o ≡ o' → b ≡ b' → make s k f g o b ≡ make s' k' f' g' o' b'
+    made {s = s} {s' = s'} {f = f} {f' = f'} {g = g} {g' = g'} {o = o} {o' = o'} {k = k} {k' = k'} {b = b} {b' = b'} hs hk hf hg ho hb =
+        ap₂ (λ x y. make x y f g o b) hs hk ∙ ap₂ (λ x y. make s' k' x y o b) hf hg ∙ ap₂ (make s' k' f' g') ho hb
+
+pub same_told : (a b : Lead) → lead_cmp a b ≡ Equal → lead_told a ≡ lead_told b
+same_told a b e = ap lead_told (same_lead a b e)
 
 -- ---- A lead more
 

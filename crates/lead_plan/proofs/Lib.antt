@@ -1,2 +1,4 @@
+mod Entries
 mod Keys
+mod Sets
 mod Weighing

@@ -1,21 +1,34 @@
 //! Turns that are set aside, under the pairs that block their steps.
 
-ghost use Rattle.std.specs.Prelude.{◌≡◌, ◌++◌, ◌∷◌, [], IfOk, OnErr, OnOk};
+ghost use Rattle.std.specs.Prelude.{◌≡◌, ◌⊎◌, ◌+◌, ◌*◌, ◌^◌, ◌<◌, [], IfOk, OnOk};
+ghost use Rattle.std.specs.List.{Contains};
 ghost use Rattle.lead_plan.specs.Asides as spec;
+ghost use Rattle.lead_plan.specs.declared.aside.Entry as declared;
 
-use crate::lead::Lead;
+use crate::lead::{Kind, Lead};
 use std::alloc::{AllocError, Global};
+use std::cmp::Reverse;
+use std::collections::BTreeSet;
 use std::marker::Model;
+use std::ops::Range;
 
-/// A lead that is set aside, under the digests of a pair that blocks its step.
-#[derive(Clone, Copy, Debug, PartialEq, Eq, Drop)]
+/// A lead that is set aside, under the digests of a pair that blocks its step. Those under one pair stand side by side.
+#[derive(Clone, Copy, Debug, PartialEq, Eq, PartialOrd, Ord, Drop)]
 pub struct Entry {
     /// The digest of the pair's selector.
     pub selector: u32,
-    /// The digest of its declaration.
-    pub decl: u32,
+    /// The digest of its declaration, doubled, and one more: so there is a number right before it and right behind it.
+    pub decl: u64,
     /// The lead.
     pub lead: Lead,
+}
+
+/// The number of an entry for the digest of a declaration.
+fn place_of(decl: u32) -> u64
+    ensures exact { result ≡ spec.place_of decl }
+    ensures small { result < 2 ^ 34 }
+{
+    u64::from(decl) * 2 + 1
 }
 
 impl Entry {
@@ -23,14 +36,34 @@ impl Entry {
     fn is_under(&self, selector: u32, decl: u32) -> bool
         ensures { result ≡ spec.is_under selector decl self.now }
     {
-        self.selector == selector && self.decl == decl
+        self.selector == selector && self.decl == place_of(decl)
     }
 }
 
-/// Leads that are set aside, each under the digests of the pairs that block its step.
+/// A bound of entries: those with a greater number stand behind it, those with a smaller one before it.
+fn bound(selector: u32, decl: u64) -> Entry
+    ensures selector { result.selector ≡ selector }
+    ensures decl { result.decl ≡ decl }
+{
+    let lead = Lead {
+        saving: Reverse(0),
+        kind: Kind::DeclCut,
+        first: 0,
+        second: 0,
+        owner: 0,
+        alone: false,
+    };
+    Entry {
+        selector,
+        decl,
+        lead,
+    }
+}
+
+/// Leads that are set aside, each under the digests of the pairs that block its step, and there once.
 #[derive(Debug, Drop)]
 pub struct Aside {
-    entries: Vec<Entry>,
+    entries: BTreeSet<Entry>,
 }
 
 impl Model for Aside {
@@ -39,7 +72,7 @@ impl Model for Aside {
 
     ghost Value = { List Entry };
 
-    ghost view = { λ a. a.entries.items };
+    ghost view = { λ a. a.entries.keys };
 }
 
 impl Aside {
@@ -48,16 +81,18 @@ impl Aside {
         ensures { result ≡ [] }
     {
         Aside {
-            entries: Vec::new(alloc),
+            entries: BTreeSet::new(alloc),
         }
     }
 
-    /// Sets a lead aside under the digests of a pair, behind all that was set aside.
+    /// Sets a lead aside under the digests of a pair. What was set aside stays, also where memory is short.
     pub fn put(&mut self, selector: u32, decl: u32, lead: Lead) -> Result<(), AllocError>
-        ensures ok { OnOk result (self.new ≡ self.old ++ spec.entry selector decl lead ∷ []) }
-        ensures err { OnErr result (self.new ≡ self.old) }
+        ensures stay { (e : declared.Entry) → Contains self.old e → Contains self.new e }
+        ensures put { OnOk result (Contains self.new (spec.entry selector decl lead)) }
+        ensures only { (e : declared.Entry) → Contains self.new e → Contains self.old e ⊎ (e ≡ spec.entry selector decl lead) }
     {
-        self.entries.push(Entry {
+        let decl = place_of(decl);
+        self.entries.insert(Entry {
             selector,
             decl,
             lead,
@@ -65,17 +100,19 @@ impl Aside {
         Ok(())
     }
 
-    /// The leads that are set aside under the digests of a pair, in their order. All that is set aside is looked at.
+    /// The leads that are set aside under the digests of a pair, in their order. The time is theirs, and that of a search.
     pub fn under(&self, alloc: Global, selector: u32, decl: u32) -> Result<Vec<Lead>, AllocError>
         ensures { IfOk result (λ leads. leads.items ≡ spec.leads_under selector decl self.now) }
     {
+        let place = place_of(decl);
+        let start = bound(selector, place - 1);
+        let end = bound(selector, place + 1);
         let mut found = Vec::new(alloc);
-        let mut rest = self.entries.as_slice();
-        'rest: while let Some((first, behind)) = rest.split_first() {
-            if first.is_under(selector, decl) {
-                found.push(first.lead)?;
+        let mut rest = self.entries.range(Range { start, end });
+        'rest: while let Some(entry) = rest.next() {
+            if entry.is_under(selector, decl) {
+                found.push(entry.lead)?;
             }
-            rest = behind;
         }
         Ok(found)
     }

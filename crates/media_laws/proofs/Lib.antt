@@ -1,2 +1,3 @@
 mod Meaning
+mod OpenedRoom
 mod Reading

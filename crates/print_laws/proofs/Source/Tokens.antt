@@ -1,9 +1,9 @@
 -- What stands in a source that is read without a fault.
-use Rattle.std.proofs.Common.{◌≡◌, inl, inr, ℕ, ◌+◌, Bool, true, false, nat_eq, List, [], ◌∷◌, ◌++◌, map, length, take, drop, Option, Some, None, Ok, refl, sym, ◌∙◌, ap, subst, arith}
+use Rattle.std.proofs.Common.{◌≡◌, ◌≤◌, inl, inr, ℕ, ◌+◌, Bool, true, false, nat_eq, List, [], ◌∷◌, ◌++◌, map, length, take, drop, Option, Some, None, Ok, refl, sym, ◌∙◌, ap, subst, arith}
 use Rattle.std.specs.List.{AllByRecursion, starts_with}
 use Rattle.std.specs.Str.{IsUtf8}
 use Rattle.std.proofs.lemmas.Bool.{false≢true, eqb-true, and_parts, cond-true, cond-false}
-use Rattle.std.proofs.lemmas.List.{append-nil, take-append-drop}
+use Rattle.std.proofs.lemmas.List.{append-nil, length-take-le, take-append-drop}
 use Rattle.std.proofs.lemmas.Str.{IsCharBoundary-past_char, IsUtf8-drop}
 use Rattle.std.proofs.Math.Utf8.{encode}
 use Rattle.css_model.specs.declared.token.TokenFlaw.{TokenFlaw}
@@ -13,11 +13,11 @@ use Rattle.css_model.specs.Text.Kept.{Solid, is_lone, solid}
 use Rattle.css_model.specs.Text.Lexemes.{lexemes}
 use Rattle.css_model.specs.Sheets.Spelling.{lexemes_of}
 use Rattle.css_model.specs.Text.TokenAt.{part_at}
-use Rattle.css_model.specs.Text.Tokens.{Part, Stream, byte_order_mark, fault_behind, parts, stream, text_of, tokens}
+use Rattle.css_model.specs.Text.Tokens.{Part, Stream, byte_order_mark, fault_behind, parts, stream, text_of, tokens, tokens_at}
 use Rattle.css_tokens.specs.Lexed.{IsLexed}
 use Rattle.token_laws.specs.Solids.{ends_called, gap_before, solids}
 use Rattle.token_laws.proofs.ForCallers.{AreGood, are_good, kept_row, last_may, rest_of, take_good, kept_parts, solids_are_lexemes, PartIs, part_is, lone_gap}
-use Rattle.css_tokens.proofs.ForCallers.{parts_join, parts_are_lexed, lexed_whole}
+use Rattle.css_tokens.proofs.ForCallers.{parts_join, parts_are_lexed, lexed_whole, mark_len}
 use Rattle.print_laws.proofs.Tokens.Lexed.{IsReadAs, KeptLexed}
 
 -- kept text is read where it stands
@@ -55,6 +55,7 @@ pub record Source (source : List ℕ) : Type 0 where
   pub front : List ℕ
   pub are : source ≡ front ++ text_of ps
   pub lexed : IsLexed ps
+  pub placed : (tokens source true).tokens ≡ tokens_at (length front) false ps
   pub spelled : map (solid source) (lexemes_of source) ≡ solids ps
   pub utf8 : IsUtf8 (text_of ps)
 
@@ -63,8 +64,8 @@ clean-flaw at None e = refl
 clean-flaw at (Some f) e = absurd cc
 
 -- the parts from a place on
-source-at : (source : List ℕ) (at : ℕ) → tokens source true ≡ stream at (drop at source) → (tokens source true).fault ≡ None → IsUtf8 (drop at source) → Source source
-source-at source at here clean utf8 =
+source-at : (source : List ℕ) (at : ℕ) → at ≤ length source → tokens source true ≡ stream at (drop at source) → (tokens source true).fault ≡ None → IsUtf8 (drop at source) → Source source
+source-at source at inside here clean utf8 =
     let text = drop at source in
     let p = parts text in
     let flawless : p.flaw ≡ None = clean-flaw (at + length (text_of p.parts)) p.flaw (sym (ap (λ (s : Stream). s.fault) here) ∙ clean) in
@@ -75,6 +76,7 @@ source-at source at here clean utf8 =
       front = take at source;
       are = sym (take-append-drop at source) ∙ ap (λ (cs : List ℕ). take at source ++ cs) whole;
       lexed = parts_are_lexed text flawless;
+      placed = ap (λ (s : Stream). s.tokens) here ∙ ap (λ (n : ℕ). tokens_at n false p.parts) (sym (length-take-le at source inside));
       spelled = ap (λ (s : Stream). map (solid source) (lexemes s.tokens)) here ∙ solids_are_lexemes source at;
       utf8 = subst IsUtf8 whole utf8;
     }
@@ -96,8 +98,8 @@ pub source-of : (source : List ℕ) → (tokens source true).fault ≡ None → 
 source-of source clean utf8 = which (starts_with nat_eq source byte_order_mark) refl
   where
     which : (b : Bool) → starts_with nat_eq source byte_order_mark ≡ b → Source source
-    which true mark = source-at source 3 (cond-true _ _ _ mark) clean (marked source mark utf8)
-    which false none = source-at source 0 (cond-false _ _ _ none) clean utf8
+    which true mark = source-at source 3 (mark_len source mark) (cond-true _ _ _ mark) clean (marked source mark utf8)
+    which false none = source-at source 0 (omega arith) (cond-false _ _ _ none) clean utf8
 
 -- the tokens of a source
 pub record IsGoodLexeme (source : List ℕ) (x : Lexeme) : Type 0 where

@@ -54,7 +54,7 @@ shown_parts cs (p ∷ ps) = shown_then p.kind p.bytes (gap_behind false ps) (len
 abbrev pub closers_of : List Bracket → List ℕ
 closers_of brackets = map (λ b. b.closer) brackets
 
-gap-same : (at : ℕ) (comment : Bool) (ps : List Part) → gap_of (tokens_at at comment ps) ≡ gap_behind comment ps
+pub gap-same : (at : ℕ) (comment : Bool) (ps : List Part) → gap_of (tokens_at at comment ps) ≡ gap_behind comment ps
 gap-same at comment [] = refl
 gap-same at comment (p ∷ ps) = which p.kind (gap-same (at + length p.bytes) true ps)
   where

@@ -134,7 +134,7 @@ not_deep source (y ∷ ys) (s ∷ ss) e fail =
     ap (λ b. if b then Some y else find is_deep ys) (ap is_shown_deep (cons_head (shown source y) s (map (shown source) ys) ss e) ∙ fail.0)
     ∙ not_deep source ys ss (cons_tail (shown source y) s (map (shown source) ys) ss e) fail.1
 
-pairs_fit : (n : ℕ) (its' its : List Item) → map pairs_of its' ≡ map pairs_of its → too_many_pairs n its ≡ None → too_many_pairs n its' ≡ None
+pub pairs_fit : (n : ℕ) (its' its : List Item) → map pairs_of its' ≡ map pairs_of its → too_many_pairs n its ≡ None → too_many_pairs n its' ≡ None
 pairs_fit n [] its e fits = refl
 pairs_fit n (item' ∷ its') [] e fits = absurd (omega (arith, ap length e))
 pairs_fit n (item' ∷ its') (item ∷ its) e fits = which (nat_lt MAX_PAIRS (n + pairs_of item)) refl (pairs_fit (n + pairs_of item) its' its (cons_tail (pairs_of item') (pairs_of item) (map pairs_of its') (map pairs_of its) e))

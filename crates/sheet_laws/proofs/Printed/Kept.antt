@@ -18,7 +18,7 @@ use Rattle.css_model.specs.Selectors.Reasons.{number_of}
 use Rattle.css_model.specs.Sheets.Selectors.{selector_item}
 use Rattle.css_model.specs.Sheets.Sheet.{rule_of, rule_or_block, item_of}
 use Rattle.sheet_laws.proofs.Shown.Alike.{IsLike, AreClosable, like_last_of_item, item_like}
-use Rattle.sheet_laws.proofs.Printed.Entries.{IsPrinted, SaySame, at_rule_like, sign_like, like_of}
+use Rattle.sheet_laws.proofs.Printed.Entries.{IsPrinted, SaySame, at_rule_like, sign_like, like_of, printed_like}
 use Rattle.sheet_laws.proofs.Printed.Items.{IsClosedRule, is_ended, closed_rule, parts_without_last, entries_without_last}
 use Rattle.list_facts.proofs.Zips.{AreBoth, AllLast, zip_any}
 use Rattle.sheet_laws.proofs.Printed.Selectors.{AreBothRead, TestSame, selectors_printed, declarations_printed}
@@ -95,11 +95,9 @@ qualified_item source xs front last whole has closes qualified =
     ∙ ap (λ parts. qualified_at source (piece_of xs) parts (entries xs)) (ap selector_parts whole ∙ parts_without_last front last has)
     ∙ ap (λ es. qualified_at source (piece_of xs) (selector_parts front) es) (ap entries whole ∙ entries_without_last front last has closes)
 
-closed_item_same : (new old : List ℕ) (ys xs : List Lexeme) → AllLast (IsInner new old) (IsLastOfItem new old) ys xs → AreClosable old xs → is_at_rule ys ≡ false → is_at_rule xs ≡ false
-    → IsClosedRule xs → AreBoth (SameAt (piece_of ys) (piece_of xs)) (item_of new ys) (item_of old xs)
-closed_item_same new old ys xs z each qualified' qualified closed =
-    let moved = subst (λ zs. AllLast (IsInner new old) (IsLastOfItem new old) ys zs) closed.whole z in
-    let cut = cut_last new old ys closed.front closed.last moved (subst (AreClosable old) closed.whole each) in
+cut_item_same : (new old : List ℕ) (ys xs : List Lexeme) (closed : IsClosedRule xs) → IsCutLast new old ys closed.front closed.last → is_at_rule ys ≡ false → is_at_rule xs ≡ false
+    → AreBoth (SameAt (piece_of ys) (piece_of xs)) (item_of new ys) (item_of old xs)
+cut_item_same new old ys xs closed cut qualified' qualified =
     let has : list_any opens_block cut.upper ≡ true =
     zip_any (IsLike new old) opens_block opens_block (sign_like new old open_curly 0) cut.upper closed.front (like_of new old cut.upper closed.front cut.fronts) ∙ closed.has_block in
     let closes : closes_block cut.end ≡ true = sign_like new old close_curly 1 cut.end closed.last cut.ends ∙ closed.closes in
@@ -108,14 +106,36 @@ closed_item_same new old ys xs z each qualified' qualified closed =
     (declarations new cut.upper) (declarations old closed.front)
     (selectors_printed new old cut.upper closed.front cut.fronts) (declarations_printed new old cut.upper closed.front cut.fronts))
 
--- An item whose tokens are printed as they stand is the item that it was.
-pub kept_item_same : (new old : List ℕ) (ys xs : List Lexeme) → AllLast (IsInner new old) (IsLastOfItem new old) ys xs → AreClosable old xs
+-- An item that says what another one does, where it does so without the last token of a closed rule.
+item_same : (new old : List ℕ) (ys xs : List Lexeme) → AllZip (IsLike new old) ys xs → ((closed : IsClosedRule xs) → IsCutLast new old ys closed.front closed.last)
     → (is_at_rule xs ≡ false → is_ended xs ≡ true) → AreBoth (SameAt (piece_of ys) (piece_of xs)) (item_of new ys) (item_of old xs)
-kept_item_same new old ys xs z each ended = which (is_at_rule xs) refl
+item_same new old ys xs like cut ended = which (is_at_rule xs) refl
   where
     same : is_at_rule ys ≡ is_at_rule xs
-    same = at_rule_like new old ys xs (item_like new old ys xs z each)
+    same = at_rule_like new old ys xs like
 
     which : (b : Bool) → is_at_rule xs ≡ b → AreBoth (SameAt (piece_of ys) (piece_of xs)) (item_of new ys) (item_of old xs)
     which true is = rw (same, is) (refl, refl)
-    which false is = closed_item_same new old ys xs z each (same ∙ is) is (closed_rule xs is (ended is))
+    which false is = let closed = closed_rule xs is (ended is) in cut_item_same new old ys xs closed (cut closed) (same ∙ is) is
+
+-- An item whose tokens are printed as they stand is the item that it was.
+pub kept_item_same : (new old : List ℕ) (ys xs : List Lexeme) → AllLast (IsInner new old) (IsLastOfItem new old) ys xs → AreClosable old xs
+    → (is_at_rule xs ≡ false → is_ended xs ≡ true) → AreBoth (SameAt (piece_of ys) (piece_of xs)) (item_of new ys) (item_of old xs)
+kept_item_same new old ys xs z each =
+    item_same new old ys xs (item_like new old ys xs z each)
+    (λ closed. cut_last new old ys closed.front closed.last (subst (λ zs. AllLast (IsInner new old) (IsLastOfItem new old) ys zs) closed.whole z) (subst (AreClosable old) closed.whole each))
+
+cut_inner : (new old : List ℕ) (ys front : List Lexeme) (last : Lexeme) → AllZip (IsPrinted new old) ys (front ++ last ∷ []) → IsCutLast new old ys front last
+cut_inner new old [] [] last z = absurd z
+cut_inner new old [] (x ∷ front) last z = absurd z
+cut_inner new old (y ∷ []) [] last z = record { upper = []; end = y; whole = refl; fronts = tt; ends = printed_like new old y last z.0 }
+cut_inner new old (y ∷ next ∷ ys) [] last z = absurd z.1
+cut_inner new old (y ∷ ys) (x ∷ front) last z =
+    let rest = cut_inner new old ys front last z.1 in
+    record { upper = y ∷ rest.upper; end = rest.end; whole = ap (λ zs. y ∷ zs) rest.whole; fronts = (z.0, rest.fronts); ends = rest.ends }
+
+-- So is one whose tokens are printed before others.
+pub inner_item_same : (new old : List ℕ) (ys xs : List Lexeme) → AllZip (IsPrinted new old) ys xs → (is_at_rule xs ≡ false → is_ended xs ≡ true)
+    → AreBoth (SameAt (piece_of ys) (piece_of xs)) (item_of new ys) (item_of old xs)
+inner_item_same new old ys xs z =
+    item_same new old ys xs (like_of new old ys xs z) (λ closed. cut_inner new old ys closed.front closed.last (subst (λ zs. AllZip (IsPrinted new old) ys zs) closed.whole z))

@@ -123,7 +123,7 @@ named_in : (k : TokenKind) (word new old : List ℕ) → unescaped (name_in k ne
 named_in kind.AtKeyword word new old e = ap (λ name. str_eq_ignore_ascii_case name word) e
 named_in _ word new old e = refl
 
-at_rule_named_like : (word new old : List ℕ) (ys xs : List Lexeme) → AllZip (IsLike new old) ys xs → is_at_rule_named word new ys ≡ is_at_rule_named word old xs
+pub at_rule_named_like : (word new old : List ℕ) (ys xs : List Lexeme) → AllZip (IsLike new old) ys xs → is_at_rule_named word new ys ≡ is_at_rule_named word old xs
 at_rule_named_like word new old [] [] z = refl
 at_rule_named_like word new old [] (x ∷ xs) z = absurd z
 at_rule_named_like word new old (y ∷ ys) [] z = absurd z
@@ -134,7 +134,7 @@ pub not_named : (word source : List ℕ) (ys : List Lexeme) → is_at_rule ys �
 not_named word source [] qualified = refl
 not_named word source (y ∷ ys) qualified = ap (λ b. b && is_named word (drop 1 (text_at source y.span))) qualified
 
-whole_like : (new old : List ℕ) (ys xs : List Lexeme) → AllZip (IsLike new old) ys xs → is_whole ys ≡ is_whole xs
+pub whole_like : (new old : List ℕ) (ys xs : List Lexeme) → AllZip (IsLike new old) ys xs → is_whole ys ≡ is_whole xs
 whole_like new old ys xs z =
     ap (λ b. b || list_any opens_block ys) (at_rule_like new old ys xs z)
     ∙ ap (λ b. is_at_rule xs || b) (zip_any (IsLike new old) opens_block opens_block (sign_like new old open_curly 0) ys xs z)
