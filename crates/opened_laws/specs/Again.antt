@@ -2,7 +2,7 @@
 use Rattle.std.specs.Prelude.{ℕ, ◌≡◌, ◌≤◌, List, [], ◌∷◌, drop, length, Option, Some, None, Ok}
 use Rattle.std.specs.List.{AllZip}
 use Rattle.css_model.specs.declared.sheet.Item.{Item}
-use Rattle.css_model.specs.declared.sheet.Item.TheVariants.{Rule, KeptRule, KeptBlock}
+use Rattle.css_model.specs.declared.sheet.Item.TheVariants.{KeptBlock}
 use Rattle.css_model.specs.declared.sheet.Piece.{Piece}
 use Rattle.css_model.specs.Sheets.ComesFrom.{ComesFrom}
 use Rattle.css_model.specs.Sheets.Limits.{max_bytes}
@@ -42,11 +42,11 @@ AreOpenedAgain source media bodies (item ∷ items) written media' [] = ⊥
 AreOpenedAgain source media bodies (KeptBlock piece ∷ items) written media' (KeptBlock piece' ∷ items') =
     IsPieceAgain source bodies piece (block_at media piece) written piece' (block_at media' piece')
     × AreOpenedAgain source
-      (drop (blocks_at media (KeptBlock piece)) media)
-      (drop (blocks_at media (KeptBlock piece)) bodies)
-      items written
-      (drop (blocks_at media' (KeptBlock piece')) media')
-      items'
+    (drop (blocks_at media (KeptBlock piece)) media)
+    (drop (blocks_at media (KeptBlock piece)) bodies)
+    items written
+    (drop (blocks_at media' (KeptBlock piece')) media')
+    items'
 AreOpenedAgain source media bodies (item ∷ items) written media' (item' ∷ items') =
     AreTwinItems source written item item' × AreOpenedAgain source media bodies items written media' items'
 

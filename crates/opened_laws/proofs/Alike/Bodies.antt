@@ -1,8 +1,8 @@
 -- A block that is printed as it stands has a body of its own sheet only where it had one.
-use Rattle.std.proofs.Common.{◌≡◌, ◌≤◌, ℕ, suc, ◌+◌, Bool, true, false, nat_eq, List, [], ◌∷◌, ◌++◌, length, map, drop, Option, Some, None, Result, Ok, Err, refl, sym, ◌∙◌, ap, ap₂, subst, arith}
+use Rattle.std.proofs.Common.{◌≡◌, ◌≤◌, ℕ, suc, ◌+◌, Bool, true, false, nat_eq, List, [], ◌∷◌, ◌++◌, length, map, Option, Some, None, Result, Ok, Err, refl, sym, ◌∙◌, ap, ap₂, subst, arith}
 use Rattle.std.proofs.lemmas.Bool.{cond-false, true≢false}
 use Rattle.std.specs.Prelude.{if◌then◌else◌}
-use Rattle.std.specs.List.{AllByRecursion, AllZip, list_any, position_or_len, starts_with}
+use Rattle.std.specs.List.{AllZip, list_any, starts_with}
 use Rattle.std.specs.Str.{IsUtf8}
 use Rattle.css_model.specs.declared.fault.SheetFault.{SheetFault}
 use Rattle.css_model.specs.declared.limits.TheConstants.{MAX_BYTES}
@@ -16,13 +16,13 @@ use Rattle.css_model.specs.Text.Characters.{close_curly, open_curly}
 use Rattle.css_model.specs.Text.Lexemes.{lexemes_in}
 use Rattle.css_model.specs.Text.Source.{text_at}
 use Rattle.css_model.specs.Text.Tokens.{byte_order_mark, text_of, tokens_at}
-use Rattle.list_facts.proofs.Zips.{Agree, AllLast, zip_any, zip_drop, zip_from_maps, zip_position}
+use Rattle.list_facts.proofs.Zips.{AllLast, zip_any, zip_from_maps, zip_position}
 use Rattle.media_groups.specs.Opened.{body_of, is_comment_sign, is_top_item, plain_items, sheet_of_body, unless_marked}
 use Rattle.print_laws.proofs.ForCallers.{Ground, IsItemOf, open_behind, shown_parts, tokens-shown}
-use Rattle.sheet_laws.proofs.ForCallers.{AreClosable, HasGoodTokens, IsInner, IsLike, IsPrinted, Shown, inner, item_like, last_of_item, shown, sign_like}
+use Rattle.sheet_laws.proofs.ForCallers.{AreClosable, IsInner, IsLike, Shown, inner, item_like, last_of_item, shown, sign_like}
 use Rattle.opened_laws.proofs.Alike.Items.{ArePrinted}
 use Rattle.opened_laws.proofs.Alike.Sheets.{IsReadAlike, IsSpotless, sheet_alike, signs_printed, tops_alike}
-use Rattle.opened_laws.proofs.Pieces.Alone.{IsAlone, LieBefore, all_raised, alone, lie_before, printed_raised, printed_shown, raised_shown}
+use Rattle.opened_laws.proofs.Pieces.Alone.{IsAlone, all_raised, alone, lie_before, printed_raised, printed_shown, raised_shown}
 use Rattle.opened_laws.proofs.Pieces.Blocks.{HasBlock, has_block}
 use Rattle.opened_laws.proofs.Pieces.Cuts.{behind_front, cut_last}
 use Rattle.opened_laws.proofs.Pieces.Inside.{IsInside, closed_inside}
@@ -122,12 +122,15 @@ inside_alone text place stop ys i closed unmarked =
 -- What stands inside a block that is printed as it stands is a sheet of its own only where it was one before.
 inside_alike : (new old : List ℕ) (ys xs : List Lexeme) (b' : HasBlock new ys) (b : HasBlock old xs) → AreAlikeBlocks new old ys xs b' b → length old ≤ MAX_BYTES → (its' : List Item) →
     sheet_of_body (text_at new (body_of ys)) ≡ Some its' → (its : List Item) × (sheet_of_body (text_at old (body_of xs)) ≡ Some its)
-inside_alike new old ys xs b' b like short its' e = (read.read, ap (λ p. sheet_of_body (text_at old p)) b.body ∙ body_is_sheet body read.read (record {
-  unmarked = unmarked;
-  unsigned = sym (signs_printed body' body (lexemes_of body') (lexemes_of body) printed) ∙ facts.unsigned;
-  reads = read.reads;
-  plain = sym (tops_alike body' body its' read.read read.alike) ∙ facts.plain;
-}))
+inside_alike new old ys xs b' b like short its' e = (
+  read.read,
+  ap (λ p. sheet_of_body (text_at old p)) b.body ∙ body_is_sheet body read.read (record {
+    unmarked = unmarked;
+    unsigned = sym (signs_printed body' body (lexemes_of body') (lexemes_of body) printed) ∙ facts.unsigned;
+    reads = read.reads;
+    plain = sym (tops_alike body' body its' read.read read.alike) ∙ facts.plain;
+  }),
+)
   where
     i' : IsInside new b'.open_.span.«end» b'.close.span.start (close_curly ∷ []) b'.inner
     i' = b'.between.inside

@@ -1,5 +1,5 @@
 -- Tokens that are printed before others are the same items as those that they are printed for.
-use Rattle.std.proofs.Common.{◌≡◌, ℕ, zero, suc, Bool, true, false, List, [], ◌∷◌, length, map, take, Option, Some, None, refl, sym, ◌∙◌, ap, ap₂, subst}
+use Rattle.std.proofs.Common.{◌≡◌, ℕ, zero, suc, Bool, true, false, List, [], ◌∷◌, take, Option, Some, None, refl, sym, ◌∙◌, ap, ap₂, subst}
 use Rattle.std.proofs.lemmas.Bool.{false≢true, true≢false}
 use Rattle.std.specs.Prelude.{◌*◌, ◌||◌, if◌then◌else◌, codes}
 use Rattle.std.specs.List.{AllByRecursion, AllZip, cons_option, filter, find, list_any}
@@ -13,7 +13,7 @@ use Rattle.css_model.specs.Sheets.Spelling.{lexemes_of, tokens_in}
 use Rattle.css_model.specs.Text.Lexemes.{piece_of}
 use Rattle.list_facts.proofs.Zips.{Agree, AreBoth, some_not_none, zip_any, zip_length, zip_take}
 use Rattle.media_groups.specs.Opened.{is_top_item}
-use Rattle.sheet_laws.proofs.ForCallers.{HasGoodTokens, IsLike, IsPrinted, IsRawItem, SameAt, StandsIn, at_rule_named_like, inner_item_same, is_ended, item_len_like, like_of, printed_like, stand_alone_in, whole_like}
+use Rattle.sheet_laws.proofs.ForCallers.{HasGoodTokens, IsPrinted, IsRawItem, SameAt, at_rule_named_like, inner_item_same, is_ended, item_len_like, like_of, printed_like, stand_alone_in, whole_like}
 
 -- ---- tokens cut into items
 

@@ -1,10 +1,10 @@
 -- A kept block that is read back is opened where it was, and only there.
-use Rattle.std.proofs.Common.{◌≡◌, ◌≤◌, ℕ, ◌==◌, Bool, true, false, cond, List, [], ◌∷◌, ◌++◌, length, drop, take, Option, Some, None, refl, sym, ◌∙◌, ap, ap₂, subst, arith}
+use Rattle.std.proofs.Common.{◌≡◌, ◌≤◌, ℕ, ◌==◌, Bool, true, false, List, [], ◌∷◌, ◌++◌, length, drop, take, Option, Some, None, refl, sym, ◌∙◌, ap, ap₂, subst, arith}
 use Rattle.std.specs.Prelude.{◌&&◌, codes, if◌then◌else◌}
-use Rattle.std.specs.List.{AllByRecursion, list_any}
+use Rattle.std.specs.List.{list_any}
 use Rattle.std.specs.Option.{option_map}
 use Rattle.std.specs.Str.{str_eq_ignore_ascii_case, str_to_ascii_lowercase}
-use Rattle.std.proofs.lemmas.Bool.{and_parts, cond-true, cond-false, eqb-true, false≢true, true≢false}
+use Rattle.std.proofs.lemmas.Bool.{and_parts, cond-true, cond-false, false≢true}
 use Rattle.std.proofs.lemmas.Slice.Eq.{bytes_eq-Decides}
 use Rattle.css_model.specs.declared.limits.TheConstants.{MAX_BYTES}
 use Rattle.css_model.specs.declared.sheet.Item.{Item}
@@ -37,7 +37,7 @@ use Rattle.opened_laws.specs.Again.{IsBlockAgain}
 use Rattle.opened_laws.proofs.Alike.Bodies.{bodies_alike}
 use Rattle.opened_laws.proofs.Back.Bodies.{IsBodyBack}
 use Rattle.opened_laws.proofs.Back.Kept.{closable_piece, kept_last, kept_like, kept_named}
-use Rattle.opened_laws.proofs.Pieces.Whole.{IsSameBlock, same_block}
+use Rattle.opened_laws.proofs.Pieces.Whole.{same_block}
 
 -- ---- the tokens of a kept block
 

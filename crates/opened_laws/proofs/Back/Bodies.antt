@@ -1,5 +1,5 @@
 -- The printed text of an opened body is a sheet of its own, too.
-use Rattle.std.proofs.Common.{◌≡◌, ◌≤◌, inl, ℕ, ◌==◌, Bool, true, false, cond, nat_eq, List, [], ◌∷◌, ◌++◌, length, map, Some, Ok, refl, sym, ◌∙◌, ap, ap₂, subst}
+use Rattle.std.proofs.Common.{◌≡◌, ◌≤◌, inl, ℕ, ◌==◌, Bool, true, false, cond, nat_eq, List, [], ◌∷◌, length, map, Some, Ok, refl, sym, ◌∙◌, ap, ap₂, subst}
 use Rattle.std.specs.Prelude.{◌&&◌, ◌||◌}
 use Rattle.std.specs.List.{AllByRecursion, AllZip, flat_map, list_any, starts_with}
 use Rattle.std.proofs.lemmas.Bool.{false≢true}
@@ -21,11 +21,11 @@ use Rattle.css_tokens.specs.Lexed.{IsLexed}
 use Rattle.list_facts.proofs.Cuts.{None_of}
 use Rattle.media_groups.specs.Opened.{is_comment_sign, is_top_item, sheet_of_body}
 use Rattle.print_laws.specs.Replaced.{IsReplacedBy}
-use Rattle.print_laws.proofs.ForCallers.{AreKeptBack, Ground, IsReplacedBack, IsSourcedKeptBack, chain-shown, ground-of, names-of, parts_of, printed-tokens, replaced-kept-back, sound-item}
+use Rattle.print_laws.proofs.ForCallers.{AreKeptBack, IsReplacedBack, IsSourcedKeptBack, chain-shown, ground-of, names-of, parts_of, printed-tokens, replaced-kept-back, sound-item}
 use Rattle.selector_text_laws.specs.Back.{is_selector_kind}
-use Rattle.sheet_laws.specs.Sourced.{AreTwinsOfSourced, SourcedItem, all_of_source, printed_sourced, sourced_text}
-use Rattle.sheet_laws.specs.Twins.{AreTwinItems, AreTwins}
-use Rattle.sheet_laws.proofs.ForCallers.{IsFrom, Shown, item_shown, sheet_shown, shown, sourced_shown, text_of_source, twins_of_source}
+use Rattle.sheet_laws.specs.Sourced.{all_of_source, printed_sourced, sourced_text}
+use Rattle.sheet_laws.specs.Twins.{AreTwins}
+use Rattle.sheet_laws.proofs.ForCallers.{IsFrom, Shown, sheet_shown, shown, text_of_source, twins_of_source}
 use Rattle.block_laws.proofs.ForCallers.{IsSpared, none_sheet, printed_body}
 use Rattle.opened_laws.proofs.Alike.Bodies.{IsSheetOfBody, body_facts, body_is_sheet}
 use Rattle.opened_laws.proofs.Back.Kept.{any_follow, kept_tops}

@@ -1,7 +1,7 @@
 -- The printed text of a sheet whose blocks of media are opened is read back as that sheet, with the same blocks opened.
 use Rattle.std.proofs.Common.{◌≡◌, ◌≤◌, ℕ, Bool, true, false, cond, nat_eq, List, [], ◌∷◌, length, map, Ok, Err, refl, sym, ◌∙◌, ap, subst, arith}
 use Rattle.std.specs.Prelude.{nat_lt}
-use Rattle.std.specs.List.{AllByRecursion, AllZip, flat_map, starts_with}
+use Rattle.std.specs.List.{AllByRecursion, AllZip, starts_with}
 use Rattle.std.specs.Str.Lossy.{utf8_valid_len}
 use Rattle.std.proofs.lemmas.Bool.{ltb-false}
 use Rattle.css_model.specs.declared.fault.FaultKind.TheVariants.{NotUtf8, TooLong}
@@ -9,7 +9,7 @@ use Rattle.css_model.specs.declared.limits.TheConstants.{MAX_BYTES}
 use Rattle.css_model.specs.declared.sheet.Item.{Item}
 use Rattle.css_model.specs.Sheets.ComesFrom.{ComesFrom}
 use Rattle.css_model.specs.Sheets.Limits.{max_bytes}
-use Rattle.css_model.specs.Sheets.Printed.{behind_mark, printed, printed_item}
+use Rattle.css_model.specs.Sheets.Printed.{behind_mark}
 use Rattle.css_model.specs.Sheets.Sheet.{sheet_of, sheet_of_stream}
 use Rattle.css_model.specs.Sheets.SheetParts.{SheetParts}
 use Rattle.css_model.specs.Text.Characters.{space}
@@ -18,15 +18,15 @@ use Rattle.block_laws.specs.Blocks.{BlocksReadBack, ReadsBackAsBlock}
 use Rattle.media_groups.specs.declared.media.Media.{Media}
 use Rattle.media_groups.specs.Laws.{BlocksStay, PrintedByOldBlocks, unnumbered}
 use Rattle.media_groups.specs.Opened.{opened_of}
-use Rattle.media_groups.specs.Printed.{printed_opened, printed_with, texts_with}
-use Rattle.print_laws.proofs.ForCallers.{Ground, IsReplacedBack, ground-of, replaced-kept-back}
+use Rattle.media_groups.specs.Printed.{printed_with, texts_with}
+use Rattle.print_laws.proofs.ForCallers.{ground-of, replaced-kept-back}
 use Rattle.sheet_laws.specs.Sourced.{printed_sourced}
 use Rattle.sheet_laws.proofs.ForCallers.{sheet-sound}
 use Rattle.opened_laws.specs.Again.{IsBodyFrom, IsReadBackOpened, OpenedReadsBack}
 use Rattle.opened_laws.proofs.Back.Rows.{row_of_items}
 use Rattle.opened_laws.proofs.Back.Starts.{follow_ascend, sheet_ascends}
 use Rattle.opened_laws.proofs.Back.Steps.{replaced}
-use Rattle.opened_laws.proofs.Back.Walk.{IsReady, IsWalked, walk}
+use Rattle.opened_laws.proofs.Back.Walk.{walk}
 
 -- ---- the opened blocks of the old items, and of the new ones
 

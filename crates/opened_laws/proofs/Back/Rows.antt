@@ -16,7 +16,7 @@ use Rattle.media_groups.specs.Opened.{opened_from}
 use Rattle.media_groups.specs.Printed.{block_text, texts_with}
 use Rattle.print_laws.specs.Replaced.{IsReplacedBy, IsReplacement}
 use Rattle.print_laws.proofs.ForCallers.{Ground}
-use Rattle.sheet_laws.specs.Sourced.{SourcedItem, of_source, sourced_text}
+use Rattle.sheet_laws.specs.Sourced.{sourced_text}
 use Rattle.opened_laws.specs.Again.{IsBodyFrom}
 use Rattle.opened_laws.proofs.Back.Blocks.{IsPrintedBlock, media_no_import, rule_opened}
 use Rattle.opened_laws.proofs.Back.Starts.{BlocksAscend}

@@ -1,7 +1,7 @@
 -- The opened blocks of items, item by item.
-use Rattle.std.proofs.Common.{◌≡◌, ◌⊎◌, inl, inr, ◌≤◌, ◌<◌, ℕ, suc, ◌==◌, Bool, true, false, cond, List, [], ◌∷◌, ◌++◌, drop, Option, Some, None, refl, sym, ◌∙◌, ap, ap₂, subst, arith}
+use Rattle.std.proofs.Common.{◌≡◌, ◌⊎◌, inl, inr, ◌≤◌, ℕ, suc, ◌==◌, Bool, true, false, List, [], ◌∷◌, ◌++◌, drop, Option, Some, None, refl, sym, ◌∙◌, ap, arith}
 use Rattle.std.specs.Prelude.{⊤, if◌then◌else◌}
-use Rattle.std.specs.List.{AllByRecursion, cons_option, flat_map, list_any}
+use Rattle.std.specs.List.{AllByRecursion, cons_option, list_any}
 use Rattle.std.proofs.lemmas.Bool.{cond-false, cond-true, eq-eqb, ne_eqb}
 use Rattle.css_model.specs.declared.sheet.Item.{Item}
 use Rattle.css_model.specs.declared.sheet.Item.TheVariants.{Rule, KeptRule, KeptBlock}
@@ -10,7 +10,6 @@ use Rattle.css_model.specs.Sheets.Printed.{printed_item}
 use Rattle.css_model.specs.Sheets.SheetParts.{SheetParts}
 use Rattle.css_model.specs.Sheets.Sound.{IsSoundItem}
 use Rattle.css_model.specs.Sheets.Spelling.{tokens_in}
-use Rattle.css_model.specs.Text.Lexemes.{piece_of}
 use Rattle.media_groups.specs.declared.media.Media.{Media}
 use Rattle.media_groups.specs.Opened.{is_import_item, opened_from, opened_item, opened_rule}
 use Rattle.media_groups.specs.Printed.{begins_at, block_text, blocks_at, next_text, texts_with}
@@ -18,7 +17,7 @@ use Rattle.media_laws.specs.Scenes.{block_at}
 use Rattle.print_laws.specs.Replaced.{whole_piece}
 use Rattle.print_laws.proofs.ForCallers.{Ground}
 use Rattle.sheet_laws.specs.Sourced.{SourcedItem, of_source}
-use Rattle.opened_laws.proofs.Back.Blocks.{IsOpenedRule, head_start, piece_item, rule_opened}
+use Rattle.opened_laws.proofs.Back.Blocks.{head_start, piece_item, rule_opened}
 use Rattle.opened_laws.proofs.Back.Starts.{BlocksAscend}
 
 -- ---- where opened blocks begin

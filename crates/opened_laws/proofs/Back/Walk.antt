@@ -1,5 +1,5 @@
 -- The items of a printed text with opened blocks are read back with the same blocks opened.
-use Rattle.std.proofs.Common.{◌≡◌, ◌⊎◌, inl, inr, ◌≤◌, ℕ, suc, Bool, true, false, List, [], ◌∷◌, ◌++◌, drop, length, map, Option, Some, None, refl, sym, ◌∙◌, ap, ap₂, subst, arith}
+use Rattle.std.proofs.Common.{◌≡◌, ◌⊎◌, inl, inr, ◌≤◌, ℕ, suc, Bool, true, false, List, [], ◌∷◌, ◌++◌, length, map, Option, Some, None, refl, sym, ◌∙◌, ap, ap₂, subst, arith}
 use Rattle.std.specs.Prelude.{◌||◌, if◌then◌else◌, codes}
 use Rattle.std.specs.List.{AllByRecursion, AllZip, cons_option, flat_map, list_any}
 use Rattle.std.proofs.lemmas.Bool.{true≢false}
@@ -19,14 +19,14 @@ use Rattle.list_facts.proofs.Zips.{some_not_none}
 use Rattle.block_laws.specs.Blocks.{ReadsBackAsBlock}
 use Rattle.media_groups.specs.declared.media.Media.{Media}
 use Rattle.media_groups.specs.Opened.{is_import_item, opened_from, opened_item, opened_rule}
-use Rattle.media_groups.specs.Printed.{block_text, blocks_at, texts_with}
+use Rattle.media_groups.specs.Printed.{block_text, texts_with}
 use Rattle.media_laws.specs.Scenes.{block_at}
 use Rattle.print_laws.specs.Replaced.{whole_piece}
 use Rattle.print_laws.proofs.ForCallers.{AreKeptBack, Ground, IsKeptBack, IsSourcedKeptBack}
-use Rattle.sheet_laws.specs.Sourced.{IsTwinOfSourced, SourcedItem}
+use Rattle.sheet_laws.specs.Sourced.{IsTwinOfSourced}
 use Rattle.sheet_laws.specs.Twins.{AreTwinItems}
 use Rattle.opened_laws.specs.Again.{AreOpenedAgain, IsBlockAgain, IsBodyFrom, IsPieceAgain}
-use Rattle.opened_laws.proofs.Back.Blocks.{IsOpenedAgain, IsPieceItem, IsPrintedBlock, media_no_import, not_opened, opened_again, piece_item, rule_opened}
+use Rattle.opened_laws.proofs.Back.Blocks.{IsPrintedBlock, media_no_import, not_opened, opened_again, piece_item, rule_opened}
 use Rattle.opened_laws.proofs.Back.Bodies.{body_back}
 use Rattle.opened_laws.proofs.Back.Kept.{kept_named}
 use Rattle.opened_laws.proofs.Back.Rows.{opened_short, plain_short}

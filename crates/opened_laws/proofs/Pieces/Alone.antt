@@ -1,10 +1,10 @@
 -- A text that stands inside the block of another, by itself.
-use Rattle.std.proofs.Common.{◌≡◌, ◌≤◌, ℕ, ◌+◌, ◌-◌, Bool, true, false, cond, nat_eq, not, List, [], ◌∷◌, ◌++◌, length, map, take, drop, Option, Some, None, refl, sym, ◌∙◌, ap, subst, arith}
+use Rattle.std.proofs.Common.{◌≡◌, ◌≤◌, ℕ, ◌+◌, ◌-◌, Bool, true, false, cond, nat_eq, not, List, [], ◌∷◌, length, map, take, drop, Option, Some, None, refl, sym, ◌∙◌, ap, arith}
 use Rattle.std.specs.Prelude.{◌&&◌, if◌then◌else◌}
 use Rattle.std.specs.List.{AllByRecursion, last_or, starts_with}
 use Rattle.std.specs.Option.{option_map}
 use Rattle.std.specs.Str.{IsUtf8}
-use Rattle.std.proofs.lemmas.Bool.{cond-false, cond-true}
+use Rattle.std.proofs.lemmas.Bool.{cond-false}
 use Rattle.std.proofs.lemmas.List.{drop-drop, drop-take, length-append, take-take}
 use Rattle.css_model.specs.declared.token.Bracket.{Bracket}
 use Rattle.css_model.specs.declared.token.Gap.{Gap}
@@ -21,8 +21,7 @@ use Rattle.css_tokens.specs.Lexed.{IsLexed}
 use Rattle.css_tokens.proofs.ForCallers.{lexed_are_parts}
 use Rattle.list_facts.proofs.Zips.{AllLast}
 use Rattle.print_laws.proofs.ForCallers.{Ground, closers_of, ground, lexemes-open, open_behind}
-use Rattle.sheet_laws.proofs.ForCallers.{Shown, closed, inner, shown}
-use Rattle.opened_laws.proofs.Pieces.Inside.{IsInside}
+use Rattle.sheet_laws.proofs.ForCallers.{Shown, closed, shown}
 use Rattle.opened_laws.proofs.Pieces.Places.{IsMoved, IsMovedInner, IsMovedLast, end_gap, token_at}
 
 -- ---- parts that are a text

@@ -1,5 +1,5 @@
 -- Rows that agree place by place, cut at one place.
-use Rattle.std.proofs.Common.{◌≡◌, ℕ, Bool, true, false, List, [], ◌∷◌, ◌++◌, length, arith}
+use Rattle.std.proofs.Common.{◌≡◌, Bool, true, false, List, [], ◌∷◌, ◌++◌, length, arith}
 use Rattle.std.specs.List.{AllByRecursion, AllZip, position_or_len}
 use Rattle.list_facts.proofs.Cuts.{position_here, position_later}
 use Rattle.list_facts.proofs.Zips.{AllLast}

@@ -5,7 +5,6 @@ use Rattle.std.specs.List.{AllByRecursion, starts_with}
 use Rattle.std.specs.Str.{IsUtf8, chars, is_utf8}
 use Rattle.std.proofs.lemmas.Bool.{and_parts, cond-false, eqb-true, false≢true}
 use Rattle.std.proofs.lemmas.Str.{is_utf8-from_IsUtf8}
-use Rattle.css_model.specs.declared.token.Gap.{Gap}
 use Rattle.css_model.specs.declared.token.Gap.TheVariants as gap
 use Rattle.css_model.specs.declared.token.TokenKind.{TokenKind}
 use Rattle.css_model.specs.declared.token.TokenKind.TheVariants as kind

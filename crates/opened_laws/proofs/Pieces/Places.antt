@@ -1,8 +1,7 @@
 -- Where tokens of parts stand, and the tokens of a row of parts by itself.
-use Rattle.std.proofs.Common.{◌≡◌, ◌≤◌, ℕ, zero, suc, ◌+◌, Bool, true, false, cond, List, [], ◌∷◌, ◌++◌, length, drop, Option, Some, None, refl, sym, ◌∙◌, ap, subst, arith}
-use Rattle.std.specs.Prelude.{⊤}
+use Rattle.std.proofs.Common.{◌≡◌, ℕ, ◌+◌, Bool, true, false, cond, List, [], ◌∷◌, ◌++◌, length, Option, Some, None, refl, sym, ◌∙◌, ap, subst, arith}
 use Rattle.std.specs.List.{AllByRecursion}
-use Rattle.std.proofs.lemmas.Bool.{true≢false, cond-true, cond-false}
+use Rattle.std.proofs.lemmas.Bool.{cond-true, cond-false}
 use Rattle.std.proofs.lemmas.List.{length-append}
 use Rattle.css_model.specs.declared.token.Bracket.{Bracket}
 use Rattle.css_model.specs.declared.token.Gap.{Gap}
@@ -10,7 +9,7 @@ use Rattle.css_model.specs.declared.token.Gap.TheVariants as gap
 use Rattle.css_model.specs.declared.token.Lexeme.{Lexeme}
 use Rattle.css_model.specs.declared.token.Token.{Token}
 use Rattle.css_model.specs.declared.token.TokenKind.{TokenKind}
-use Rattle.css_model.specs.Text.Lexemes.{after, closer_of, gap_of, is_sign_of, is_white_kind, lexeme, lexemes_in}
+use Rattle.css_model.specs.Text.Lexemes.{after, closer_of, is_sign_of, is_white_kind, lexeme, lexemes_in}
 use Rattle.css_model.specs.Text.Tokens.{Part, is_comment, text_of, token_then, tokens_at}
 use Rattle.list_facts.proofs.Zips.{AllLast, cons_head, cons_not_empty, cons_tail}
 use Rattle.print_laws.proofs.ForCallers.{closers-same, closers_after, closers_of, closes_first, gap-same, gap_behind, length-closers, open_behind, opened_by}

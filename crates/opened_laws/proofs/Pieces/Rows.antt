@@ -1,15 +1,14 @@
 -- A row of parts before a `}` is read where it stands by itself.
-use Rattle.std.proofs.Common.{◌≡◌, inl, inr, ℕ, Bool, true, false, List, [], ◌∷◌, ◌++◌, length, Option, Some, Ok, refl, sym, ◌∙◌, ap, subst}
+use Rattle.std.proofs.Common.{◌≡◌, inl, inr, ℕ, true, false, List, [], ◌∷◌, ◌++◌, length, Some, Ok, refl, sym, ◌∙◌, ap, subst}
 use Rattle.std.proofs.lemmas.Bool.{false≢true}
 use Rattle.std.proofs.lemmas.List.{append_assoc}
 use Rattle.css_model.specs.declared.token.Gap.TheVariants as gap
-use Rattle.css_model.specs.declared.token.TokenKind.{TokenKind}
 use Rattle.css_model.specs.declared.token.TokenKind.TheVariants as kind
 use Rattle.css_model.specs.Text.Characters.{backslash, close_curly, first_passes}
 use Rattle.css_model.specs.Text.TokenAt.{part_at, is_quote}
 use Rattle.css_model.specs.Text.Tokens.{Part, text_of}
 use Rattle.css_tokens.specs.Lexed.{IsLexed}
-use Rattle.token_laws.specs.Alike.{Alike, EndsAlike, LooksAlike, LooksThrough, begins_quoted}
+use Rattle.token_laws.specs.Alike.{Alike, EndsAlike, begins_quoted}
 use Rattle.token_laws.specs.Solids.{gap_before}
 use Rattle.token_laws.proofs.ForCallers.{PartIs, lone_gap, part_is, rows_again, sign-text}
 

@@ -1,5 +1,5 @@
 -- A block that stands in a text as it is by itself has its head and its body there.
-use Rattle.std.proofs.Common.{◌≡◌, ◌≤◌, ℕ, ◌+◌, ◌-◌, ◌==◌, Bool, true, false, cond, List, [], ◌∷◌, ◌++◌, length, map, take, drop, refl, sym, ◌∙◌, ap, ap₂, subst, arith}
+use Rattle.std.proofs.Common.{◌≡◌, ◌≤◌, ℕ, ◌+◌, ◌-◌, ◌==◌, Bool, true, false, cond, List, [], ◌∷◌, ◌++◌, length, map, drop, refl, sym, ◌∙◌, ap, ap₂, subst, arith}
 use Rattle.std.specs.Prelude.{◌&&◌}
 use Rattle.std.specs.List.{AllByRecursion, AllZip, list_any}
 use Rattle.std.proofs.lemmas.Bool.{cond-false, cond-true, and_parts, false≢true}
@@ -8,9 +8,8 @@ use Rattle.css_model.specs.declared.sheet.Piece.{Piece}
 use Rattle.css_model.specs.declared.token.Gap.{Gap}
 use Rattle.css_model.specs.declared.token.Lexeme.{Lexeme}
 use Rattle.css_model.specs.declared.token.TokenKind.{TokenKind}
-use Rattle.css_model.specs.declared.token.TokenKind.TheVariants as kind
 use Rattle.css_model.specs.Sheets.Items.{closes_block, is_at_keyword, opens_block}
-use Rattle.css_model.specs.Sheets.Spelling.{kept_text, lexemes_of, tokens_in}
+use Rattle.css_model.specs.Sheets.Spelling.{kept_text, lexemes_of}
 use Rattle.css_model.specs.Text.Characters.{close_curly, open_curly, semicolon}
 use Rattle.css_model.specs.Text.Kept.{Solid, kept, solid}
 use Rattle.css_model.specs.Text.Lexemes.{end_of, is_sign_at, is_sign_of, lexemes_in, piece_of}
