@@ -1,3 +1,4 @@
+pub mod ForCallers
 mod Alone
 mod AtRules
 mod Back

@@ -1,5 +1,5 @@
 pub mod Again
-pub mod Awaited
+pub mod Bodies
 pub mod Contents
 pub mod Merged
 pub mod Plans

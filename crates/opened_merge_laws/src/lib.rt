@@ -6,5 +6,5 @@ mod awaited;
 mod bodies;
 mod merged;
 
-pub use bodies::planned_bodies_are_sound;
+pub use bodies::{opened_bodies_stand_apart, planned_bodies_are_sound};
 pub use merged::{planned_is_merged_opened, planned_is_told_opened};

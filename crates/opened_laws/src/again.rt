@@ -1,0 +1,16 @@
+//! What the text of opened blocks is read back as, each law as the contract of a function that does nothing.
+
+ghost use Rattle.opened_laws.specs.Again.{OpenedReadsBack};
+
+use block_laws::blocks_read_back;
+use media_groups::blocks_stay;
+
+/// The printed text of a sheet whose blocks of media are opened is read back as that sheet, with the same blocks
+/// opened: each one's body as the twin of the body that it was printed with, any other item as its twin. Printed again
+/// it is the same text.
+pub fn opened_reads_back()
+    ensures { OpenedReadsBack }
+{
+    blocks_read_back();
+    blocks_stay();
+}
