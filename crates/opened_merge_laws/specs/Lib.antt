@@ -1,4 +1,3 @@
-pub mod Again
 pub mod Bodies
 pub mod Contents
 pub mod Merged

@@ -2,7 +2,6 @@
 //! of it by itself, is one whose sheet has the same winners in every scene, and in which nothing is left to do either.
 #![tactic(auto)]
 
-mod awaited;
 mod bodies;
 mod merged;
 
