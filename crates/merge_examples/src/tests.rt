@@ -118,7 +118,11 @@ fn what_small_sheets_become(rt: HostRuntime) -> Result<(), Fail> {
             b".a{top:0}.a,.b{color:red;clear:both}.b{width:1px}",
             (2, 3, 1),
         ),
-        (b"@media print { a{top:0} b{top:0} }", b"@media print{a,b{top:0}}", (3, 2, 1)),
+        (
+            b"@media print { a{top:0} b{top:0} }",
+            b"@media print{a,b{top:0}}",
+            (3, 2, 1),
+        ),
         // In the body down is free; no rule moves across the block.
         (
             b".a{top:0}@media print{.a{color:red}.b{top:0}.a{left:0}}.a{top:2px}",

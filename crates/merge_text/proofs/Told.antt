@@ -1,10 +1,10 @@
 -- What is told of a planned sheet: its numbers, and its text.
 use Rattle.std.proofs.Common.{◌≡◌, ◌≤◌, ℕ, suc, ◌+◌, ◌*◌, Bool, true, false, List, [], ◌∷◌, ◌++◌, map, length, Option, Some, None, Result, Ok, Err, refl, sym, ap, ap₂, ◌∙◌, subst, arith}
-use Rattle.std.specs.Prelude.{◌||◌, ◌==◌, IfOk, if◌then◌else◌}
+use Rattle.std.specs.Prelude.{◌==◌, IfOk, if◌then◌else◌}
 use Rattle.std.specs.List.{AllByRecursion, cons_option, flat_map, list_any}
 use Rattle.css_model.specs.declared.sheet.Item.{Item}
 use Rattle.css_model.specs.declared.sheet.Item.TheVariants.{Rule, KeptRule, KeptBlock}
-use Rattle.css_model.specs.Sheets.Limits.{max_bytes, max_items}
+use Rattle.css_model.specs.Sheets.Limits.{max_items}
 use Rattle.css_model.specs.Sheets.Printed.{behind_mark, printed, printed_item}
 use Rattle.css_model.specs.Sheets.SheetParts.{SheetParts}
 use Rattle.css_model.specs.Sheets.Sound.{IsSound}
@@ -19,7 +19,7 @@ use Rattle.merge_text.specs.Counts.{is_block, most_items}
 use Rattle.merge_text.specs.declared.planned.Planned.{Planned}
 use Rattle.merge_text.specs.MergedTexts.{IsPlannedFrom}
 use Rattle.opened_merge_laws.specs.Merged.{IsMergedOpened, PlannedIsMergedOpened}
-use Rattle.opened_merge_laws.specs.Plans.{AreBodyPlans, IsPlan}
+use Rattle.opened_merge_laws.specs.Plans.{AreBodyPlans}
 use Rattle.opened_merge_laws.specs.Told.{IsToldOpened, PlannedIsToldOpened, items_in, items_opened}
 use Rattle.sheet_laws.specs.Reading.{ReadIsSound}
 use Rattle.step_laws.specs.Free.{Answered, AreTrue}

@@ -10,7 +10,6 @@ ghost use Rattle.opened_merge_laws.specs.Plans.{AreBodyPlans, IsBodyPlan};
 ghost use Rattle.step_laws.specs.Free.{AreAmong};
 
 use css_model::Sheet;
-
 use lead_merge::merge;
 use media_groups::Media;
 use merge_laws::read_is_plannable;

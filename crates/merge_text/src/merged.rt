@@ -32,12 +32,7 @@ pub struct MergedText {
 }
 
 /// What is told of the text of a planned sheet.
-fn told<O: Obstacles>(
-    obstacles: &O,
-    source: &[u8],
-    planned: &Planned,
-    text: Vec<u8>,
-) -> MergedText
+fn told<O: Obstacles>(obstacles: &O, source: &[u8], planned: &Planned, text: Vec<u8>) -> MergedText
     requires from { IsPlannedFrom (O.answers obstacles.now) source.now planned.now }
     requires printed { text.items ≡ printed_with source.now planned.now.media.items planned.now.bodies.items planned.now.sheet.items }
     ensures merged { IsMergedOpened (O.answers obstacles.now) source.now result.text.items }

@@ -1,7 +1,6 @@
-use Rattle.std.proofs.Common.{◌≡◌, ◌≤◌, ◌+◌, ◌-◌, ◌∷◌, List, length, take, drop, ◌∙◌, sym, subst, arith}
+use Rattle.std.proofs.Common.{◌≡◌, ◌+◌, ◌-◌, ◌∷◌, List, length, take, drop, ◌∙◌, sym, subst, arith}
 use Rattle.std.specs.List.{AllByRecursion}
 use Rattle.css_model.specs.Sheets.SheetParts.{SheetParts}
-use Rattle.media_groups.specs.declared.media.Media.{Media}
 use Rattle.media_groups.specs.Laws.{IsBlockOf}
 use Rattle.merge_text.proofs.bodies.merge_bodies.Goals as goal
 use Rattle.merge_text.proofs.PlannedBodies.{ArePlannedTo, cut_media, planned_fit, planned_on}

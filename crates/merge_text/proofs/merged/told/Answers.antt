@@ -1,4 +1,4 @@
-use Rattle.std.proofs.Common.{◌≡◌, ◌≤◌, ◌+◌, ℕ, List, length, refl, ap, ap₂, sym, ◌∙◌, subst, arith}
+use Rattle.std.proofs.Common.{◌≡◌, ◌≤◌, ◌+◌, ℕ, List, length, ap, ap₂, sym, ◌∙◌, subst, arith}
 use Rattle.css_model.specs.Sheets.Limits.{max_items}
 use Rattle.css_model.specs.Sheets.SheetParts.{SheetParts}
 use Rattle.merge_text.proofs.merged.told.Goals as goal

@@ -1,4 +1,4 @@
-use Rattle.std.proofs.Common.{◌≡◌, ◌∙◌, sym, ap, List}
+use Rattle.std.proofs.Common.{◌∙◌, sym, ap}
 use Rattle.std.specs.List.{list_any}
 use Rattle.css_model.specs.Sheets.SheetParts.{SheetParts}
 use Rattle.merge_text.proofs.planned.blocks_of.Goals as goal

@@ -1,4 +1,3 @@
-
 use Rattle.merge_text.proofs.planned.print_planned.Goals as goal
 use Rattle.merge_text.proofs.Told.{media_none, printed_alike, printed_plain, sheet_sound}
 
