@@ -1,4 +1,4 @@
-use Rattle.std.proofs.Common.{◌≡◌, ◌-◌, ◌∷◌, List, length, map, take, drop, subst}
+use Rattle.std.proofs.Common.{◌≡◌, ◌-◌, ◌∷◌, length, map, take, drop, subst}
 use Rattle.std.specs.List.{AllByRecursion}
 use Rattle.css_model.specs.Text.Source.{text_at}
 use Rattle.media_groups.specs.Laws.{IsBlockOf}
