@@ -14,8 +14,8 @@ use Rattle.media_groups.specs.declared.media.Media.{Media}
 use Rattle.media_groups.specs.Laws.{IsNoLongerBody, MergedIsNoLonger}
 use Rattle.media_groups.specs.Opened.{opened_of}
 use Rattle.media_groups.specs.Printed.{printed_with, texts_with}
+use Rattle.media_laws.specs.Lengths.{OpenedIsNoLonger}
 use Rattle.merge_laws.proofs.ForCallers.{leads_shorter, printed_size}
-use Rattle.opened_merge_laws.specs.Awaited.{OpenedIsNoLonger}
 use Rattle.opened_merge_laws.specs.Plans.{AreBodyPlans}
 use Rattle.opened_merge_laws.proofs.Marks.{IsMarked, marked_alike}
 use Rattle.print_laws.proofs.ForCallers.{Ground}
@@ -47,7 +47,7 @@ marked text = which (starts_with nat_eq text byte_order_mark)
     which true = omega arith
     which false = omega arith
 
-unmarked : (text : List ℕ) → length text ≤ length (behind_mark text)
+pub unmarked : (text : List ℕ) → length text ≤ length (behind_mark text)
 unmarked text = which (starts_with nat_eq text byte_order_mark)
   where
     which : (b : Bool) → length text ≤ length (if b then space ∷ text else text)

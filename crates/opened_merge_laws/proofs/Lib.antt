@@ -9,6 +9,7 @@ mod OpenedExamples
 mod ReadBack
 mod ReadContents
 mod ReadWinners
+mod StandingApart
 mod Winners
 mod Writing
 pub mod ForCallers

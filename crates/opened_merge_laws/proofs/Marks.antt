@@ -1,9 +1,10 @@
 -- Whether the text of a sheet with opened blocks begins with a byte order mark hangs on nothing that stands inside the blocks.
-use Rattle.std.proofs.Common.{◌≡◌, ℕ, Bool, true, false, List, [], ◌∷◌, ◌++◌, map, drop, sym, ◌∙◌, subst, arith, append_assoc}
+use Rattle.std.proofs.Common.{◌≡◌, ℕ, Bool, true, false, List, [], ◌∷◌, ◌++◌, map, drop, sym, ◌∙◌, subst, append_assoc}
 use Rattle.std.specs.Prelude.{nat_eq, if◌then◌else◌}
 use Rattle.std.specs.List.{AllByRecursion, AllZip, join_with_byte, starts_with}
-use Rattle.std.specs.Str.{IsUtf8}
-use Rattle.std.proofs.lemmas.Bool.{and_parts, false≢true}
+use Rattle.std.specs.Str.{IsUtf8, chars, is_utf8}
+use Rattle.std.proofs.lemmas.Bool.{and_parts, eqb-true, false≢true}
+use Rattle.std.proofs.lemmas.Str.{is_utf8-from_IsUtf8}
 use Rattle.css_model.specs.declared.sheet.Item.{Item}
 use Rattle.css_model.specs.declared.sheet.Item.TheVariants.{Rule, KeptRule, KeptBlock}
 use Rattle.css_model.specs.declared.sheet.Piece.{Piece}
@@ -16,7 +17,7 @@ use Rattle.css_model.specs.Text.Source.{text_at}
 use Rattle.css_model.specs.Text.Tokens.{byte_order_mark}
 use Rattle.media_groups.specs.declared.media.Media.{Media}
 use Rattle.media_groups.specs.Printed.{begins_at, block_text, texts_with}
-use Rattle.print_laws.proofs.ForCallers.{Ground, IsGoodLexeme, IsLoneBeforeWhite, filtered, kept-text, kept-utf8, mark_front, shown-utf8}
+use Rattle.print_laws.proofs.ForCallers.{Ground, IsGoodLexeme, IsLoneBeforeWhite, filtered, kept-text, kept-utf8, shown-utf8}
 use Rattle.sheet_laws.proofs.ForCallers.{kept_shown}
 
 abbrev pub IsMarked : List ℕ → Type 0
@@ -39,10 +40,27 @@ curly_first front inside inside' more tail is =
     apart : (inside more : List ℕ) → in_curlies front inside ++ more ≡ front ++ (open_curly ∷ (inside ++ close_curly ∷ more))
     apart inside more = append_assoc (front ++ open_curly ∷ inside) (close_curly ∷ []) more ∙ append_assoc front (open_curly ∷ inside) (close_curly ∷ more)
 
--- a text in UTF-8 is marked by itself, where it is not empty
+-- the first byte of a mark, and the first two, are no text in UTF-8
+one_short : IsUtf8 (0xEF ∷ []) → ⊥
+unfolding is_utf8 chars
+one_short utf8 = absurd (false≢true (is_utf8-from_IsUtf8 (0xEF ∷ []) utf8))
+
+two_short : IsUtf8 (0xEF ∷ 0xBB ∷ []) → ⊥
+unfolding is_utf8 chars
+two_short utf8 = absurd (false≢true (is_utf8-from_IsUtf8 (0xEF ∷ 0xBB ∷ []) utf8))
+
+-- so a text in UTF-8 is marked by itself, where it is not empty
 utf8_first : (text more tail : List ℕ) → IsUtf8 text → (IsMarked more → IsMarked tail) → IsMarked (text ++ more) → IsMarked (text ++ tail)
 utf8_first [] more tail utf8 later is = later is
-utf8_first (a ∷ text) more tail utf8 later is = mark_front (a ∷ text) more tail utf8 (omega arith) is
+utf8_first (a ∷ []) more tail utf8 later is =
+    let first = eqb-true 0xEF a (and_parts (nat_eq 0xEF a) _ is).0 in
+    absurd (one_short (subst (λ (c : ℕ). IsUtf8 (c ∷ [])) (sym first) utf8))
+utf8_first (a ∷ b ∷ []) more tail utf8 later is =
+    let both = and_parts (nat_eq 0xEF a) _ is in
+    let first = eqb-true 0xEF a both.0 in
+    let second = eqb-true 0xBB b (and_parts (nat_eq 0xBB b) _ both.1).0 in
+    absurd (two_short (subst (λ (c : ℕ). IsUtf8 (0xEF ∷ c ∷ [])) (sym second) (subst (λ (c : ℕ). IsUtf8 (c ∷ b ∷ [])) (sym first) utf8)))
+utf8_first (a ∷ b ∷ c ∷ text) more tail utf8 later is = is
 
 -- kept text is in UTF-8
 kept_whole : (source : List ℕ) → Ground source → (piece : Piece) → IsUtf8 (kept_text source piece)

@@ -5,7 +5,7 @@ use Rattle.css_model.specs.declared.sheet.Item.{Item}
 use Rattle.css_model.specs.Sheets.SheetParts.{SheetParts}
 use Rattle.css_model.specs.Text.Source.{text_at}
 use Rattle.media_groups.specs.declared.media.Media.{Media}
-use Rattle.opened_merge_laws.specs.Again.{AreOpenedAgain, IsBlockAgain}
+use Rattle.opened_laws.specs.Again.{AreOpenedAgain, IsBlockAgain}
 use Rattle.opened_merge_laws.specs.Told.{items_in}
 use Rattle.opened_merge_laws.proofs.Again.{by_items}
 use Rattle.plan_laws.specs.Planned.{AreTwinsButBlocks}

@@ -12,7 +12,7 @@ use Rattle.css_model.specs.Sheets.SheetParts.{SheetParts}
 use Rattle.css_model.specs.Sheets.Spelling.{Block, Content, Kept, content, kept_text}
 use Rattle.css_model.specs.Text.Source.{text_at}
 use Rattle.media_groups.specs.declared.media.Media.{Media}
-use Rattle.opened_merge_laws.specs.Again.{AreOpenedAgain}
+use Rattle.opened_laws.specs.Again.{AreOpenedAgain}
 use Rattle.opened_merge_laws.specs.Contents.{Opened, OpenedContent, Plain, block_content, opened_content}
 use Rattle.opened_merge_laws.proofs.Again.{IsFirst, IsNone, by_items}
 use Rattle.plan_laws.specs.Planned.{TwinsKeep}

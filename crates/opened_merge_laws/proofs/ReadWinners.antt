@@ -13,7 +13,7 @@ use Rattle.css_model.specs.Sheets.SheetParts.{SheetParts}
 use Rattle.css_model.specs.Text.Source.{text_at}
 use Rattle.media_groups.specs.declared.media.Media.{Media}
 use Rattle.media_laws.specs.Scenes.{BlocksWinAlike, IsSceneOf, KeptScene, kept_blocks}
-use Rattle.opened_merge_laws.specs.Again.{AreOpenedAgain, IsBlockAgain}
+use Rattle.opened_laws.specs.Again.{AreOpenedAgain, IsBlockAgain}
 use Rattle.opened_merge_laws.proofs.Again.{IsFirst, IsNone, by_items}
 use Rattle.opened_merge_laws.proofs.Winners.{twins_win_alike}
 use Rattle.plan_laws.proofs.ForCallers.{twins_but_blocks}

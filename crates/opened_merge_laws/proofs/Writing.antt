@@ -15,10 +15,10 @@ use Rattle.media_groups.specs.Laws.{BlocksStay, IsBlockOf, MergedIsNoLonger, Ope
 use Rattle.media_groups.specs.Opened.{opened_of}
 use Rattle.media_groups.specs.Printed.{printed_with}
 use Rattle.media_groups.proofs.ForCallers.{follow_kept}
+use Rattle.media_laws.specs.Lengths.{OpenedIsNoLonger}
 use Rattle.media_laws.specs.Scenes.{BlocksWinAlike, IsSceneOf, MergedSheetsWinAlike, ScenesGiveMeanings, kept_blocks, meanings_of}
 use Rattle.merge_laws.specs.Reading.{ReadKeepsTheLimits}
-use Rattle.opened_merge_laws.specs.Again.{AreOpenedAgain, IsReadBackOpened, OpenedReadsBack}
-use Rattle.opened_merge_laws.specs.Awaited.{OpenedIsNoLonger}
+use Rattle.opened_laws.specs.Again.{AreOpenedAgain, IsReadBackOpened, OpenedReadsBack}
 use Rattle.opened_merge_laws.specs.Contents.{HaveSameWinnersOpened, opened_content}
 use Rattle.opened_merge_laws.specs.Merged.{IsDoneOpened, IsMergedOpened, IsPlannedOpened, PlannedIsMergedOpened}
 use Rattle.opened_merge_laws.specs.Plans.{AreBodyPlans, IsPlan}

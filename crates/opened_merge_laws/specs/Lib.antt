@@ -1,5 +1,4 @@
-pub mod Again
-pub mod Awaited
+pub mod Bodies
 pub mod Contents
 pub mod Merged
 pub mod Plans

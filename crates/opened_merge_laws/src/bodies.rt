@@ -1,5 +1,6 @@
-//! What plans of the bodies of opened blocks lead to.
+//! The bodies of opened blocks, and what plans of them lead to.
 
+ghost use Rattle.opened_merge_laws.specs.Bodies.{OpenedBodiesStandApart};
 ghost use Rattle.opened_merge_laws.specs.Merged.{PlannedBodiesAreSound};
 
 use media_groups::opened_blocks_are_sheets;
@@ -15,3 +16,8 @@ pub fn planned_bodies_are_sound()
     read_keeps_the_limits();
     leading_makes_of();
 }
+
+/// The bodies of the opened blocks of a sheet have together no more bytes than its source.
+pub fn opened_bodies_stand_apart()
+    ensures { OpenedBodiesStandApart }
+{}

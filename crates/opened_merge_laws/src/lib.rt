@@ -2,9 +2,8 @@
 //! of it by itself, is one whose sheet has the same winners in every scene, and in which nothing is left to do either.
 #![tactic(auto)]
 
-mod awaited;
 mod bodies;
 mod merged;
 
-pub use bodies::planned_bodies_are_sound;
+pub use bodies::{opened_bodies_stand_apart, planned_bodies_are_sound};
 pub use merged::{planned_is_merged_opened, planned_is_told_opened};

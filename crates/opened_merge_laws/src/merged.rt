@@ -3,18 +3,17 @@
 ghost use Rattle.opened_merge_laws.specs.Merged.{PlannedIsMergedOpened};
 ghost use Rattle.opened_merge_laws.specs.Told.{PlannedIsToldOpened};
 
-use crate::awaited::{opened_is_no_longer, opened_reads_back};
 use limit_laws::planned_comes_from;
 use media_groups::{blocks_stay, merged_is_no_longer, opened_blocks_are_sheets};
-use media_laws::{bodies_count_by_winners, scenes_give_meanings};
+use media_laws::{bodies_count_by_winners, opened_is_no_longer, scenes_give_meanings};
 use merge_laws::read_keeps_the_limits;
+use opened_laws::opened_reads_back;
 use order_laws::keeping_keeps_winners;
 use plan_laws::{leading_keeps, twins_are_done, twins_but_blocks_are_done, twins_keep};
 use sheet_laws::read_is_sound;
 
 /// Both laws, which stand on the same ones.
 fn planned_is_written()
-    requires { ⊥ }
     ensures merged { PlannedIsMergedOpened }
     ensures told { PlannedIsToldOpened }
 {
@@ -39,7 +38,6 @@ fn planned_is_written()
 /// that was printed with these bodies: what is written is no longer than what was read, has the same winners in every scene, and
 /// nothing is left to do in it, nor in any body of its opened blocks.
 pub fn planned_is_merged_opened()
-    requires { ⊥ }
     ensures { PlannedIsMergedOpened }
 {
     planned_is_written();
@@ -47,7 +45,6 @@ pub fn planned_is_merged_opened()
 
 /// What is written then has as many items as the planned sheets together.
 pub fn planned_is_told_opened()
-    requires { ⊥ }
     ensures { PlannedIsToldOpened }
 {
     planned_is_written();
