@@ -1,8 +1,8 @@
 mod Budgets
 mod Faults
 mod Forms
-mod Merging
 mod Outcomes
 mod Reading
+mod Staying
 mod Told
 mod Wrote

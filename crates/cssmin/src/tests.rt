@@ -129,7 +129,7 @@ fn run_min(alloc: Global, text: &[u8], outside: Outside) -> Result<Ran, AllocErr
 }
 
 // Sheets with what becomes of them, worked by hand.
-const MERGED: [(&str, &str); 11] = [
+const MERGED: [(&str, &str); 13] = [
     ("", ""),
     ("a { color : red ; }", "a{color:red}"),
     // Up is blocked, since both properties are of one family; down is free.
@@ -159,10 +159,16 @@ const MERGED: [(&str, &str); 11] = [
         ".a>.b{top:0}.c:root{top:1px}.a>.b{top:2px}",
         ".a>.b{top:0;top:2px}.c:root{top:1px}",
     ),
+    // The body of a block is merged by itself, and no rule moves across the block.
+    (
+        "a{top:0}@MEDIA print { a { top: 0 } a { left: 0 } } a{top:0}",
+        "a{top:0}@MEDIA print{a{top:0;left:0}}a{top:0}",
+    ),
+    ("@media print{/**/}", "@media print{}"),
 ];
 
 // Sheets that stay as they are, worked by hand.
-const UNMERGED: [&str; 8] = [
+const UNMERGED: [&str; 10] = [
     ".a{top:0}.b{top:1px}.a{top:2px}",
     ".a{background:red;background:linear-gradient(red,blue)}",
     ".a{color:red}.c:focus-visible{color:blue}.a{color:green}",
@@ -171,6 +177,9 @@ const UNMERGED: [&str; 8] = [
     ".a{margin:0;margin-left:1px}.b{margin:0}",
     "a{top:0}@import \"x\";a{top:0}",
     "a{top:0;&:hover{left:0}}a{left:1px}",
+    // An `@import` behind a block, and one inside it: neither block is opened.
+    "@media print{a{top:0}b{top:0}}@import \"x\";",
+    "@media print{@import \"x\";a{top:0}b{top:0}}",
 ];
 
 #[test]
@@ -190,7 +199,7 @@ fn merges(rt: HostRuntime) -> Result<(), Fail> {
 }
 
 // Sheets with the reports of them, worked by hand.
-const REPORTED: [(&str, &str, &str); 4] = [
+const REPORTED: [(&str, &str, &str); 7] = [
     ("", "", "items 0 0\nbytes 0 0\nsteps 0\n"),
     (
         ".a{top:0}.b{top:1px}.a{top:2px}",
@@ -206,6 +215,23 @@ const REPORTED: [(&str, &str, &str); 4] = [
         ".a{margin:0;margin-left:1px}.b{margin:0}",
         ".a{margin:0;margin-left:1px}.b{margin:0}",
         "items 2 2\nbytes 40 40\nsteps 0\nblocked Share 1 2 meet 1\n",
+    ),
+    // The items of opened blocks are counted with the others.
+    (
+        "@media print { a{top:0} b{top:0} }",
+        "@media print{a,b{top:0}}",
+        "items 3 2\nbytes 34 24\nsteps 1\n",
+    ),
+    (
+        "@media print{.a{top:0}.b{top:1px}.a{top:2px}}",
+        "@media print{.a{top:0}.b{top:1px}.a{top:2px}}",
+        "items 4 4\nbytes 45 45\nsteps 0\nblocked JoinSelUp 1.1 1.3 meet 1.2\nblocked JoinSelDown 1.1 1.3 meet 1.2\n",
+    ),
+    // A block is numbered as it stands in the text that is written.
+    (
+        ".a{top:0}.a{top:1px}@media print{.a{top:0}.b{top:1px}.a{top:2px}}.b{top:0}.a{top:2px}",
+        ".a{top:0;top:1px}@media print{.a{top:0}.b{top:1px}.a{top:2px}}.b{top:0}.a{top:2px}",
+        "items 8 7\nbytes 85 82\nsteps 1\nblocked JoinSelUp 1 4 meet 3\nblocked JoinSelDown 1 4 kept 2\nblocked Share 1 3 meet 1\nblocked JoinSelUp 2.1 2.3 meet 2.2\nblocked JoinSelDown 2.1 2.3 meet 2.2\n",
     ),
 ];
 

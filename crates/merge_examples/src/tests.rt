@@ -57,9 +57,9 @@ img{border:0}\
 .btn:focus-visible { outline: 2px solid }\
 a,.link{color:#06c;text-decoration:none}\
 .hide{display:none}\
-@media print { .hide { display: block } }\
+@media print{.hide{display:block}}\
 .note{padding:4px}\
-@media (max-width: 600px) { .half { width: 100% } }";
+@media (max-width: 600px){.half{width:100%}}";
 
 /// Merges a source, with no answers at first.
 fn merged(alloc: Global, source: &[u8]) -> Result<MergedText, SheetError> {
@@ -84,8 +84,8 @@ fn becomes(
 
 #[test]
 fn what_a_page_becomes(rt: HostRuntime) -> Result<(), Fail> {
-    assert_eq!(rt; MERGED_PAGE.len(), 639);
-    becomes(&rt, rt.alloc(), PAGE, MERGED_PAGE, (25, 21, 5))
+    assert_eq!(rt; MERGED_PAGE.len(), 625);
+    becomes(&rt, rt.alloc(), PAGE, MERGED_PAGE, (27, 23, 5))
 }
 
 #[test]
@@ -118,6 +118,13 @@ fn what_small_sheets_become(rt: HostRuntime) -> Result<(), Fail> {
             b".a{top:0}.a,.b{color:red;clear:both}.b{width:1px}",
             (2, 3, 1),
         ),
+        (b"@media print { a{top:0} b{top:0} }", b"@media print{a,b{top:0}}", (3, 2, 1)),
+        // In the body down is free; no rule moves across the block.
+        (
+            b".a{top:0}@media print{.a{color:red}.b{top:0}.a{left:0}}.a{top:2px}",
+            b".a{top:0}@media print{.b{top:0}.a{color:red;left:0}}.a{top:2px}",
+            (6, 5, 1),
+        ),
         // The root has no parent, so the two selectors do not meet.
         (
             b".a>.b{top:0}.c:root{top:1px}.a>.b{top:2px}",
@@ -143,7 +150,9 @@ fn what_stays_as_it_stands(rt: HostRuntime) -> Result<(), Fail> {
             b".a{color:red}.c:focus-visible{color:blue}.a{color:green}",
             3,
         ),
-        (b".a{top:0}@media print{.b{top:1px}}.a{top:2px}", 3),
+        (b".a{top:0}@media print{.b{top:1px}}.a{top:2px}", 4),
+        // An `@import` in the body: it is not opened.
+        (b"@media print{@import \"x\";a{top:0}b{top:0}}", 1),
         (b".a>.b{top:0}.c.d{top:1px}.a>.b{top:2px}", 3),
         (b".a{margin:0;margin-left:1px}.b{margin:0}", 2),
     ] {

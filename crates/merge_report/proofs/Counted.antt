@@ -4,14 +4,15 @@ use Rattle.std.specs.Prelude.{IfOk}
 use Rattle.std.specs.List.{Contains}
 use Rattle.css_model.specs.declared.sheet.Item.{Item}
 use Rattle.css_model.specs.Sheets.Sheet.{sheet_of}
-use Rattle.merge_laws.specs.Merged.{IsMerged}
-use Rattle.merge_report.specs.Remaining.{AreRemaining, Entry}
-use Rattle.merge_report.specs.Reports.{AreCounted, IsReport}
+use Rattle.merge_report.specs.Remaining.{AreRemainingOpened, Entry}
+use Rattle.merge_report.specs.Reports.{IsReport}
 use Rattle.merge_text.specs.declared.merged.MergedText.{MergedText}
 use Rattle.merge_text.specs.MergedTexts.{IsTold}
+use Rattle.opened_merge_laws.proofs.ForCallers.{told_more}
+use Rattle.opened_merge_laws.specs.Merged.{IsDoneOpened, IsMergedOpened}
 use Rattle.order_laws.proofs.ForCallers.{map_has, map_from}
 use Rattle.overlap.specs.PairsParts.{PairsParts}
-use Rattle.plan_laws.proofs.ForCallers.{blocked_more, leads_more}
+use Rattle.plan_laws.proofs.ForCallers.{blocked_more}
 use Rattle.report_text.specs.Report.{report_of}
 use Rattle.sheet_order.specs.Allowing.{Stays}
 use Rattle.sheet_order.specs.Laws.{answer_seen}
@@ -25,23 +26,9 @@ stays_among p q stays a inside =
     subst (λ (x : steps.Answered). Contains (map answer_seen q.answers) x) from.2 (map_has answer_seen q.answers from.0 (stays.held from.0.left from.0.right from.0.answer from.1))
 
 -- nothing is left to do in the sheet that a merged text is
-pub done_there : (answers : List steps.Answered) (read written : List ℕ) (items : List Item) → IsMerged answers read written → sheet_of written ≡ Ok items → IsDone answers written items
+pub done_there : (answers : List steps.Answered) (read written : List ℕ) (items : List Item) → IsMergedOpened answers read written → sheet_of written ≡ Ok items → IsDoneOpened answers written items
 done_there answers read written items is written_is =
-    let same : is.again ≡ items = (let again = is.again_read in cc) in subst (λ (xs : List Item). IsDone answers written xs) same is.planned.done
-
--- the numbers that were told are those of the texts, while more is answered
-pub counted : (p q : PairsParts) → Stays p q → (read : List ℕ) (m : MergedText) → IsTold (map answer_seen p.answers) read m → AreCounted q.answers read m.text.items m.read_items m.written_items m.taken
-counted p q stays read m told = record {
-  old = told.old;
-  new = told.new;
-  again = told.again;
-  old_read = told.old_read;
-  again_read = told.again_read;
-  leads = leads_more (map answer_seen p.answers) (map answer_seen q.answers) (stays_among p q stays) read m.taken told.old told.new told.leads;
-  printed_is = told.printed_is;
-  read_counted = told.read_items;
-  written_counted = told.written_items;
-}
+    let same : is.again ≡ items = (let again = is.again_read in cc) in subst (λ (xs : List Item). IsDoneOpened answers written xs) same is.planned.done
 
 -- nothing is left to do while more is answered
 pub done_more : (p q : PairsParts) → Stays p q → (source : List ℕ) (items : List Item) → IsDone (map answer_seen p.answers) source items → IsDone (map answer_seen q.answers) source items
@@ -49,17 +36,17 @@ done_more p q stays source items done = λ k e n is saves some. blocked_more (ma
 
 -- the report of these numbers and steps
 pub reported : {X E : Type 0} (result : Result X E) (text_of : X → List ℕ) (p q : PairsParts) → Stays p q → (read : List ℕ) (m : MergedText) → IsTold (map answer_seen p.answers) read m → (written : List ℕ) → written ≡ m.text.items → (items : List Item) →
-    sheet_of written ≡ Ok items → (remaining blocked : List Entry) → AreRemaining q.answers written items remaining → blocked ≡ remaining →
+    sheet_of written ≡ Ok items → (remaining blocked : List Entry) → AreRemainingOpened q.answers written items remaining → blocked ≡ remaining →
     IfOk result (λ x. text_of x ≡ report_of (m.read_items, m.written_items) (length read, length written) m.taken blocked) → IfOk result (λ x. IsReport q.answers read m.text.items (text_of x))
 reported (Err e) text_of p q stays read m told written same items items_read remaining blocked are blocked_are is = tt
 reported (Ok x) text_of p q stays read m told written same items items_read remaining blocked are blocked_are is = record {
   read_items = m.read_items;
   written_items = m.written_items;
   taken = m.taken;
-  counted = counted p q stays read m told;
+  counted = told_more (map answer_seen p.answers) (map answer_seen q.answers) (stays_among p q stays) read m.text.items m.read_items m.written_items m.taken told;
   items = items;
   items_read = sym (ap sheet_of same) ∙ items_read;
   remaining = remaining;
-  are = subst (λ (bytes : List ℕ). AreRemaining q.answers bytes items remaining) same are;
+  are = subst (λ (bytes : List ℕ). AreRemainingOpened q.answers bytes items remaining) same are;
   report_is = is ∙ (ap (λ (bytes : List ℕ). report_of (m.read_items, m.written_items) (length read, length bytes) m.taken blocked) same ∙ ap (report_of (m.read_items, m.written_items) (length read, length m.text.items) m.taken) blocked_are);
 }

@@ -1,3 +1,4 @@
 mod Counted
 mod Growing
+mod Inside
 mod Never

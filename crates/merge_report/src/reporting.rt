@@ -3,15 +3,14 @@
 ghost use Rattle.std.specs.Prelude.{◌≡◌, List, IfOk, Ok, map};
 ghost use Rattle.css_model.specs.declared.sheet.Item as declared;
 ghost use Rattle.css_model.specs.Sheets.Sheet.{sheet_of};
-ghost use Rattle.merge_laws.specs.Merged.{IsMerged};
 ghost use Rattle.merge_report.specs.Reports.{IsReport, IsSummary};
 ghost use Rattle.merge_text.specs.MergedTexts.{IsTold};
+ghost use Rattle.opened_merge_laws.specs.Merged.{IsMergedOpened};
 ghost use Rattle.sheet_order.specs.Allowing.{Stays};
 ghost use Rattle.sheet_order.specs.Laws.{answer_seen};
 
-use crate::remaining::remaining_steps;
+use crate::remaining::remaining_opened;
 use css_model::Sheet;
-use merge_laws::read_is_plannable;
 use merge_text::MergedText;
 use overlap::Pairs;
 use report_text::report;
@@ -31,7 +30,7 @@ fn sheet_of_text(alloc: Global, text: &[u8]) -> Result<Sheet, AllocError>
 }
 
 /// The report of the text that a source was merged to: its numbers, and each step of it that still saves something, with
-/// its cause by the answers that are held afterwards. It asks for more pairs than merging does. All that was answered
+/// its cause by the answers that are held afterwards; those inside opened blocks come last. It asks for more pairs than merging does. All that was answered
 /// stays, also after `AllocError`.
 pub fn merge_report(
     alloc: Global,
@@ -39,15 +38,14 @@ pub fn merge_report(
     source: &[u8],
     merged: &MergedText,
 ) -> Result<Vec<u8>, AllocError>
-    requires merged { IsMerged (map answer_seen pairs.old.answers) source.now merged.now.text.items }
+    requires merged { IsMergedOpened (map answer_seen pairs.old.answers) source.now merged.now.text.items }
     requires told { IsTold (map answer_seen pairs.old.answers) source.now merged.now }
     ensures stays { Stays pairs.old pairs.new }
     ensures report { IfOk result (λ report. IsReport pairs.new.answers source.now merged.now.text.items report.items) }
 {
-    read_is_plannable();
     let text = merged.text.as_slice();
     let sheet = sheet_of_text(alloc, text)?;
-    let blocked = remaining_steps(alloc, pairs, text, &sheet)?;
+    let blocked = remaining_opened(alloc, pairs, text, &sheet)?;
     let items = (merged.read_items, merged.written_items);
     let bytes = (source.len() as u64, text.len() as u64);
     report(alloc, items, bytes, merged.taken, blocked.as_slice())

@@ -1,1 +1,2 @@
+mod PlannedBodies
 mod Told

@@ -1,30 +1,27 @@
 -- What is told of the text of a merged sheet.
-use Rattle.std.specs.Prelude.{◌≡◌, ℕ, List, Ok, length}
+use Rattle.std.specs.Prelude.{◌≡◌, ℕ, ◌+◌, List, Ok}
 use Rattle.css_model.specs.declared.sheet.Item.{Item}
-use Rattle.css_model.specs.Sheets.Printed.{printed}
 use Rattle.css_model.specs.Sheets.Sheet.{sheet_of}
+use Rattle.media_groups.specs.Opened.{opened_of}
 use Rattle.merge_text.specs.declared.merged.MergedText.{MergedText}
+use Rattle.merge_text.specs.declared.planned.Planned.{Planned}
+use Rattle.opened_merge_laws.specs.Plans.{AreBodyPlans, IsPlan}
+use Rattle.opened_merge_laws.specs.Told.{IsToldOpened, items_opened}
 use Rattle.step_laws.specs.Free.{Answered}
-use Rattle.step_laws.specs.Leading.{Leads, IsDone}
 
--- so many items are read from a source, and so many steps lead from them to a sheet in which nothing is left
--- to do
-pub record IsMergedFrom (answers : List Answered) (source : List ℕ) (count taken : ℕ) (new : List Item) : Type 0 where
+-- Plans lead from the sheet that a source is read as, and from the bodies of its opened blocks, to these sheets, by so many steps
+-- together; so many items were read.
+pub record IsPlannedFrom (answers : List Answered) (source : List ℕ) (p : Planned) : Type 0 where
   pub old : List Item
+  pub steps : ℕ
+  pub body_steps : ℕ
   pub old_read : sheet_of source ≡ Ok old
-  pub counted : count ≡ length old
-  pub leads : Leads answers source taken old new
-  pub done : IsDone answers source new
+  pub opened : p.media.items ≡ opened_of old source
+  pub plan : IsPlan answers source steps old p.sheet.items
+  pub body_plans : AreBodyPlans answers source (opened_of old source) body_steps p.bodies.items
+  pub counted : p.read_items ≡ items_opened old source
+  pub taken_is : p.taken ≡ steps + body_steps
 
--- The numbers that are told of a merged text: of the items that were read, of those that it has, and of the
--- steps that led to it.
-pub record IsTold (answers : List Answered) (source : List ℕ) (m : MergedText) : Type 0 where
-  pub old : List Item
-  pub new : List Item
-  pub again : List Item
-  pub old_read : sheet_of source ≡ Ok old
-  pub again_read : sheet_of m.text.items ≡ Ok again
-  pub leads : Leads answers source m.taken old new
-  pub printed_is : m.text.items ≡ printed source new
-  pub read_items : m.read_items ≡ length old
-  pub written_items : m.written_items ≡ length again
+-- The numbers that are told of a merged text are those of it and of its source.
+abbrev pub IsTold : List Answered → List ℕ → MergedText → Type 0
+IsTold answers source m = IsToldOpened answers source m.text.items m.read_items m.written_items m.taken

@@ -1,120 +1,68 @@
 //! A merged text for a style sheet.
 
-ghost use Rattle.std.specs.Prelude.{◌≡◌, ◌≤◌, IfErr, IfOk, Ok, length};
-ghost use Rattle.css_model.specs.Sheets.Limits.{max_items};
-ghost use Rattle.css_model.specs.Sheets.Printed.{printed};
+ghost use Rattle.std.specs.Prelude.{◌≡◌, IfErr, IfOk};
 ghost use Rattle.css_model.specs.Sheets.Sheet.{sheet_of};
-ghost use Rattle.merge_laws.specs.Merged.{IsMerged};
-ghost use Rattle.merge_text.specs.MergedTexts.{IsMergedFrom, IsTold};
-ghost use Rattle.plan_laws.specs.Plannable.{IsPlannable};
+ghost use Rattle.media_groups.specs.Printed.{printed_with};
+ghost use Rattle.merge_text.specs.MergedTexts.{IsPlannedFrom, IsTold};
+ghost use Rattle.opened_merge_laws.specs.Merged.{IsMergedOpened};
 ghost use Rattle.sheet_read.specs.Reading.{Refuses};
 ghost use Rattle.step_laws.specs.Free.{AreAmong};
 
-use css_model::Sheet;
-use css_print::print_sheet;
-use lead_merge::merge;
-use limit_laws::planned_comes_from;
-use merge_laws::{leading_makes_of, planned_is_merged, read_is_plannable, read_keeps_the_limits};
-use merge_plan::Merged;
+use crate::counting::{count, count_sheets};
+use crate::planned::{Planned, blocks_of, plan, print_planned};
+use media_groups::opened_blocks_are_sheets;
+use merge_laws::{leading_makes_of, read_keeps_the_limits};
 use obstacles::Obstacles;
-use print_laws::printed_reads_back;
+use opened_merge_laws::{planned_is_merged_opened, planned_is_told_opened};
 use sheet_laws::read_is_sound;
 use sheet_read::{SheetError, read_sheet};
-use std::alloc::{AllocError, Global};
+use std::alloc::Global;
 
 /// The text of a merged sheet, and what is told of it.
 #[derive(Debug, Drop)]
 pub struct MergedText {
     /// The text.
     pub text: Vec<u8>,
-    /// How many items were read.
+    /// How many items were read, with those inside opened blocks.
     pub read_items: u32,
-    /// How many items the text has.
+    /// How many items the text has, with those inside opened blocks.
     pub written_items: u32,
-    /// How many steps were taken.
+    /// How many steps were taken, with those inside opened blocks.
     pub taken: u32,
 }
 
-/// How many items a sheet has.
-fn count(sheet: &Sheet) -> u32
-    requires { length sheet.now.items ≤ max_items }
-    ensures { result ≡ length sheet.now.items }
-{
-    let items = sheet.items.as_slice();
-    items.len() as u32
-}
-
-/// A sheet that the source is read as, merged, with the number of items that were read and how many steps
-/// were taken.
-fn merge_sheet<O: Obstacles>(
-    alloc: Global,
-    obstacles: &mut O,
-    source: &[u8],
-    sheet: Sheet,
-) -> Result<(u32, u32, Sheet), AllocError>
-    requires read { sheet_of source.now ≡ Ok sheet.items }
-    requires plannable { IsPlannable source.now sheet.items }
-    ensures asked { AreAmong (O.answers obstacles.old) (O.answers obstacles.new) }
-    ensures same_budget { O.budget obstacles.new ≡ O.budget obstacles.old }
-    ensures merged { IfOk result (λ m. IsMergedFrom (O.answers obstacles.new) source.now m.0 m.1 m.2.items) }
-{
-    let read_items = count(&sheet);
-    let Merged { sheet, taken } = merge(alloc, obstacles, source, sheet)?;
-    Ok((read_items, taken, sheet))
-}
-
-#[tactic(auto, using(crate::proofs::Told::merged_short))]
-/// The text of a merged sheet.
-fn print_merged<O: Obstacles>(
-    alloc: Global,
-    obstacles: &O,
-    source: &[u8],
-    read_items: u32,
-    taken: u32,
-    sheet: &Sheet,
-) -> Result<Vec<u8>, AllocError>
-    requires { IsMergedFrom (O.answers obstacles.now) source.now read_items taken sheet.now.items }
-    ensures { IfOk result (λ text. text.items ≡ printed source.now sheet.now.items) }
-{
-    read_keeps_the_limits();
-    read_is_sound();
-    leading_makes_of();
-    print_sheet(alloc, sheet, source)
-}
-
-/// What is told of the text of a merged sheet.
+/// What is told of the text of a planned sheet.
 fn told<O: Obstacles>(
     obstacles: &O,
     source: &[u8],
-    read_items: u32,
-    taken: u32,
-    sheet: &Sheet,
+    planned: &Planned,
     text: Vec<u8>,
 ) -> MergedText
-    requires from { IsMergedFrom (O.answers obstacles.now) source.now read_items taken sheet.now.items }
-    requires printed { text.items ≡ printed source.now sheet.now.items }
-    ensures merged { IsMerged (O.answers obstacles.now) source.now result.text.items }
+    requires from { IsPlannedFrom (O.answers obstacles.now) source.now planned.now }
+    requires printed { text.items ≡ printed_with source.now planned.now.media.items planned.now.bodies.items planned.now.sheet.items }
+    ensures merged { IsMergedOpened (O.answers obstacles.now) source.now result.text.items }
     ensures told { IsTold (O.answers obstacles.now) source.now result }
 {
     read_keeps_the_limits();
     read_is_sound();
     leading_makes_of();
-    planned_is_merged();
-    planned_comes_from();
-    printed_reads_back();
+    opened_blocks_are_sheets();
+    planned_is_merged_opened();
+    planned_is_told_opened();
     obstacles.answers_are_true();
-    let written_items = count(sheet);
+    let written_items = count(&planned.sheet) + count_sheets(planned.bodies.as_slice());
     MergedText {
         text,
-        read_items,
+        read_items: planned.read_items,
         written_items,
-        taken,
+        taken: planned.taken,
     }
 }
 
 /// The merged text of a style sheet: no more bytes than the source has, with the same winners of the cascade
-/// in every document (CSS Cascading 3, section 6), and nothing is left to do in it by the answers that
-/// `obstacles` holds afterwards. All earlier answers stay, and the budget.
+/// in every document and every scene of its kept items (CSS Cascading 3, section 6), and nothing is left to do in it,
+/// nor in the body of an opened block, by the answers that `obstacles` holds afterwards. All earlier answers stay,
+/// and the budget.
 ///
 /// `source` is any list of bytes. `Fault` comes exactly where the sheet has one, with its place in bytes
 /// from 0. `NoMemory` comes where memory is short.
@@ -125,13 +73,13 @@ pub fn merge_text<O: Obstacles>(
 ) -> Result<MergedText, SheetError>
     ensures asked { AreAmong (O.answers obstacles.old) (O.answers obstacles.new) }
     ensures same_budget { O.budget obstacles.new ≡ O.budget obstacles.old }
-    ensures merged { IfOk result (λ m. IsMerged (O.answers obstacles.new) source.now m.text.items) }
+    ensures merged { IfOk result (λ m. IsMergedOpened (O.answers obstacles.new) source.now m.text.items) }
     ensures told { IfOk result (λ m. IsTold (O.answers obstacles.new) source.now m) }
     ensures err { IfErr result (λ e. Refuses e (sheet_of source.now)) }
 {
-    read_is_plannable();
     let sheet = read_sheet(alloc, source)?;
-    let (read_items, taken, sheet) = merge_sheet(alloc, obstacles, source, sheet)?;
-    let text = print_merged(alloc, obstacles, source, read_items, taken, &sheet)?;
-    Ok(told(obstacles, source, read_items, taken, &sheet, text))
+    let media = blocks_of(alloc, &sheet, source)?;
+    let planned = plan(alloc, obstacles, source, sheet, media)?;
+    let text = print_planned(alloc, obstacles, source, &planned)?;
+    Ok(told(obstacles, source, &planned, text))
 }

@@ -1,10 +1,10 @@
 -- What `min` does: a style sheet on the input, its merged text on the output, and a report where one is asked for.
 use Rattle.std.specs.Prelude.{◌≡◌, ℕ, Bool, true, false, List, [], map, Option, Some}
 use Rattle.css_model.specs.Sheets.Limits.{max_bytes}
-use Rattle.merge_laws.specs.Merged.{IsMerged}
 use Rattle.merge_report.specs.Reports.{IsReport}
 use Rattle.merge_text.specs.declared.merged.MergedText.{MergedText}
 use Rattle.merge_text.specs.MergedTexts.{IsTold}
+use Rattle.opened_merge_laws.specs.Merged.{IsMergedOpened}
 use Rattle.overlap.specs.PairsParts.{Answered, PairsParts}
 use Rattle.overlap.specs.Remembered.{IsTrueList}
 use Rattle.sheet_order.specs.Laws.{answer_seen}
@@ -21,20 +21,21 @@ IsToldOf false answers read text report = report ≡ []
 IsToldOf true answers read text report = IsReport answers read text report
 
 -- What the run asked for is held, with the budget of the words, and it is true. By these answers the text is that of
--- the merged sheet: the same winners in every legal document, no more bytes, and nothing is left to do in it; and the
--- report is told by them.
+-- the merged sheet, in which the body of each opened `@media` block is merged too: the same winners in every legal
+-- document and every scene, no more bytes, and nothing is left to do in it nor in these bodies; and the report is told
+-- by them.
 pub record Merges (budget : Option ℕ) (asked : Bool) (read text report : List ℕ) (held : Option PairsParts) : Type 0 where
   pub pairs : PairsParts
   pub held_is : held ≡ Some pairs
   pub same_budget : pairs.budget ≡ (unasked budget).budget
   pub all_true : ∥ IsTrueList pairs ∥₁
-  pub merged : IsMerged (map answer_seen pairs.answers) read text
+  pub merged : IsMergedOpened (map answer_seen pairs.answers) read text
   pub told : IsToldOf asked pairs.answers read text report
 
 -- what merging gave, on the way there
 pub record IsMergedBy (budget : Option ℕ) (read : List ℕ) (pairs : PairsParts) (m : MergedText) : Type 0 where
   pub same_budget : pairs.budget ≡ (unasked budget).budget
-  pub merged : IsMerged (map answer_seen pairs.answers) read m.text.items
+  pub merged : IsMergedOpened (map answer_seen pairs.answers) read m.text.items
   pub told : IsTold (map answer_seen pairs.answers) read m
 
 -- a sheet is refused for its fault

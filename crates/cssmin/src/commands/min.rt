@@ -4,8 +4,8 @@ ghost use Rattle.std.specs.Prelude.{◌≡◌, ℕ, List, Some, map, IfOk, IfErr
 ghost use Rattle.css_model.specs.Sheets.Limits.{max_bytes};
 ghost use Rattle.css_model.specs.Sheets.Sheet.{sheet_of};
 ghost use Rattle.cssmin.specs.Commands.Min.{IsMergedBy, IsToldOf, Merges, MinRefuses};
-ghost use Rattle.merge_laws.specs.Merged.{IsMerged};
 ghost use Rattle.merge_text.specs.MergedTexts.{IsTold};
+ghost use Rattle.opened_merge_laws.specs.Merged.{IsMergedOpened};
 ghost use Rattle.sheet_order.specs.Allowing.{Stays};
 ghost use Rattle.sheet_order.specs.Laws.{answer_seen};
 ghost use Rattle.sheet_read.specs.Reading.{Refuses};
@@ -36,7 +36,7 @@ pub(crate) fn merged(
 }
 
 /// What is told of a merged text: nothing, or its report where one is asked for.
-#[tactic(auto, using(crate::proofs::Merging::stays_itself))]
+#[tactic(auto, using(crate::proofs::Staying::stays_itself))]
 fn told_of(
     alloc: Global,
     asked: bool,
@@ -44,7 +44,7 @@ fn told_of(
     bytes: &[u8],
     merged: &MergedText,
 ) -> Result<Vec<u8>, AllocError>
-    requires merged { IsMerged (map answer_seen pairs.old.answers) bytes.now merged.now.text.items }
+    requires merged { IsMergedOpened (map answer_seen pairs.old.answers) bytes.now merged.now.text.items }
     requires told { IsTold (map answer_seen pairs.old.answers) bytes.now merged.now }
     ensures stays { Stays pairs.old pairs.new }
     ensures told { IfOk result (λ report. IsToldOf asked pairs.new.answers bytes.now merged.now.text.items report.items) }

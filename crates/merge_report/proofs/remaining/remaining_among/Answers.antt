@@ -9,5 +9,5 @@ remaining_of-requires-clause-steps c = λ k has. (c.in_ok-list.ensures.exact k).
 
 pub returns-clause-are : goal.returns-clause-are
 returns-clause-are c =
-    all_remaining c.remaining_of.result (λ found. found.items) c.remaining_of.new.pairs.answers c.args.source.now c.args.sheet.now.items c.as_slice.result.now c.in_ok-list.list.items c.as_slice.ensures.value c.in_ok-list.ensures.exact c.in_ok-list.ensures.ascends
+    all_remaining c.remaining_of.result (λ found. found.items) c.remaining_of.new.pairs.answers c.args.source.now c.args.sheet.now.items c.args.block c.as_slice.result.now c.in_ok-list.list.items c.as_slice.ensures.value c.in_ok-list.ensures.exact c.in_ok-list.ensures.ascends
     c.remaining_of.ensures.are

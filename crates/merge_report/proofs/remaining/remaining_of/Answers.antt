@@ -19,6 +19,6 @@ loop-step-preserved c =
     let here : c.loop-step.step-index < length c.args.list.now = omega arith in
     record {
       stays = stays_on c.args.pairs.now c.loop-step.pairs c.cause_of.new.pairs c.loop-step.invariant.stays c.in_ok-cause.ensures.stays;
-      are = step_more c.loop-step.pairs c.cause_of.new.pairs c.in_ok-cause.ensures.stays c.args.source.now c.args.sheet.now.items c.args.list.now c.loop-step.step-index (CutDecl 0 0) here c.in_ok-cause.cause c.in_ok-cause.ensures.told
+      are = step_more c.loop-step.pairs c.cause_of.new.pairs c.in_ok-cause.ensures.stays c.args.source.now c.args.sheet.now.items c.args.block c.args.list.now c.loop-step.step-index (CutDecl 0 0) here c.in_ok-cause.cause c.in_ok-cause.ensures.told
           c.loop-step.found.items c.push_told.new.found.items c.loop-step.invariant.are c.in_ok-push_told.ensures;
     }

@@ -7,5 +7,5 @@ use Rattle.sheet_order.specs.Allowing.{Stays}
 abbrev pub invariant-loop-step : goal.invariant-loop-step
 invariant-loop-step l = record {
   stays : Stays l.fn.pairs l.pairs;
-  are : AreRemainingOf l.pairs.answers l.source l.sheet.items (take l.step-index l.list) l.found.items;
+  are : AreRemainingOf l.pairs.answers l.source l.sheet.items l.block (take l.step-index l.list) l.found.items;
 }

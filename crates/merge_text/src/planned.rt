@@ -1,0 +1,131 @@
+//! A sheet that was planned with the bodies of its opened blocks.
+
+ghost use Rattle.std.specs.Prelude.{◌≡◌, IfOk, Ok};
+ghost use Rattle.std.specs.List.{list_any};
+ghost use Rattle.css_model.specs.Sheets.Sheet.{sheet_of};
+ghost use Rattle.media_groups.specs.Opened.{opened_of};
+ghost use Rattle.media_groups.specs.Printed.{printed_with};
+ghost use Rattle.merge_text.specs.Counts.{is_block};
+ghost use Rattle.merge_text.specs.MergedTexts.{IsPlannedFrom};
+ghost use Rattle.step_laws.specs.Free.{AreAmong};
+
+use crate::bodies::merge_bodies;
+use crate::counting::{count, count_bodies};
+use css_model::{Item, Sheet};
+use css_print::print_sheet;
+use media_groups::{Media, open_media, opened_blocks_are_sheets, print_opened};
+use lead_merge::merge;
+use merge_laws::{leading_makes_of, read_is_plannable, read_keeps_the_limits};
+use obstacles::Obstacles;
+use opened_merge_laws::{opened_bodies_stand_apart, planned_bodies_are_sound};
+use print_laws::printed_is_no_longer;
+use sheet_laws::read_is_sound;
+use std::alloc::{AllocError, Global};
+
+/// What plans made of a sheet and of the bodies of its opened blocks.
+#[derive(Drop)]
+pub(crate) struct Planned {
+    /// What the sheet became.
+    pub sheet: Sheet,
+    /// The blocks that are opened.
+    pub media: Vec<Media>,
+    /// What the body of each became.
+    pub bodies: Vec<Sheet>,
+    /// How many items were read, with those of the bodies.
+    pub read_items: u32,
+    /// How many steps were taken, with those in the bodies.
+    pub taken: u32,
+}
+
+/// Whether an item is a kept block.
+fn is_block(item: &Item) -> bool
+    ensures { result ≡ is_block item.now }
+{
+    match item {
+        Item::KeptBlock(_) => true,
+        _ => false,
+    }
+}
+
+/// Whether a block is kept among items.
+fn has_block(items: &[Item]) -> bool
+    ensures { result ≡ list_any is_block items.now }
+{
+    items.iter().any(|item| is_block(item))
+}
+
+/// The opened blocks of a sheet. Where no block is kept the source is not read again.
+pub(crate) fn blocks_of(
+    alloc: Global,
+    sheet: &Sheet,
+    source: &[u8],
+) -> Result<Vec<Media>, AllocError>
+    requires { sheet_of source.now ≡ Ok sheet.now.items }
+    ensures { IfOk result (λ media. media.items ≡ opened_of sheet.now.items source.now) }
+{
+    if has_block(sheet.items.as_slice()) {
+        open_media(alloc, sheet, source)
+    } else {
+        Ok(Vec::new(alloc))
+    }
+}
+
+/// Plans a sheet that was read, and then the body of each of its opened blocks.
+pub(crate) fn plan<O: Obstacles>(
+    alloc: Global,
+    obstacles: &mut O,
+    source: &[u8],
+    sheet: Sheet,
+    media: Vec<Media>,
+) -> Result<Planned, AllocError>
+    requires read { sheet_of source.now ≡ Ok sheet.items }
+    requires media { media.items ≡ opened_of sheet.items source.now }
+    ensures asked { AreAmong (O.answers obstacles.old) (O.answers obstacles.new) }
+    ensures same_budget { O.budget obstacles.new ≡ O.budget obstacles.old }
+    ensures planned { IfOk result (λ p. IsPlannedFrom (O.answers obstacles.new) source.now p) }
+{
+    read_is_plannable();
+    read_keeps_the_limits();
+    opened_blocks_are_sheets();
+    opened_bodies_stand_apart();
+    printed_is_no_longer();
+    let blocks = media.as_slice();
+    let read_items = count(&sheet) + count_bodies(blocks);
+    let outside = merge(alloc, obstacles, source, sheet)?;
+    let inside = merge_bodies(alloc, obstacles, source, blocks)?;
+    Ok(Planned {
+        sheet: outside.sheet,
+        media,
+        bodies: inside.sheets,
+        read_items,
+        taken: outside.taken + inside.taken,
+    })
+}
+
+/// The text of a planned sheet.
+pub(crate) fn print_planned<O: Obstacles>(
+    alloc: Global,
+    obstacles: &O,
+    source: &[u8],
+    planned: &Planned,
+) -> Result<Vec<u8>, AllocError>
+    requires { IsPlannedFrom (O.answers obstacles.now) source.now planned.now }
+    ensures { IfOk result (λ text. text.items ≡ printed_with source.now planned.now.media.items planned.now.bodies.items planned.now.sheet.items) }
+{
+    read_keeps_the_limits();
+    read_is_sound();
+    leading_makes_of();
+    planned_bodies_are_sound();
+    let media = planned.media.as_slice();
+    if media.is_empty() {
+        print_sheet(alloc, &planned.sheet, source)
+    } else {
+        print_opened(
+            alloc,
+            &planned.sheet,
+            source,
+            media,
+            planned.bodies.as_slice(),
+        )
+    }
+}
