@@ -17,8 +17,8 @@ use Rattle.css_tokens.proofs.ForCallers.{lexed_whole}
 use Rattle.list_facts.proofs.Zips.{AllLast}
 use Rattle.print_laws.proofs.ForCallers.{Source, closers_after, closers_of, gap_behind, length-none, open_behind, text-between}
 use Rattle.token_laws.proofs.ForCallers.{text_append}
-use Rattle.opened_laws.proofs.Pieces.Places.{IsMovedInner, IsMovedLast, StayInside, find_at, row_of}
-use Rattle.opened_laws.proofs.Pieces.Rows.{close_text, row_before}
+use Rattle.block_laws.proofs.Moved.{IsMovedInner, IsMovedLast, StayInside, find_at, row_of}
+use Rattle.block_laws.proofs.Alone.{close_text, lexed_behind, row_before}
 
 -- What stands between two places of a text, inside brackets that these signs close, is read by itself as these tokens of the text, moved.
 pub record IsInside (text : List ℕ) (place stop : ℕ) (cs : List ℕ) (ys : List Lexeme) : Type 0 where
@@ -49,10 +49,6 @@ utf8_front (p ∷ ps) qs (one, rest) = (one, utf8_front ps qs rest)
 utf8_behind : (ps qs : List Part) → AreUtf8 (ps ++ qs) → AreUtf8 qs
 utf8_behind [] qs each = each
 utf8_behind (p ∷ ps) qs (one, rest) = utf8_behind ps qs rest
-
-lexed_behind : (ps qs : List Part) → IsLexed (ps ++ qs) → IsLexed qs
-lexed_behind [] qs lexed = lexed
-lexed_behind (p ∷ ps) qs (here, lexed) = lexed_behind ps qs lexed
 
 none_inside : (is cs : List ℕ) → cs ≡ is ++ cs → is ≡ []
 none_inside is cs e = length-none is (let n : length cs ≡ length (is ++ cs) = ap length e in omega (arith, n, length-append is cs))

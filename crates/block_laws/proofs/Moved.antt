@@ -1,7 +1,7 @@
--- Where tokens of parts stand, and the tokens of a row of parts by itself.
-use Rattle.std.proofs.Common.{◌≡◌, ℕ, ◌+◌, Bool, true, false, cond, List, [], ◌∷◌, ◌++◌, length, Option, Some, None, refl, sym, ◌∙◌, ap, subst, arith}
+-- Where the tokens of parts stand, and the tokens of a row of parts by itself: the same ones, moved.
+use Rattle.std.proofs.Common.{◌≡◌, ℕ, ◌+◌, ◌==◌, ◌&&◌, Bool, true, false, cond, List, [], ◌∷◌, ◌++◌, length, Option, Some, None, refl, sym, ◌∙◌, ap, subst, arith}
 use Rattle.std.specs.List.{AllByRecursion}
-use Rattle.std.proofs.lemmas.Bool.{cond-true, cond-false}
+use Rattle.std.proofs.lemmas.Bool.{cond-false, cond-true, eq-eqb, true≢false}
 use Rattle.std.proofs.lemmas.List.{length-append}
 use Rattle.css_model.specs.declared.token.Bracket.{Bracket}
 use Rattle.css_model.specs.declared.token.Gap.{Gap}
@@ -9,6 +9,8 @@ use Rattle.css_model.specs.declared.token.Gap.TheVariants as gap
 use Rattle.css_model.specs.declared.token.Lexeme.{Lexeme}
 use Rattle.css_model.specs.declared.token.Token.{Token}
 use Rattle.css_model.specs.declared.token.TokenKind.{TokenKind}
+use Rattle.css_model.specs.Sheets.Items.{closes_block}
+use Rattle.css_model.specs.Text.Characters.{close_curly}
 use Rattle.css_model.specs.Text.Lexemes.{after, closer_of, is_sign_of, is_white_kind, lexeme, lexemes_in}
 use Rattle.css_model.specs.Text.Tokens.{Part, is_comment, text_of, token_then, tokens_at}
 use Rattle.list_facts.proofs.Zips.{AllLast, cons_head, cons_not_empty, cons_tail}
@@ -148,6 +150,15 @@ IsMovedLast place deep y x = IsMoved place deep y x × (x.gap ≡ end_gap y.gap)
 -- none of these tokens closes a bracket that these signs close
 abbrev pub StayInside : List ℕ → List Lexeme → Type 0
 StayInside cs ys = AllByRecursion (λ y. y.level ≡ length cs → closes_first y.kind cs ≡ false) ys
+
+-- Tokens of which none closes a block stay inside its brackets.
+pub stay_inside : (ys : List Lexeme) → AllByRecursion (λ y. closes_block y ≡ false) ys → StayInside (close_curly ∷ []) ys
+stay_inside [] stays = tt
+stay_inside (y ∷ ys) stays = (λ level. no_close (is_sign_of close_curly y.kind) (y.level == 1) (eq-eqb y.level 1 level) stays.0, stay_inside ys stays.1)
+  where
+    no_close : (a b : Bool) → b ≡ true → a && b ≡ false → a ≡ false
+    no_close true b e f = absurd (true≢false (sym e ∙ f))
+    no_close false b e f = refl
 
 closers_inside : (k : TokenKind) (is cs : List ℕ) → (length (is ++ cs) ≡ length cs → closes_first k cs ≡ false) → closers_after k (is ++ cs) ≡ closers_after k is ++ cs
 closers_inside k [] [] stays = push (closer_of k)
