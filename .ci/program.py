@@ -292,6 +292,14 @@ def try_reports(tries):
     sheet = b".a{top:0}.b{top:1px}.a{top:2px}"
     report = b"items 3 3\nbytes 31 31\nsteps 0\nblocked JoinSelUp 1 3 meet 2\nblocked JoinSelDown 1 3 meet 2\n"
     tries.check_read("a report", ["min", "--report"], sheet, 0, sheet, report, len(sheet))
+    block = b"@media print{.a{top:0}.b{top:1px}.a{top:2px}}"
+    report = b"items 4 4\nbytes 45 45\nsteps 0\nblocked JoinSelUp 1.1 1.3 meet 1.2\nblocked JoinSelDown 1.1 1.3 meet 1.2\n"
+    tries.check_read("a report of an opened block", ["min", "--report"], block, 0, block, report, len(block))
+    with open(".ci/page.css", "rb") as file:
+        ran = tries.run(["min", "--report"], file)
+    report = b"items 27 23\nbytes 851 625\nsteps 5\nblocked JoinSelUp 13 20 kept 19\nblocked JoinSelDown 13 20 meet 14\n"
+    tries.is_same("a page", "the size of standard output", len(ran.stdout), 625)
+    tries.is_same("a page", "standard error", ran.stderr, report)
     with open("/dev/full", "wb") as full:
         tries.check("a report for a full standard error", ["min", "--report"], sheet, 5, sheet, b"", stderr=full)
     for rules, size in [("0", 0), ("1", 16), ("3", 61)]:
