@@ -161,8 +161,8 @@ const MERGED: [(&str, &str); 13] = [
     ),
     // The body of a block is merged by itself, and no rule moves across the block.
     (
-        "a{top:0}@MEDIA print { a { top: 0 } a { left: 0 } } a{top:0}",
-        "a{top:0}@MEDIA print{a{top:0;left:0}}a{top:0}",
+        "a{top:0}@MEDIA print { a { top: 0 } a { left: 0 } } a{top:1px}",
+        "a{top:0}@MEDIA print{a{top:0;left:0}}a{top:1px}",
     ),
     ("@media print{/**/}", "@media print{}"),
 ];
