@@ -1,4 +1,4 @@
--- A sheet in which nothing is found keeps the first one.
+-- Where nothing is found in two sheets, they have the same pairs in the same order.
 use Rattle.std.proofs.Common.{◌≡◌, ◌↔◌, ◌⊎◌, ℕ, zero, suc, ◌+◌, Bool, true, false, not, List, [], ◌∷◌, ◌++◌, map, Option, Some, None, refl, sym, ap, ◌∙◌, subst, inl, inr, arith}
 use Rattle.std.specs.Bool.{beq}
 use Rattle.std.specs.Prelude.{◌&&◌, if◌then◌else◌, slice_get}
@@ -10,11 +10,12 @@ use Rattle.css_model.specs.declared.sheet.Decl.{Decl}
 use Rattle.css_model.specs.declared.sheet.DeclItem.{DeclItem}
 use Rattle.css_model.specs.declared.sheet.Item.{Item}
 use Rattle.css_model.specs.declared.sheet.Item.TheVariants.{Rule, KeptRule, KeptBlock}
-use Rattle.css_model.specs.Cascade.Order.{Meet, Pair, HasPair, Weigh, WeighsKept, IsBefore, IsBeforeKept, Keeps}
+use Rattle.css_model.specs.Cascade.Order.{Meet, Pair, HasPair, Weigh, WeighsKept, IsBefore, IsBeforeKept}
 use Rattle.css_model.specs.Documents.SelectorParts.{SelectorParts}
 use Rattle.css_model.specs.Sheets.KeptItems.{is_kept, kept_before, kept_items}
 use Rattle.css_model.specs.Sheets.StyleRule.{selectors_of}
 use Rattle.list_facts.proofs.Members.{Contains-here, Contains-there, Contains-nil, Contains-cons_cases}
+use Rattle.media_groups.specs.declared.media.Media.{Media}
 use Rattle.order_laws.proofs.ForCallers.{map_has}
 use Rattle.order_laws.specs.Comparing.{OrderIsDecided, WeighingIsDecided, weigh, weighs_kept, comes_before, comes_before_kept}
 use Rattle.order_laws.specs.Places.{PlacedPair, StandsLast, last_pairs, has_pair, ListedStandsLast}
@@ -27,17 +28,15 @@ use Rattle.overlap.specs.Remembered.{IsTrueList, IsAnswered}
 use Rattle.sheet_order.proofs.ForCallers.{stands_somewhere, has_pair_from, KeptPlace, place_of_kept}
 use Rattle.sheet_order.specs.declared.places.PairPlace.{PairPlace}
 use Rattle.sheet_same.specs.declared.compared.Compared.{Compared}
-use Rattle.sheet_same.specs.declared.compared.Compared.TheVariants.{Missing, Extra, KeptItem}
-use Rattle.sheet_same.specs.declared.turned.Couple.{Couple}
-use Rattle.sheet_same.specs.Compared.{first_of, found_in_parts, FoundBehind, IsFound}
+use Rattle.sheet_same.specs.declared.compared.Compared.TheVariants.{KeptItem}
+use Rattle.sheet_same.specs.Compared.{found_in_parts, FoundBehind, IsFound}
 use Rattle.sheet_same.specs.Judging.{found_by, JudgesPair, JudgesMembers, Judges, AreApart}
 use Rattle.sheet_same.specs.Kept.{first_differing}
-use Rattle.sheet_same.specs.Lacking.{lacking, first_found, first_lacking}
-use Rattle.sheet_same.specs.Laws.{SamePartsKeep}
+use Rattle.sheet_same.specs.Lacking.{lacking, first_lacking}
 use Rattle.sheet_same.specs.Members.{Member, Paired, KeptAt, is_behind, put_in, in_order, kept_member, members}
-use Rattle.sheet_same.specs.Turned.{is_turned, couple, turned_from, turned}
-use Rattle.sheet_same.proofs.KeptItems.{contents_are}
-use Rattle.sheet_same.proofs.TurnedCouples.{couple_apart, turned_has}
+use Rattle.sheet_same.specs.Turned.{Couple, is_turned, couple, turned_from, turned}
+use Rattle.sheet_same.proofs.ForCallers.{at_has, both_none, not_lacking, AllNone, all_none}
+use Rattle.same_laws.proofs.Couples.{couple_apart, turned_has}
 
 -- ---- Members
 
@@ -103,11 +102,6 @@ listed_is_member items x h =
 
 -- ---- Pairs
 
-at_has : {X : Type 0} (xs : List X) (i : ℕ) (x : X) → slice_get xs i ≡ Some x → Contains xs x
-at_has [] i x at = absurd (let e : None ≡ Some x = at in cc)
-at_has (y ∷ xs) zero x at = subst (λ z. Contains (y ∷ xs) z) (some-same at) (Contains-here y xs)
-at_has (y ∷ xs) (suc i) x at = Contains-there y xs x (at_has xs i x at)
-
 stands_has : (items : List Item) (x : PlacedPair) → StandsLast (λ n. true) items x → HasPair items x.pair
 stands_has items x s = (
   record { item = x.place.item; position = x.place.decl },
@@ -137,20 +131,6 @@ listed_has listed items p h =
     let w : (x : PlacedPair) × Contains (last_pairs items) x × (x.pair ≡ p) = has_pair_from (last_pairs items) p h in
     subst (λ (q : Pair). HasPair items q) w.2 (stands_has items w.0 ((listed (λ n. true) items w.0).0 w.1))
 
-both_none : (a b : Option PairPlace) → first_found a b ≡ None → (a ≡ None) × (b ≡ None)
-both_none None b h = (refl, h)
-both_none (Some place) b h = absurd (let e : Some place ≡ None = h in cc)
-
-not_lacking : (pairs : List PlacedPair) (x : PlacedPair) → lacking pairs (Paired x) ≡ None → has_pair pairs x.pair ≡ true
-not_lacking pairs x h = which (has_pair pairs x.pair) h
-  where
-    place : PairPlace
-    place = record { item = x.place.item; sel = x.place.selector; decl = x.place.decl }
-
-    which : (b : Bool) → (if b then None else Some place) ≡ None → b ≡ true
-    which true e = refl
-    which false e = absurd (let f : Some place ≡ None = e in cc)
-
 none_lacking : (pairs : List PlacedPair) (ms : List Member) (x : PlacedPair) → first_lacking pairs ms ≡ None → Contains ms (Paired x) → has_pair pairs x.pair ≡ true
 none_lacking pairs [] x none h = absurd (Contains-nil (Paired x) h)
 none_lacking pairs (m ∷ ms) x none h = which (both_none (lacking pairs m) (first_lacking pairs ms) none) (Contains-cons_cases m ms (Paired x) h) (λ f g. none_lacking pairs ms x f g)
@@ -163,19 +143,6 @@ pairs_there : ListedStandsLast → (s t : List Item) (p : Pair) → first_lackin
 pairs_there listed s t p none h =
     let m : PairMember s p = pair_member listed s p h in
     listed_has listed t p (subst (λ (q : Pair). has_pair (last_pairs t) q ≡ true) m.is (none_lacking (last_pairs t) (members s) m.x none (listed_is_member s m.x m.listed)))
-
--- ---- The first tests
-
-pub record AllNone (a b : Option PairPlace) (c : Option ℕ) : Type 0 where
-  pub first : a ≡ None
-  pub second : b ≡ None
-  pub third : c ≡ None
-
-all_none : (a b : Option PairPlace) (c : Option ℕ) → first_of a b c ≡ None → AllNone a b c
-all_none None None None h = record { first = refl; second = refl; third = refl }
-all_none None None (Some n) h = absurd (let e : Some (KeptItem n) ≡ None = h in cc)
-all_none None (Some place) c h = absurd (let e : Some (Extra place) ≡ None = h in cc)
-all_none (Some place) b c h = absurd (let e : Some (Missing place) ≡ None = h in cc)
 
 -- ---- Order
 
@@ -280,18 +247,32 @@ module _ (listed : ListedStandsLast) (order : OrderIsDecided) (weighing : Weighi
     λ b. (order.1 s p number).0 (same_kept_order p number item at w (back p (b.place, b.stands.stands)) ∙ (order.1 t p number).1 b),
   )
 
-pub same_parts_keep : ListedStandsLast → OrderIsDecided → WeighingIsDecided → ApartSelectorsDoNotMeet → SamePartsKeep
-same_parts_keep listed order weighing law pairs source other s t true_list found = which (found_in_parts source s other t) refl found
+-- Two sheets have the same pairs, and those that have to stay in order do.
+pub record IsOrderKept (s t : List Item) : Type 0 where
+  pub pairs : (p : Pair) → HasPair s p ↔ HasPair t p
+  pub order : (p q : Pair) → Weigh p q → Meet p.selector q.selector → IsBefore s p q ↔ IsBefore t p q
+  pub kept_order : (p : Pair) (number : ℕ) (item : Item) → slice_get (kept_items s) number ≡ Some item → WeighsKept p item → IsBeforeKept s p number ↔ IsBeforeKept t p number
+
+-- what is known where nothing is found
+pub record IsNothing (source : List ℕ) (media : List Media) (s : List Item) (other : List ℕ) (media' : List Media) (t : List Item) : Type 0 where
+  pub parts : IsOrderKept s t
+  pub kept : first_differing source media s other media' t ≡ None
+
+pub nothing_found : ListedStandsLast → OrderIsDecided → WeighingIsDecided → ApartSelectorsDoNotMeet → (pairs : PairsParts) → ∥ IsTrueList pairs ∥₁ →
+    (source : List ℕ) (media : List Media) (s : List Item) (other : List ℕ) (media' : List Media) (t : List Item) → IsFound pairs.answers source media s other media' t None → IsNothing source media s other media' t
+nothing_found listed order weighing law pairs true_list source media s other media' t found = which (found_in_parts source media s other media' t) refl found
   where
-    which : (o : Option Compared) → found_in_parts source s other t ≡ o → FoundBehind pairs.answers s t o None → Keeps source s other t
+    which : (o : Option Compared) → found_in_parts source media s other media' t ≡ o → FoundBehind pairs.answers s t o None → IsNothing source media s other media' t
     which (Some c) e h = absurd (let f : None ≡ Some c = h in cc)
     which None e h =
-        let none : AllNone (first_lacking (last_pairs t) (members s)) (first_lacking (last_pairs s) (members t)) (first_differing source s other t) =
-        all_none (first_lacking (last_pairs t) (members s)) (first_lacking (last_pairs s) (members t)) (first_differing source s other t) e in
+        let none : AllNone (first_lacking (last_pairs t) (members s)) (first_lacking (last_pairs s) (members t)) (first_differing source media s other media' t) =
+        all_none (first_lacking (last_pairs t) (members s)) (first_lacking (last_pairs s) (members t)) (first_differing source media s other media' t) e in
         let back : (p : Pair) → HasPair t p → HasPair s p = λ p. pairs_there listed t s p none.second in
         record {
-          pairs = λ p. (pairs_there listed s t p none.first, back p);
-          kept = contents_are 0 source (kept_items s) other (kept_items t) none.third;
-          order = order_stays listed order weighing law pairs true_list s t h back;
-          kept_order = kept_order_stays listed order weighing law pairs true_list s t h back;
+          parts = record {
+            pairs = λ p. (pairs_there listed s t p none.first, back p);
+            order = order_stays listed order weighing law pairs true_list s t h back;
+            kept_order = kept_order_stays listed order weighing law pairs true_list s t h back;
+          };
+          kept = none.third;
         }
