@@ -2,13 +2,14 @@ pub mod ForCallers
 mod Alone
 mod AtRules
 mod Back
+mod Between
 mod Block
 mod Body
-mod Found
 mod Inside
 mod Item
 mod Levels
 mod Marks
+mod Moved
 mod Opened
 mod Places
 mod Sheet

@@ -1,5 +1,5 @@
 -- What comes in the place of a lead that leads no more.
-use Rattle.std.proofs.Common.{◌≡◌, ◌⊎◌, ℕ, ◌<◌, true, false, List, [], ◌∷◌, Option, Some, None, sym, ap, ◌∙◌, subst, inl, inr}
+use Rattle.std.proofs.Common.{◌≡◌, ◌⊎◌, ℕ, ◌+◌, ◌<◌, ◌≤◌, arith, true, false, List, [], ◌∷◌, Option, Some, None, refl, sym, ap, ◌∙◌, subst, inl, inr}
 use Rattle.std.specs.Prelude.{IfSome, slice_get, slice_index}
 use Rattle.std.specs.List.{Contains}
 use Rattle.std.specs.Option.{option_map}
@@ -14,7 +14,7 @@ use Rattle.lead_laws.specs.MarkNames.{holding_of}
 use Rattle.lead_merge.specs.Following.{Follows}
 use Rattle.lead_plan.specs.declared.lead.Lead.{Lead}
 use Rattle.lead_plan.specs.Told.{lead_told}
-use Rattle.list_facts.proofs.Members.{Contains-cons_cases}
+use Rattle.list_facts.proofs.Members.{Contains-cons_cases, Contains-nil}
 use Rattle.list_facts.proofs.Options.{mapped}
 use Rattle.order_laws.specs.Edits.{Edit}
 use Rattle.plan_board.specs.declared.marks.Mark.{Mark}
@@ -25,7 +25,8 @@ use Rattle.plan_state.specs.State.{IsBoard}
 use Rattle.step_laws.specs.declared.step.Step.{Step}
 use Rattle.step_laws.specs.Sizes.{Saves}
 use Rattle.step_laws.specs.Steps.{IsStep}
-use Rattle.step_turns.specs.Looking.{Reaches}
+use Rattle.plan_state.specs.Waking.{alone}
+use Rattle.step_turns.specs.Looking.{FoundParts, Reaches}
 use Rattle.step_turns.specs.Named.{IsLaterTurn}
 
 -- ---- The label of an owner
@@ -38,38 +39,76 @@ label_of_owner p source birth at board home n born =
     let under : slice_get p.homes birth ≡ Some w.0.label = subst (λ (b : ℕ). slice_get p.homes b ≡ Some w.0.label) w.2 (board.homes n w.0 w.1) in
     slice_get-map (λ (m : Mark). m.label) p.board.marks n ∙ ap (option_map (λ (m : Mark). m.label)) w.1 ∙ ap (λ (l : ℕ). Some l) (sym (home w.0.label under))
 
+-- ---- Leads that are put in one after the other
+
+module _ {X : Type 0} where
+  -- of all members each is done or still to come, and so it is once the next one is done, too
+  pub one_more : (Done Done' : X → Type 0) (all rest behind : List X) (first : X) → rest ≡ first ∷ behind → ((x : X) → Done x → Done' x) → Done' first →
+      ((x : X) → Contains all x → Done x ⊎ Contains rest x) → (x : X) → Contains all x → Done' x ⊎ Contains behind x
+  one_more Done Done' all rest behind first is stay done old x among = which (old x among)
+    where
+      behind_it : (first ≡ x) ⊎ Contains behind x → Done' x ⊎ Contains behind x
+      behind_it (inl e) = inl (subst Done' e done)
+      behind_it (inr h) = inr h
+
+      which : Done x ⊎ Contains rest x → Done' x ⊎ Contains behind x
+      which (inl d) = inl (stay x d)
+      which (inr h) = behind_it (Contains-cons_cases first behind x (subst (λ (xs : List X). Contains xs x) is h))
+
+  -- and where none is to come, all are done
+  pub all_done : (Done : X → Type 0) (all rest : List X) → rest ≡ [] → ((x : X) → Contains all x → Done x ⊎ Contains rest x) → (x : X) → Contains all x → Done x
+  all_done Done all rest none old x among = which (old x among)
+    where
+      which : Done x ⊎ Contains rest x → Done x
+      which (inl d) = d
+      which (inr h) = absurd (Contains-nil x (subst (λ (xs : List X). Contains xs x) none h))
+
 -- ---- What follows
 
--- a lead of one step alone is followed by nothing
-pub alone_follows : (source : List ℕ) (p : PlanParts) (lead : Lead) → lead.alone ≡ true → Follows source p lead None
-alone_follows source p lead alone = record { later = tt; covers = λ all k owned. absurd (false≢true (sym all ∙ alone)) }
+-- the first of the others leads others, and comes later
+pub others_lead : (source : List ℕ) (p : PlanParts) (lead : Lead) (found : FoundParts) → Follows source p lead found → IfSome found.others (λ n. n.alone ≡ false)
+others_lead source p lead found f = at found.others (λ l is. (f.later l (inr is)).all)
+  where
+    at : (o : Option Lead) → ((l : Lead) → o ≡ Some l → l.alone ≡ false) → IfSome o (λ n. n.alone ≡ false)
+    at None h = tt
+    at (Some l) h = h l refl
 
--- what follows comes later
-pub follows_later : (source : List ℕ) (p : PlanParts) (lead : Lead) (next : Option Lead) → Follows source p lead next → IfSome next (λ n. IsSooner (lead_told lead).turn (lead_told n).turn)
-follows_later source p lead None f = tt
-follows_later source p lead (Some n) f = f.later.later
+pub others_later : (source : List ℕ) (p : PlanParts) (lead : Lead) (found : FoundParts) → Follows source p lead found → IfSome found.others (λ n. IsSooner (lead_told lead).turn (lead_told n).turn)
+others_later source p lead found f = at found.others (λ l is. (f.later l (inr is)).later)
+  where
+    at : (o : Option Lead) → ((l : Lead) → o ≡ Some l → IsSooner (lead_told lead).turn (lead_told l).turn) → IfSome o (λ n. IsSooner (lead_told lead).turn (lead_told n).turn)
+    at None h = tt
+    at (Some l) h = h l refl
+
+others_stay : (lead : held.Lead) (leads leads' : List held.Lead) → ((l : held.Lead) → Contains leads l → Contains leads' l) → (other : held.Lead) → Contains (lead ∷ leads) other → (lead ≡ other) ⊎ Contains leads' other
+others_stay lead leads leads' stay other among = which (Contains-cons_cases lead leads other among)
+  where
+    which : (lead ≡ other) ⊎ Contains leads other → (lead ≡ other) ⊎ Contains leads' other
+    which (inl e) = inl e
+    which (inr g) = inr (stay other g)
+
+-- a lead of one step alone is followed by nothing
+pub alone_followed : (source : List ℕ) (p : PlanParts) (lead : Lead) (leads : List held.Lead) → lead.alone ≡ true → IsFollowed source p.board (lead_told lead ∷ leads) leads (lead_told lead)
+alone_followed source p lead leads single = record {
+  others = others_stay (lead_told lead) leads leads (λ l h. h);
+  later = λ all k e n is saves some owned sooner. absurd (false≢true (sym all ∙ single));
+}
 
 -- where what follows leads, the lead is followed
-pub is_followed : (source : List ℕ) (p : PlanParts) (lead : Lead) (next : Option Lead) (leads leads' : List held.Lead) → Follows source p lead next →
-    ((l : held.Lead) → Contains leads l → Contains leads' l) → IfSome next (λ n. Contains leads' (lead_told n)) → IsFollowed source p.board (lead_told lead ∷ leads) leads' (lead_told lead)
-is_followed source p lead next leads leads' f stay there = record { others = others; later = later }
+pub is_followed : (source : List ℕ) (p : PlanParts) (lead : Lead) (found : FoundParts) (leads leads' : List held.Lead) → Follows source p lead found →
+    ((l : held.Lead) → Contains leads l → Contains leads' l) → ((l : Lead) → Contains found.leads l → Contains leads' (alone l)) → IfSome found.others (λ n. Contains leads' (lead_told n)) →
+    IsFollowed source p.board (lead_told lead ∷ leads) leads' (lead_told lead)
+is_followed source p lead found leads leads' f stay single there = record {
+  others = others_stay (lead_told lead) leads leads' stay;
+  later = λ all k e n is saves some owned sooner. led k n owned (f.covers k (sym owned) e n is saves some sooner);
+}
   where
-    others : (other : held.Lead) → Contains (lead_told lead ∷ leads) other → (lead_told lead ≡ other) ⊎ Contains leads' other
-    others other among = which (Contains-cons_cases (lead_told lead) leads other among)
-      where
-        which : (lead_told lead ≡ other) ⊎ Contains leads other → (lead_told lead ≡ other) ⊎ Contains leads' other
-        which (inl e) = inl e
-        which (inr g) = inr (stay other g)
+    led : (k : Step) (n : ℕ) → lead.owner ≡ slice_index (births_of p.board.marks) (owner (births_of p.board.marks) k) → Reaches found (named (labels_of p.board.marks) n k) → IsLed (holding_of p.board leads' []) n k
+    led k n owned (inl (l, among, turn)) = (alone l, single l among, inl turn)
+    led k n owned (inr (l, is, not)) =
+        let turn : IsLaterTurn source p.board lead l = f.later l (inr is) in
+        (lead_told l, subst (λ (o : Option Lead). IfSome o (λ m. Contains leads' (lead_told m))) is there, inr (turn.all, turn.owner_is ∙ owned, not))
 
-    led : (k : Step) (n : ℕ) (l : Lead) → next ≡ Some l → slice_index (births_of p.board.marks) (owner (births_of p.board.marks) k) ≡ lead.owner →
-        (IsSooner (named (labels_of p.board.marks) n k) (lead_told l).turn → ⊥) → IsLed (holding_of p.board leads' []) n k
-    led k n l is owned not =
-        let turn : IsLaterTurn source p.board lead l = subst (λ (o : Option Lead). IfSome o (IsLaterTurn source p.board lead)) is f.later in
-        let leads_it : Contains leads' (lead_told l) = subst (λ (o : Option Lead). IfSome o (λ m. Contains leads' (lead_told m))) is there in
-        (lead_told l, leads_it, inr (turn.all, turn.owner_is ∙ sym owned, not))
-
-    later : lead.alone ≡ false → (k : Step) (e : Edit) (n : ℕ) → IsStep p.board.items k e → Saves source p.board.items e n → 0 < n →
-        lead.owner ≡ slice_index (births_of p.board.marks) (owner (births_of p.board.marks) k) → IsSooner (lead_told lead).turn (named (labels_of p.board.marks) n k) → IsLed (holding_of p.board leads' []) n k
-    later all k e n is saves some owned sooner =
-        let reached : Reaches next (named (labels_of p.board.marks) n k) = f.covers all k (sym owned) e n is saves some sooner in
-        led k n reached.0 reached.1 (sym owned) reached.2
+-- what leads behind a lead weighs less than with it
+pub lighter : (new between old few most weight : ℕ) → new + most < between + weight → between ≤ old + few → few ≤ most → new < old + weight
+lighter new between old few most weight less more fits = omega (arith, less, more, fits)

@@ -2,9 +2,9 @@
 use Rattle.std.specs.Prelude.{Result, Ok, Err, IfOk, OnOk}
 
 module _ {A E : Type 0} where
-  pub ok_both : (r : Result A E) (P Q R : A → Type 0) → ((a : A) → P a → Q a → R a) → IfOk r P → IfOk r Q → IfOk r R
-  ok_both (Ok a) P Q R f p q = f a p q
-  ok_both (Err e) P Q R f p q = tt
+  pub ok_three : (r : Result A E) (P Q R S : A → Type 0) → ((a : A) → P a → Q a → R a → S a) → IfOk r P → IfOk r Q → IfOk r R → IfOk r S
+  ok_three (Ok a) P Q R S f p q h = f a p q h
+  ok_three (Err e) P Q R S f p q h = tt
 
   pub on_ok : (r : Result A E) (P Q : Type 0) → (P → Q) → OnOk r P → OnOk r Q
   on_ok (Ok a) P Q f p = f p

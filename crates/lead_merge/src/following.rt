@@ -1,20 +1,22 @@
-//! The next turn of an owner, in the place of a lead that leads no more.
+//! The next turns of an owner, in the place of a lead that leads no more.
 
-ghost use Rattle.std.specs.Prelude.{◌≡◌, ◌∷◌, ◌+◌, ◌<◌, ℕ, IfOk, IfSome, OnOk, Some, slice_get};
+ghost use Rattle.std.specs.Prelude.{◌≡◌, ◌∷◌, ◌+◌, ◌<◌, ◌≤◌, ℕ, IfOk, IfSome, OnOk, Some, false, length, slice_get};
 ghost use Rattle.std.specs.List.{Contains};
 ghost use Rattle.hold_laws.specs.Leads as held;
 ghost use Rattle.lead_laws.specs.Known.{IsFollowed};
 ghost use Rattle.lead_merge.specs.Following.{Follows};
 ghost use Rattle.lead_plan.specs.Told.{lead_told};
-ghost use Rattle.lead_plan.specs.Weights.{total, weight};
+ghost use Rattle.lead_plan.specs.declared.lead.Lead as declared;
+ghost use Rattle.lead_plan.specs.Weights.{room, total, weight};
 ghost use Rattle.plan_laws.specs.Cover.{IsSooner};
 ghost use Rattle.plan_state.specs.State.{IsBoard};
+ghost use Rattle.plan_state.specs.Waking.{alone};
 
 use lead_plan::{Lead, Waiting, later_weighs_less};
 use merge_plan::KnownLengths;
 use plan_state::Plan;
 use std::alloc::{AllocError, Global};
-use step_turns::next_lead;
+use step_turns::{Found, next_leads};
 
 /// The label under a birth; where there is none, any.
 fn home_of(homes: &[u64], birth: u32) -> u64
@@ -26,31 +28,56 @@ fn home_of(homes: &[u64], birth: u32) -> u64
     }
 }
 
-/// The next turn of a lead's owner, if there is one. A lead of one step alone has none.
+/// The next turns of the owner of a lead that leads others.
 fn next_of(
     alloc: Global,
     source: &KnownLengths<'_>,
     plan: &Plan,
     lead: &Lead,
-) -> Result<Option<Lead>, AllocError>
+) -> Result<Found, AllocError>
     requires { IsBoard source.now plan.now }
     ensures { IfOk result (Follows source.now plan.now lead.now) }
 {
-    if lead.alone {
-        return Ok(None);
-    }
     let at = home_of(&plan.homes, lead.owner);
-    next_lead(alloc, &plan.board, &plan.tables, source, at, lead)
+    next_leads(alloc, &plan.board, &plan.tables, source, at, lead)
 }
 
-/// Lets what follows a lead lead, if there is something.
-fn add_next(waiting: &mut Waiting, lead: &Lead, next: Option<Lead>) -> Result<(), AllocError>
-    requires later { IfSome next (λ n. IsSooner (lead_told lead.now).turn (lead_told n).turn) }
-    ensures stay { OnOk result ((l : held.Lead) → Contains waiting.old l → Contains waiting.new l) }
-    ensures added { OnOk result (IfSome next (λ n. Contains waiting.new (lead_told n))) }
-    ensures less { OnOk result (total waiting.new < total waiting.old + weight (lead_told lead.now)) }
+/// Lets a turn lead its step alone.
+fn lead_alone(waiting: &mut Waiting, lead: &Lead) -> Result<(), AllocError>
+    ensures stay { (l : held.Lead) → Contains waiting.old l → Contains waiting.new l }
+    ensures added { OnOk result (Contains waiting.new (alone lead.now)) }
+    ensures weighs { OnOk result (total waiting.new ≤ total waiting.old + 1) }
 {
-    match next {
+    waiting.add(Lead {
+        alone: true,
+        ..*lead
+    })
+}
+
+/// Lets turns lead, each its step alone.
+fn lead_all_alone(waiting: &mut Waiting, leads: &[Lead]) -> Result<(), AllocError>
+    ensures stay { (l : held.Lead) → Contains waiting.old l → Contains waiting.new l }
+    ensures added { OnOk result ((l : declared.Lead) → Contains leads.now l → Contains waiting.new (alone l)) }
+    ensures weighs { OnOk result (total waiting.new ≤ total waiting.old + length leads.now) }
+{
+    let mut rest = leads;
+    'rest: while let Some((first, behind)) = rest.split_first() {
+        lead_alone(waiting, first)?;
+        rest = behind;
+    }
+    Ok(())
+}
+
+/// Lets the first of the other turns that follow a lead lead them, if there are some.
+fn add_others(waiting: &mut Waiting, lead: &Lead, others: Option<Lead>) -> Result<(), AllocError>
+    requires all { lead.now.alone ≡ false }
+    requires others_all { IfSome others (λ n. n.alone ≡ false) }
+    requires later { IfSome others (λ n. IsSooner (lead_told lead.now).turn (lead_told n).turn) }
+    ensures stay { (l : held.Lead) → Contains waiting.old l → Contains waiting.new l }
+    ensures added { OnOk result (IfSome others (λ n. Contains waiting.new (lead_told n))) }
+    ensures less { OnOk result (total waiting.new + room < total waiting.old + weight (lead_told lead.now)) }
+{
+    match others {
         Some(next) => {
             later_weighs_less(lead, &next);
             waiting.add(next)
@@ -62,7 +89,8 @@ fn add_next(waiting: &mut Waiting, lead: &Lead, next: Option<Lead>) -> Result<()
     }
 }
 
-/// Lets the next turn of its owner lead in the place of a lead that leads no more. All else of the plan stays.
+/// Lets the next turns of its owner lead in the place of a lead that leads no more: some alone, and the first of the others.
+/// A lead of one step alone is followed by nothing. All else of the plan stays.
 pub(crate) fn follow(
     alloc: Global,
     source: &KnownLengths<'_>,
@@ -74,6 +102,11 @@ pub(crate) fn follow(
     ensures followed { OnOk result (IsFollowed source.now plan.old.board (lead_told lead.now ∷ plan.old.leads) plan.new.leads (lead_told lead.now)) }
     ensures less { OnOk result (total plan.new.leads < total plan.old.leads + weight (lead_told lead.now)) }
 {
-    let next = next_of(alloc, source, plan, lead)?;
-    add_next(&mut plan.waiting, lead, next)
+    if lead.alone {
+        later_weighs_less(lead, lead);
+        return Ok(());
+    }
+    let found = next_of(alloc, source, plan, lead)?;
+    lead_all_alone(&mut plan.waiting, &found.leads)?;
+    add_others(&mut plan.waiting, lead, found.others)
 }

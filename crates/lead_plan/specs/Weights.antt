@@ -1,5 +1,5 @@
 -- How much a lead weighs: the more, the more turns may come behind its own (own).
-use Rattle.std.specs.Prelude.{ℕ, ◌+◌, ◌-◌, ◌*◌, ◌^◌, List, [], ◌∷◌}
+use Rattle.std.specs.Prelude.{ℕ, ◌+◌, ◌-◌, ◌*◌, ◌^◌, if◌then◌else◌, List, [], ◌∷◌}
 use Rattle.hold_laws.specs.Leads as held
 use Rattle.step_laws.specs.Steps.{rank}
 
@@ -8,8 +8,12 @@ abbrev pub weight_of : ℕ → List ℕ → ℕ
 weight_of saving (kind ∷ first ∷ second ∷ []) = ((saving * 7 + (6 - kind)) * 2 ^ 64 + (2 ^ 64 - (first + 1))) * 2 ^ 64 + (2 ^ 64 - second)
 weight_of saving numbers = 0
 
+-- how many turns may lead alone in the place of one that is passed, beside the next one that leads others
+abbrev pub room : ℕ
+room = 32
+
 abbrev pub weight : held.Lead → ℕ
-weight l = weight_of l.turn.saving (rank l.turn.step)
+weight l = if l.alone then 1 else weight_of l.turn.saving (rank l.turn.step) * (room + 1)
 
 -- all of some leads together
 abbrev pub total : List held.Lead → ℕ

@@ -1,8 +1,8 @@
 //! Turns that lead.
 
-ghost use Rattle.std.specs.Prelude.{◌<◌, ◌^◌};
+ghost use Rattle.std.specs.Prelude.{◌≡◌, ◌+◌, ◌<◌, ◌^◌, false};
 ghost use Rattle.lead_plan.specs.Told.{lead_told};
-ghost use Rattle.lead_plan.specs.Weights.{weight};
+ghost use Rattle.lead_plan.specs.Weights.{room, weight};
 ghost use Rattle.plan_laws.specs.Cover.{IsSooner};
 
 use std::cmp::Reverse;
@@ -26,6 +26,9 @@ pub enum Kind {
     Sharing,
 }
 
+/// How many turns lead alone, at most, in the place of one that is passed.
+pub const ROOM: usize = 32;
+
 /// A turn that leads, and whose steps it leads. Leads are ordered as their turns come.
 #[derive(Clone, Copy, Debug, PartialEq, Eq, PartialOrd, Ord, Drop)]
 pub struct Lead {
@@ -48,11 +51,13 @@ fn number_fits(number: u64)
     ensures { number < 2 ^ 64 }
 {}
 
-/// A lead whose turn comes later weighs less, and each weighs something. It does nothing but read the
-/// numbers of the leads, which have 64 bits.
-#[tactic(auto, using(crate::proofs::Weighing::weighs_less, crate::proofs::Weighing::weighs_some))]
+/// A lead of others weighs more than one whose turn comes later and as many single ones as there is room for, and each
+/// lead weighs something. It does nothing but read the numbers of the leads, which have 64 bits.
+#[tactic(auto, using(crate::proofs::Weighing::weighs_less, crate::proofs::Weighing::weighs_more, crate::proofs::Weighing::weighs_some))]
 pub fn later_weighs_less(one: &Lead, other: &Lead)
-    ensures less { IsSooner (lead_told one.now).turn (lead_told other.now).turn → weight (lead_told other.now) < weight (lead_told one.now) }
+    ensures less { one.now.alone ≡ false → other.now.alone ≡ false → IsSooner (lead_told one.now).turn (lead_told other.now).turn
+        → weight (lead_told other.now) + room < weight (lead_told one.now) }
+    ensures more { one.now.alone ≡ false → room < weight (lead_told one.now) }
     ensures some { 0 < weight (lead_told one.now) }
 {
     number_fits(one.first);

@@ -15,26 +15,17 @@ use Rattle.selector_laws.specs.Limits.{KeepsLimits, ReadSelectorsKeepTheLimits}
 use Rattle.sheet_order.specs.Narrow.{CanBePlanned}
 use Rattle.sheet_order.proofs.ForCallers.{all_members, pair_in_profile, planned_limited, last_limited, narrow_place}
 use Rattle.step_laws.specs.Left.{PartsAreFew}
-use Rattle.sheet_same.specs.declared.turned.Couple.{Couple}
-use Rattle.sheet_same.specs.Judging.{IsAskable, IsAskablePair, IsAskableCouple}
+use Rattle.sheet_same.specs.Judging.{IsAskable, IsAskablePair}
 use Rattle.sheet_same.specs.Members.{Member, Paired, KeptAt, is_behind, put_in, in_order, kept_member, members}
-use Rattle.sheet_same.specs.Turned.{is_turned, couple, turned_from}
+use Rattle.sheet_same.specs.Standing.{standing_of}
 
 -- ---- What holds of all
 
-all_append : {X : Type 0} (P : X → Type 0) (xs ys : List X) → AllByRecursion P xs → AllByRecursion P ys → AllByRecursion P (xs ++ ys)
+pub all_append : {X : Type 0} (P : X → Type 0) (xs ys : List X) → AllByRecursion P xs → AllByRecursion P ys → AllByRecursion P (xs ++ ys)
 all_append P [] ys h g = g
 all_append P (x ∷ xs) ys h g = (h.0, all_append P xs ys h.1 g)
 
-all_filter : {X : Type 0} (P : X → Type 0) (f : X → Bool) (xs : List X) → AllByRecursion P xs → AllByRecursion P (filter f xs)
-all_filter P f [] h = tt
-all_filter {X = X} P f (x ∷ xs) h = which (f x) (all_filter P f xs h.1)
-  where
-    which : (b : Bool) → AllByRecursion P (filter f xs) → AllByRecursion P (if b then x ∷ filter f xs else filter f xs)
-    which true g = (h.0, g)
-    which false g = g
-
-all_map : {X Y : Type 0} (P : Y → Type 0) (f : X → Y) (xs : List X) → AllByRecursion (λ x. P (f x)) xs → AllByRecursion P (map f xs)
+pub all_map : {X Y : Type 0} (P : Y → Type 0) (f : X → Y) (xs : List X) → AllByRecursion (λ x. P (f x)) xs → AllByRecursion P (map f xs)
 all_map P f [] h = tt
 all_map P f (x ∷ xs) h = (h.0, all_map P f xs h.1)
 
@@ -46,7 +37,7 @@ put_all P m (x ∷ xs) h g = which (is_behind m x) (put_all P m xs h g.1)
     which true ih = (g.0, ih)
     which false ih = (h, g)
 
-order_all : (P : Member → Type 0) (xs : List Member) → AllByRecursion P xs → AllByRecursion P (in_order xs)
+pub order_all : (P : Member → Type 0) (xs : List Member) → AllByRecursion P xs → AllByRecursion P (in_order xs)
 order_all P [] h = tt
 order_all P (x ∷ xs) h = put_all P x (in_order xs) h.0 (order_all P xs h.1)
 
@@ -97,15 +88,9 @@ members_askable plannable profile limits listed few source items read =
     (pairs_askable plannable profile limits listed few source items read)
     (kept_askable 0 items (let few : length items < 2 ^ 32 = few_items plannable source items read in omega (arith, few))))
 
--- ---- Couples
+-- ---- Members with their places
 
-later_askable : (m : Member) (ms : List Member) → IsAskable m → AllByRecursion IsAskable ms → AllByRecursion IsAskableCouple (map (couple m) ms)
-later_askable m [] h all = tt
-later_askable m (x ∷ ms) h all = (record { earlier = h; later = all.0 }, later_askable m ms h all.1)
-
-pub couples_askable : (s t : List Item) (ms : List Member) → AllByRecursion IsAskable ms → AllByRecursion IsAskableCouple (turned_from s t ms)
-couples_askable s t [] all = tt
-couples_askable s t (m ∷ ms) all =
-    all_append IsAskableCouple (map (couple m) (filter (is_turned s t m) ms)) (turned_from s t ms)
-    (later_askable m (filter (is_turned s t m) ms) all.0 (all_filter IsAskable (is_turned s t m) ms all.1))
-    (couples_askable s t ms all.1)
+pub standings_askable : (s t : List Item) (ms : List Member) → AllByRecursion IsAskable ms → AllByRecursion (λ x. IsAskable x.member) (map (standing_of s t) ms)
+standings_askable s t [] all = tt
+standings_askable s t (Paired x ∷ ms) all = (all.0, standings_askable s t ms all.1)
+standings_askable s t (KeptAt n item ∷ ms) all = (all.0, standings_askable s t ms all.1)

@@ -1,9 +1,11 @@
 mod Askable
+mod Bodies
 mod FirstLacking
-mod FoundSomething
-mod Keeping
-mod KeptItems
+pub mod ForCallers
+mod Judged
 mod KeptNumbers
 mod Lists
+mod NoneLacking
 mod PuttingIn
-mod TurnedCouples
+mod Standings
+mod Weighing

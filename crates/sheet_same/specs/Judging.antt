@@ -15,8 +15,8 @@ use Rattle.sheet_order.specs.Narrow.{IsNarrowPlace}
 use Rattle.sheet_order.specs.Places.{place_of}
 use Rattle.sheet_same.specs.declared.compared.Compared.{Compared}
 use Rattle.sheet_same.specs.declared.compared.Compared.TheVariants.{Reversed, KeptItem, Unsure}
-use Rattle.sheet_same.specs.declared.turned.Couple.{Couple}
 use Rattle.sheet_same.specs.Members.{Member, Paired, KeptAt}
+use Rattle.sheet_same.specs.Turned.{Couple}
 
 -- ---- What may be asked
 
@@ -29,10 +29,6 @@ pub record IsAskablePair (x : PlacedPair) : Type 0 where
 abbrev pub IsAskable : Member → Type 0
 IsAskable (Paired x) = IsAskablePair x
 IsAskable (KeptAt n item) = n < 2 ^ 32
-
-pub record IsAskableCouple (c : Couple) : Type 0 where
-  pub earlier : IsAskable c.earlier
-  pub later : IsAskable c.later
 
 -- ---- What is found
 

@@ -1,5 +1,5 @@
 -- The first place at which the kept items of two sheets differ.
-use Rattle.std.specs.Prelude.{◌≡◌, ◌<◌, ℕ, suc, nat_eq, ◌==◌, Bool, false, ◌&&◌, if◌then◌else◌, List, [], ◌∷◌, Option, Some, None, length}
+use Rattle.std.specs.Prelude.{◌≡◌, ◌<◌, ℕ, suc, nat_eq, ◌==◌, Bool, false, ◌&&◌, if◌then◌else◌, List, [], ◌∷◌, Option, Some, None, drop, length}
 use Rattle.std.specs.Borrow.{Bor}
 use Rattle.std.specs.Cmp.Lexicographic.{pointwise}
 use Rattle.css_model.specs.declared.sheet.Item.{Item}
@@ -8,6 +8,8 @@ use Rattle.css_model.specs.declared.sheet.Piece.{Piece}
 use Rattle.css_model.specs.Sheets.KeptItems.{kept_items}
 use Rattle.css_model.specs.Sheets.KeptRuleParts.{KeptRuleParts}
 use Rattle.css_model.specs.Sheets.Spelling.{kept_text}
+use Rattle.media_groups.specs.declared.media.Media.{Media}
+use Rattle.media_groups.specs.Printed.{begins_at, blocks_at}
 use Rattle.order_laws.specs.Members.{same_decl}
 
 -- whether the kept texts of two pieces, each with its source, are the same (own)
@@ -32,16 +34,49 @@ same_kept source (KeptBlock piece) other (Rule r) = false
 same_kept source (KeptBlock piece) other (KeptRule k') = false
 same_kept source (KeptBlock piece) other (KeptBlock piece') = same_text source piece other piece'
 
--- The number, counted from this one, of the first place at which two lists of kept items differ (own).
-abbrev pub differing_from : ℕ → List ℕ → List Item → List ℕ → List Item → Option ℕ
-differing_from n source [] other [] = None
-differing_from n source [] other (y ∷ ys) = Some n
-differing_from n source (x ∷ xs) other [] = Some n
-differing_from n source (x ∷ xs) other (y ∷ ys) = if same_kept source x other y then differing_from (suc n) source xs other ys else Some n
+-- ---- Opened blocks
 
--- of all kept items of two sheets
-abbrev pub first_differing : List ℕ → List Item → List ℕ → List Item → Option ℕ
-first_differing source items other items' = differing_from 0 source (kept_items items) other (kept_items items')
+-- the first of these opened blocks, where an item is it
+abbrev pub block_of : List Media → Item → Option Media
+block_of [] item = None
+block_of (m ∷ media) item = if begins_at m.head.start item then Some m else None
+
+-- the opened blocks behind an item
+abbrev pub blocks_behind : List Media → Item → List Media
+blocks_behind media item = drop (blocks_at media item) media
+
+-- whether two kept items say the same, where these opened blocks are there (own): of two opened blocks the heads do
+abbrev pub same_item : List ℕ → Option Media → Item → List ℕ → Option Media → Item → Bool
+same_item source (Some m) item other (Some m') item' = same_text source m.head other m'.head
+same_item source (Some m) item other None item' = same_kept source item other item'
+same_item source None item other o' item' = same_kept source item other item'
+
+-- the earlier number, or this one where one of two items alone is an opened block
+abbrev pub unlike : Option ℕ → ℕ → Option Media → Option Media → Option ℕ
+unlike (Some earlier) n o o' = Some earlier
+unlike None n (Some m) (Some m') = None
+unlike None n (Some m) None = Some n
+unlike None n None (Some m') = Some n
+unlike None n None None = None
+
+-- ---- The first place
+
+-- The number, counted from this one, of the first place at which two lists of kept items differ, among which these blocks are
+-- opened (own); and where none does, this number of a place at which one of them alone is an opened block.
+abbrev pub differing_from : Option ℕ → ℕ → List ℕ → List Media → List Item → List ℕ → List Media → List Item → Option ℕ
+differing_from one n source media [] other media' [] = one
+differing_from one n source media [] other media' (y ∷ ys) = Some n
+differing_from one n source media (x ∷ xs) other media' [] = Some n
+differing_from one n source media (x ∷ xs) other media' (y ∷ ys) =
+    if same_item source (block_of media x) x other (block_of media' y) y
+    then differing_from (unlike one n (block_of media x) (block_of media' y)) (suc n) source (blocks_behind media x) xs other (blocks_behind media' y) ys
+    else Some n
+
+-- Of all kept items of two sheets, among which these blocks are opened (own): the number of the first place at which they differ.
+-- Where none does, it is that of the first one at which one item alone is an opened block; what says the same is opened in
+-- both sheets or in none, but no proof here says so.
+abbrev pub first_differing : List ℕ → List Media → List Item → List ℕ → List Media → List Item → Option ℕ
+first_differing source media items other media' items' = differing_from None 0 source media (kept_items items) other media' (kept_items items')
 
 -- the first kept one of some items with the items behind it, where there is one
 abbrev pub NextKept : List Item → Option (Bor Item × Bor (List Item)) → Type 0

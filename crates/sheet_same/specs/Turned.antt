@@ -3,7 +3,6 @@ use Rattle.std.specs.Prelude.{ℕ, Bool, false, ◌||◌, List, [], ◌∷◌, �
 use Rattle.std.specs.List.{filter}
 use Rattle.css_model.specs.declared.sheet.Item.{Item}
 use Rattle.order_laws.specs.Reversed.{is_reversed, is_reversed_kept}
-use Rattle.sheet_same.specs.declared.turned.Couple.{Couple}
 use Rattle.sheet_same.specs.Members.{Member, Paired, KeptAt, members}
 
 -- whether two members weigh, and one comes last before the other in one of two sheets alone (own)
@@ -12,6 +11,11 @@ is_turned s t (Paired x) (Paired y) = is_reversed s t x.pair y.pair || is_revers
 is_turned s t (Paired x) (KeptAt n item) = is_reversed_kept s t x.pair (n, item)
 is_turned s t (KeptAt n item) (Paired y) = is_reversed_kept s t y.pair (n, item)
 is_turned s t (KeptAt n item) (KeptAt m other) = false
+
+-- two members, of which one is earlier in the first sheet
+pub record Couple : Type 0 where
+  pub earlier : Member
+  pub later : Member
 
 abbrev pub couple : Member → Member → Couple
 couple m x = record { earlier = m; later = x }

@@ -6,7 +6,7 @@ use sheet_order::PairPlace;
 /// What is found in two sheets.
 #[derive(Debug, PartialEq, Eq, Drop)]
 pub enum Compared {
-    /// Nothing: they style every page alike.
+    /// Nothing.
     Same,
     /// The pair at this place of the first sheet is not in the second one.
     Missing(PairPlace),
@@ -26,4 +26,13 @@ pub enum Compared {
     /// Two pairs come in the other order, and it is not known whether their selectors meet: for the reason of this
     /// number, or for 0 because the budget was spent.
     Unsure(u32),
+}
+
+/// What is found in two sheets or in the bodies of their opened blocks. Where nothing is, they style every page alike.
+#[derive(Debug, PartialEq, Eq, Drop)]
+pub struct Difference {
+    /// What is found; its places are those of the sheets, or of the bodies in which it is found.
+    pub compared: Compared,
+    /// The number of the opened blocks in whose bodies it is found, counted from 0 among these, if it is in bodies.
+    pub body: Option<u32>,
 }

@@ -1,23 +1,25 @@
-//! Two sheets compared by four tests.
+//! Two sheets compared by five tests.
 
-ghost use Rattle.std.specs.Prelude.{◌≡◌, ◌<◌, ◌^◌, Ok, IfOk, length};
+ghost use Rattle.std.specs.Prelude.{◌≡◌, ◌<◌, ◌^◌, [], Ok, IfOk, length};
 ghost use Rattle.std.specs.List.{AllByRecursion};
 ghost use Rattle.css_model.specs.Sheets.Sheet.{sheet_of};
+ghost use Rattle.css_model.specs.Text.Source.{text_at};
+ghost use Rattle.media_groups.specs.Laws.{IsBlockOf};
 ghost use Rattle.sheet_order.specs.Allowing.{Stays};
 ghost use Rattle.sheet_same.specs.Compared as spec;
 ghost use Rattle.sheet_same.specs.Judging.{IsAskable};
 ghost use Rattle.sheet_same.specs.Members as order;
 
-use crate::compared::Compared;
+use crate::compared::{Compared, Difference};
 use crate::judging::judged;
 use crate::kept::first_differing;
 use crate::lacking::first_lacking;
 use crate::members::{Member, members};
-use crate::turned::turned;
+use crate::standing::standings;
 use css_model::Sheet;
-use media_groups::{Reading, reading_of};
+use media_groups::{Media, Reading, open_media, opened_blocks_are_sheets, reading_of};
 use merge_laws::read_is_plannable;
-use order_laws::listed_stands_last;
+use order_laws::{listed_stands_last, order_is_decided, weighing_is_decided};
 use overlap::Pairs;
 use print_laws::selectors_are_in_the_profile;
 use selector_laws::read_selectors_keep_the_limits;
@@ -25,20 +27,27 @@ use sheet_order::{Ordered, ordered};
 use std::alloc::{AllocError, Global};
 use step_laws::parts_are_few;
 
-/// A sheet with the tokens of its source, its last pairs and its members.
+/// A sheet with the tokens of its source, those of its blocks that count as opened, its last pairs and its members.
 #[derive(Drop)]
 struct Side<'a> {
     reading: Reading<'a>,
+    media: &'a [Media],
     sheet: Ordered<'a>,
     members: Vec<Member<'a>>,
     ghost listed: { members.items ≡ order.members sheet.items.now },
 }
 
-/// A sheet that is read from this source.
+/// A sheet that is read from this source, of which these blocks count as opened.
 #[tactic(auto, using(crate::proofs::Askable::members_askable, crate::proofs::Askable::few_items))]
-fn side_of<'a>(alloc: Global, sheet: &'a Sheet, source: &'a [u8]) -> Result<Side<'a>, AllocError>
+fn side_of<'a>(
+    alloc: Global,
+    sheet: &'a Sheet,
+    source: &'a [u8],
+    media: &'a [Media],
+) -> Result<Side<'a>, AllocError>
     requires { sheet_of source.now ≡ Ok sheet.now.items }
     ensures source { IfOk result (λ side. side.reading.source.now ≡ source.now) }
+    ensures media { IfOk result (λ side. side.media.now ≡ media.now) }
     ensures items { IfOk result (λ side. side.sheet.items.now ≡ sheet.now.items) }
     ensures few { IfOk result (λ side. length side.sheet.items.now < 2 ^ 32) }
     ensures askable { IfOk result (λ side. AllByRecursion IsAskable side.members.items) }
@@ -53,6 +62,7 @@ fn side_of<'a>(alloc: Global, sheet: &'a Sheet, source: &'a [u8]) -> Result<Side
     let members = members(alloc, &sheet)?;
     Ok(Side {
         reading,
+        media,
         sheet,
         members,
     })
@@ -68,7 +78,8 @@ fn found_in_parts(
     requires first { AllByRecursion IsAskable side.now.members.items }
     requires second { AllByRecursion IsAskable there.now.members.items }
     ensures { IfOk result (λ found. found
-        ≡ spec.found_in_parts side.now.reading.source.now side.now.sheet.items.now there.now.reading.source.now there.now.sheet.items.now) }
+        ≡ spec.found_in_parts side.now.reading.source.now side.now.media.now side.now.sheet.items.now
+        there.now.reading.source.now there.now.media.now there.now.sheet.items.now) }
 {
     if let Some(place) = first_lacking(&there.sheet.pairs, &side.members) {
         return Ok(Some(Compared::Missing(place)));
@@ -79,8 +90,10 @@ fn found_in_parts(
     match first_differing(
         alloc,
         &side.reading,
+        side.media,
         side.sheet.items,
         &there.reading,
+        there.media,
         there.sheet.items,
     )? {
         Some(number) => Ok(Some(Compared::KeptItem(number))),
@@ -89,7 +102,7 @@ fn found_in_parts(
 }
 
 /// What is found in two sheets by four tests.
-#[tactic(auto, using(sheet_order::proofs::ForCallers::stays_itself, crate::proofs::Askable::couples_askable))]
+#[tactic(auto, using(sheet_order::proofs::ForCallers::stays_itself, crate::proofs::Askable::standings_askable))]
 fn found_in_sides(
     alloc: Global,
     pairs: &mut Pairs,
@@ -100,59 +113,168 @@ fn found_in_sides(
     requires first { AllByRecursion IsAskable side.now.members.items }
     requires second { AllByRecursion IsAskable there.now.members.items }
     ensures stays { Stays pairs.old pairs.new }
-    ensures found { IfOk result (λ found. spec.IsFound pairs.new.answers side.now.reading.source.now side.now.sheet.items.now
-        there.now.reading.source.now there.now.sheet.items.now found) }
+    ensures found { IfOk result (λ found. spec.IsFound pairs.new.answers
+        side.now.reading.source.now side.now.media.now side.now.sheet.items.now
+        there.now.reading.source.now there.now.media.now there.now.sheet.items.now found) }
 {
     if let Some(found) = found_in_parts(alloc, side, there)? {
         return Ok(Some(found));
     }
-    let couples = turned(alloc, &side.sheet, &there.sheet, &side.members)?;
-    judged(pairs, side.sheet.items, &couples)
+    listed_stands_last();
+    order_is_decided();
+    weighing_is_decided();
+    let members = standings(alloc, &side.sheet, &there.sheet, &side.members)?;
+    judged(pairs, side.sheet.items, &members)
 }
 
-/// What is found in two sheets, each read from its source, by four tests.
+/// A sheet that is read from a source, and those of its blocks that count as opened.
+#[derive(Drop)]
+struct Text<'a> {
+    sheet: &'a Sheet,
+    source: &'a [u8],
+    media: &'a [Media],
+    ghost read: { sheet_of source.now ≡ Ok sheet.now.items },
+}
+
+/// What is found in two sheets by four tests.
 #[tactic(auto, using(sheet_order::proofs::ForCallers::stays_itself))]
-fn found_in_sheets(
+fn found_in_texts(
     alloc: Global,
     pairs: &mut Pairs,
-    sheet: &Sheet,
-    source: &[u8],
-    other: &Sheet,
-    there: &[u8],
+    text: &Text<'_>,
+    other: &Text<'_>,
 ) -> Result<Option<Compared>, AllocError>
-    requires first { sheet_of source.now ≡ Ok sheet.now.items }
-    requires second { sheet_of there.now ≡ Ok other.now.items }
     ensures stays { Stays pairs.old pairs.new }
-    ensures found { IfOk result (λ found. spec.IsFound pairs.new.answers source.now sheet.now.items there.now other.now.items found) }
+    ensures found { IfOk result (λ found. spec.IsFound pairs.new.answers
+        text.now.source.now text.now.media.now text.now.sheet.now.items
+        other.now.source.now other.now.media.now other.now.sheet.now.items found) }
 {
-    let here = side_of(alloc, sheet, source)?;
-    let far = side_of(alloc, other, there)?;
-    found_in_sides(alloc, pairs, &here, &far)
+    let side = side_of(alloc, text.sheet, text.source, text.media)?;
+    let there = side_of(alloc, other.sheet, other.source, other.media)?;
+    found_in_sides(alloc, pairs, &side, &there)
 }
 
-/// Compares two sheets, each read from its source, by four tests, of which the first that finds something answers:
-/// the first pair that the second sheet lacks; the first pair that the first sheet lacks; the first place at which the
-/// lists of kept items differ; and the first couple of members that weigh and whose last order differs, unless it is
-/// of two pairs whose selectors are answered to be apart. No block counts as opened. Places are those where a pair
-/// stands last; they ascend by item, declaration and selector. The answers are asked for couple by couple, the earlier
-/// selector first. All answers that were held stay, also after `AllocError`. Each two members of the first sheet are
-/// looked at.
-#[tactic(auto, using(crate::proofs::FoundSomething::found_is_told))]
-pub fn compare_plain(
+/// The body of an opened block, in which no block is opened.
+fn body_of<'a>(source: &'a [u8], block: &'a Media) -> Text<'a>
+    requires { IsBlockOf source.now block.now }
+    ensures source { result.source.now ≡ text_at source.now block.now.body }
+    ensures sheet { result.sheet.now ≡ block.now.sheet }
+    ensures media { result.media.now ≡ [] }
+{
+    Text {
+        sheet: &block.sheet,
+        source: block.body.text(source),
+        media: &[],
+    }
+}
+
+/// What is found in the bodies of two opened blocks by four tests.
+fn found_in_bodies(
+    alloc: Global,
+    pairs: &mut Pairs,
+    source: &[u8],
+    block: &Media,
+    there: &[u8],
+    twin: &Media,
+) -> Result<Option<Compared>, AllocError>
+    requires first { IsBlockOf source.now block.now }
+    requires second { IsBlockOf there.now twin.now }
+    ensures stays { Stays pairs.old pairs.new }
+    ensures found { IfOk result (λ found. spec.IsFound pairs.new.answers
+        (text_at source.now block.now.body) [] block.now.sheet.items
+        (text_at there.now twin.now.body) [] twin.now.sheet.items found) }
+{
+    let body = body_of(source, block);
+    let other = body_of(there, twin);
+    found_in_texts(alloc, pairs, &body, &other)
+}
+
+/// That nothing is found.
+fn nothing() -> Difference
+    ensures { result ≡ spec.nothing }
+{
+    Difference {
+        compared: Compared::Same,
+        body: None,
+    }
+}
+
+/// What is told of the bodies of opened blocks.
+#[tactic(auto, using(sheet_order::proofs::ForCallers::stays_itself))]
+fn compare_bodies(
+    alloc: Global,
+    pairs: &mut Pairs,
+    source: &[u8],
+    media: &[Media],
+    there: &[u8],
+    twins: &[Media],
+) -> Result<Difference, AllocError>
+    requires few { length media.now < 2 ^ 32 }
+    requires first { AllByRecursion (IsBlockOf source.now) media.now }
+    requires second { AllByRecursion (IsBlockOf there.now) twins.now }
+    ensures stays { Stays pairs.old pairs.new }
+    ensures told { IfOk result (λ d. spec.BodiesTell pairs.new.answers 0 source.now media.now there.now twins.now d) }
+{
+    let mut number = 0;
+    let mut rest = media;
+    let mut more = twins;
+    'bodies: while let Some((block, behind)) = rest.split_first() {
+        let Some((other, after)) = more.split_first() else {
+            return Ok(nothing());
+        };
+        if let Some(compared) = found_in_bodies(alloc, pairs, source, block, there, other)? {
+            return Ok(Difference {
+                compared,
+                body: Some(number),
+            });
+        }
+        number += 1;
+        rest = behind;
+        more = after;
+    }
+    Ok(nothing())
+}
+
+/// Compares two sheets, each read from its source, by five tests, of which the first that finds something answers: the
+/// first pair that the second sheet lacks; the first pair that the first sheet lacks; the first place at which the
+/// lists of kept items differ, where two opened blocks of media count by their heads; the first couple of members that
+/// weigh and whose last order differs, unless it is of two pairs whose selectors are answered to be apart; and the
+/// first opened blocks in whose bodies these four tests find something, where no block inside counts as opened. Places
+/// are those where a pair stands last; they ascend by item, declaration and selector. The answers are asked for couple
+/// by couple, the earlier selector first. All answers that were held stay, also after `AllocError`.
+#[tactic(auto, using(crate::proofs::Bodies::few_blocks))]
+pub fn compare(
     alloc: Global,
     pairs: &mut Pairs,
     sheet: &Sheet,
     source: &[u8],
     other: &Sheet,
     there: &[u8],
-) -> Result<Compared, AllocError>
+) -> Result<Difference, AllocError>
     requires first { sheet_of source.now ≡ Ok sheet.now.items }
     requires second { sheet_of there.now ≡ Ok other.now.items }
     ensures stays { Stays pairs.old pairs.new }
-    ensures compared { IfOk result (λ compared. spec.IsCompared pairs.new.answers source.now sheet.now.items there.now other.now.items compared) }
+    ensures difference { IfOk result (λ d. spec.IsDifference pairs.new.answers source.now sheet.now.items there.now other.now.items d) }
 {
-    match found_in_sheets(alloc, pairs, sheet, source, other, there)? {
-        None => Ok(Compared::Same),
-        Some(found) => Ok(found),
+    opened_blocks_are_sheets();
+    read_is_plannable();
+    let media = open_media(alloc, sheet, source)?;
+    let twins = open_media(alloc, other, there)?;
+    let text = Text {
+        sheet,
+        source,
+        media: &media,
+    };
+    let twin = Text {
+        sheet: other,
+        source: there,
+        media: &twins,
+    };
+    match found_in_texts(alloc, pairs, &text, &twin)? {
+        Some(compared) => Ok(Difference {
+            compared,
+            body: None,
+        }),
+        None => compare_bodies(alloc, pairs, source, &media, there, &twins),
     }
 }

@@ -1,6 +1,6 @@
 //! What is found in couples whose order differs, by what is answered.
 
-ghost use Rattle.std.specs.Prelude.{◌≡◌, ◌<◌, ◌^◌, IfOk};
+ghost use Rattle.std.specs.Prelude.{◌≡◌, ◌<◌, ◌^◌, [], ◌∷◌, IfOk};
 ghost use Rattle.std.specs.List.{AllByRecursion};
 ghost use Rattle.css_model.specs.Sheets.KeptItems as kept;
 ghost use Rattle.overlap.specs.Remembered.{IsHeld};
@@ -10,10 +10,11 @@ ghost use Rattle.sheet_same.specs.declared.compared.Compared.TheVariants as foun
 ghost use Rattle.sheet_same.specs.Judging as spec;
 ghost use Rattle.sheet_same.specs.Members as members;
 ghost use Rattle.sheet_same.specs.Seen.{member_seen};
+ghost use Rattle.sheet_same.specs.Standing as standing;
 
 use crate::compared::Compared;
-use crate::members::Kind;
-use crate::turned::Couple;
+use crate::members::{Kind, Member};
+use crate::standing::{Standing, are_turned};
 use css_model::Item;
 use overlap::{Answer, Pairs};
 use sheet_order::{PairPlace, Placed, kept_before, narrow_place};
@@ -103,36 +104,81 @@ fn pair_found(
     }
 }
 
-/// What is found in a couple.
+/// What is found in two members.
 #[tactic(auto, using(sheet_order::proofs::ForCallers::stays_itself))]
 fn couple_found(
     pairs: &mut Pairs,
     items: &[Item],
-    couple: &Couple<'_>,
+    earlier: &Member<'_>,
+    later: &Member<'_>,
 ) -> Result<Option<Compared>, AllocError>
-    requires { spec.IsAskableCouple couple.now }
+    requires first { spec.IsAskable earlier.now }
+    requires second { spec.IsAskable later.now }
     ensures stays { Stays pairs.old pairs.new }
-    ensures judges { IfOk result (λ found. spec.Judges pairs.new.answers items.now couple.now found) }
+    ensures judges { IfOk result (λ found. spec.JudgesMembers pairs.new.answers items.now earlier.now later.now found) }
 {
-    match &couple.earlier.kind {
-        Kind::Pair(p) => pair_found(pairs, items, p, &couple.later.kind),
+    match &earlier.kind {
+        Kind::Pair(p) => pair_found(pairs, items, p, &later.kind),
         Kind::Kept(number, _) => Ok(Some(kept_found(items, *number))),
     }
 }
 
-/// What is found in the first couple in which something is.
+/// What is found in a member and a later one, if they are turned.
+#[tactic(auto, using(sheet_order::proofs::ForCallers::stays_itself, crate::proofs::Judged::one_turned, crate::proofs::Judged::one_unturned))]
+fn found_in(
+    pairs: &mut Pairs,
+    items: &[Item],
+    m: &Standing<'_>,
+    x: &Standing<'_>,
+) -> Result<Option<Compared>, AllocError>
+    requires first { spec.IsAskable m.now.member }
+    requires second { spec.IsAskable x.now.member }
+    ensures stays { Stays pairs.old pairs.new }
+    ensures judged { IfOk result (λ found. spec.IsJudged pairs.new.answers items.now (standing.couples_with m.now (x.now ∷ [])) found) }
+{
+    if are_turned(m, x) {
+        couple_found(pairs, items, &m.member, &x.member)
+    } else {
+        Ok(None)
+    }
+}
+
+/// What is found in the couples of a member and later ones.
 #[tactic(auto, using(sheet_order::proofs::ForCallers::stays_itself))]
+fn found_behind(
+    pairs: &mut Pairs,
+    items: &[Item],
+    m: &Standing<'_>,
+    later: &[Standing<'_>],
+) -> Result<Option<Compared>, AllocError>
+    requires first { spec.IsAskable m.now.member }
+    requires all { AllByRecursion (λ x. spec.IsAskable x.member) later.now }
+    ensures stays { Stays pairs.old pairs.new }
+    ensures judged { IfOk result (λ found. spec.IsJudged pairs.new.answers items.now (standing.couples_with m.now later.now) found) }
+{
+    for x in later {
+        if let Some(found) = found_in(pairs, items, m, x)? {
+            return Ok(Some(found));
+        }
+    }
+    Ok(None)
+}
+
+/// What is found in the couples of members of a sheet that are turned, by the earlier one and then by the later one.
+#[tactic(auto, using(sheet_order::proofs::ForCallers::stays_itself, crate::proofs::Lists::all_drop))]
 pub(crate) fn judged(
     pairs: &mut Pairs,
     items: &[Item],
-    couples: &[Couple<'_>],
+    members: &[Standing<'_>],
 ) -> Result<Option<Compared>, AllocError>
-    requires { AllByRecursion spec.IsAskableCouple couples.now }
+    requires { AllByRecursion (λ x. spec.IsAskable x.member) members.now }
     ensures stays { Stays pairs.old pairs.new }
-    ensures judged { IfOk result (λ found. spec.IsJudged pairs.new.answers items.now couples.now found) }
+    ensures judged { IfOk result (λ found. spec.IsJudged pairs.new.answers items.now (standing.couples_of members.now) found) }
 {
-    for couple in couples {
-        if let Some(found) = couple_found(pairs, items, couple)? {
+    let mut behind = 0;
+    for m in members {
+        behind += 1;
+        if let Some(found) = found_behind(pairs, items, m, &members[behind..])? {
             return Ok(Some(found));
         }
     }

@@ -1,11 +1,13 @@
 //! The first place at which the kept items of two sheets differ.
 
 ghost use Rattle.std.specs.Prelude.{◌≡◌, ◌<◌, ◌^◌, IfOk, length};
+ghost use Rattle.std.specs.Option.{option_copied};
 ghost use Rattle.css_model.specs.Sheets.Spelling as spelling;
+ghost use Rattle.media_groups.specs.Printed.{begins_at};
 ghost use Rattle.sheet_same.specs.Kept as spec;
 
 use css_model::{Item, KeptRule, Piece};
-use media_groups::{Reading, put_piece};
+use media_groups::{Media, Reading, put_piece};
 use sheet_order::is_kept;
 use std::alloc::{AllocError, Global};
 
@@ -93,33 +95,102 @@ fn next_kept(items: &[Item]) -> Option<(&Item, &[Item])>
     None
 }
 
-/// The number of the first place at which the kept ones of two lists of items differ.
+/// Whether a block begins where an item does.
+fn is_block(block: &Media, item: &Item) -> bool
+    ensures { result ≡ begins_at block.now.head.start item.now }
+{
+    match item {
+        Item::KeptBlock(piece) => piece.start == block.head.start,
+        _ => false,
+    }
+}
+
+/// The first of some opened blocks, if an item is it, and the blocks behind the item.
+fn split_block<'a>(media: &'a [Media], item: &Item) -> (Option<&'a Media>, &'a [Media])
+    ensures block { option_copied result.0 ≡ spec.block_of media.now item.now }
+    ensures behind { result.1.now ≡ spec.blocks_behind media.now item.now }
+{
+    if let [block, behind @ ..] = media {
+        if is_block(block, item) {
+            return (Some(block), behind);
+        }
+    }
+    (None, media)
+}
+
+/// Whether two items are kept and say the same, which are these opened blocks, if any.
+fn same_item(
+    alloc: Global,
+    reading: &Reading<'_>,
+    block: Option<&Media>,
+    item: &Item,
+    there: &Reading<'_>,
+    twin: Option<&Media>,
+    other: &Item,
+) -> Result<bool, AllocError>
+    ensures { IfOk result (λ same. same ≡ spec.same_item reading.now.source.now (option_copied block.entry) item.now there.now.source.now (option_copied twin.entry) other.now) }
+{
+    if let (Some(m), Some(n)) = (block, twin) {
+        return same_text(alloc, reading, m.head, there, n.head);
+    }
+    same_kept(alloc, reading, item, there, other)
+}
+
+/// The earlier number, or this one, if one of two items alone is an opened block.
+fn unlike(
+    earlier: Option<u32>,
+    number: u32,
+    block: Option<&Media>,
+    twin: Option<&Media>,
+) -> Option<u32>
+    ensures { result ≡ spec.unlike earlier number (option_copied block.entry) (option_copied twin.entry) }
+{
+    match (earlier, block, twin) {
+        (Some(place), _, _) => Some(place),
+        (None, Some(_), None) => Some(number),
+        (None, None, Some(_)) => Some(number),
+        (None, _, _) => None,
+    }
+}
+
+/// The number of the first place at which the kept ones of two lists of items differ, among which these blocks are
+/// opened; where none does, that of the first place at which one item alone is an opened block.
 pub(crate) fn first_differing(
     alloc: Global,
     reading: &Reading<'_>,
+    media: &[Media],
     items: &[Item],
     there: &Reading<'_>,
+    twins: &[Media],
     others: &[Item],
 ) -> Result<Option<u32>, AllocError>
     requires { length items.now < 2 ^ 32 }
-    ensures { IfOk result (λ place. place ≡ spec.first_differing reading.now.source.now items.now there.now.source.now others.now) }
+    ensures { IfOk result (λ place. place ≡ spec.first_differing reading.now.source.now media.now items.now there.now.source.now twins.now others.now) }
 {
     let mut number = 0;
+    let mut one = None;
+    let mut blocks = media;
     let mut left = items;
+    let mut more = twins;
     let mut right = others;
     'left: while let Some((item, behind)) = next_kept(left) {
-        let Some((other, more)) = next_kept(right) else {
+        let Some((other, after)) = next_kept(right) else {
             return Ok(Some(number));
         };
-        if !same_kept(alloc, reading, item, there, other)? {
+        let (block, blocks_behind) = split_block(blocks, item);
+        let (twin, twins_behind) = split_block(more, other);
+        if !same_item(alloc, reading, block, item, there, twin, other)? {
             return Ok(Some(number));
         }
+        one = unlike(one, number, block, twin);
         number += 1;
+        blocks = blocks_behind;
         left = behind;
-        right = more;
+        more = twins_behind;
+        right = after;
     }
     match next_kept(right) {
         Some(_) => Ok(Some(number)),
-        None => Ok(None),
+        None => Ok(one),
     }
 }

@@ -6,13 +6,11 @@ mod comparing;
 mod judging;
 mod kept;
 mod lacking;
-mod laws;
 mod members;
-mod turned;
+mod standing;
 
-pub use compared::Compared;
-pub use comparing::compare_plain;
-pub use laws::same_parts_keep;
+pub use compared::{Compared, Difference};
+pub use comparing::compare;
 pub use sheet_order::PairPlace;
 
 #[cfg(test)]

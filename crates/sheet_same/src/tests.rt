@@ -3,7 +3,7 @@
 ghost use Rattle.std.specs.Prelude.{◌≡◌, Ok, IfOk};
 ghost use Rattle.css_model.specs.Sheets.Sheet.{sheet_of};
 
-use crate::{Compared, PairPlace, compare_plain};
+use crate::{Compared, PairPlace, compare};
 use css_model::Sheet;
 use overlap::Pairs;
 use sheet_read::{SheetError, read_sheet};
@@ -104,6 +104,74 @@ const ROWS: [(&str, &str, Kind); 15] = [
     ),
 ];
 
+/// Two sheets with opened blocks, what is found in them, and in the bodies of which blocks.
+const BLOCKS: [(&str, &str, Kind, Option<u32>); 10] = [
+    (
+        "@media print{a{top:0}b{top:0}}",
+        "@media  print { a,b { top: 0 } }",
+        Kind::Same,
+        None,
+    ),
+    (
+        "@media print{a{top:0}}",
+        "@media screen{a{top:0}}",
+        Kind::Kept(0),
+        None,
+    ),
+    (
+        "@media print{a{top:0}}",
+        "@media print{b{top:0}}",
+        Kind::Missing(FIRST),
+        Some(0),
+    ),
+    (
+        "@media print{a{top:0}}@media print{}",
+        "@media print{a{top:0}}@media print{a{top:0}}",
+        Kind::Extra(FIRST),
+        Some(1),
+    ),
+    (
+        "@x;@media print{.a{top:0}.b{top:1px}}",
+        "@x;@media print{.b{top:1px}.a{top:0}}",
+        Kind::Reversed(FIRST, NEXT),
+        Some(0),
+    ),
+    // what is found outside comes first
+    (
+        "@media print{a{top:0}}b{top:0}",
+        "@media print{}b{top:1px}",
+        Kind::Missing(NEXT),
+        None,
+    ),
+    // an opened block is a kept item of the sheet around it
+    (
+        ".a{top:0}@media print{.b{left:0}}",
+        "@media print{.b{left:0}}.a{top:0}",
+        Kind::Kept(0),
+        None,
+    ),
+    // inside a body no block is opened
+    (
+        "@media print{@media screen{a{top:0}b{top:0}}}",
+        "@media print{@media screen{a,b{top:0}}}",
+        Kind::Kept(0),
+        Some(0),
+    ),
+    // before an import no block is opened, so these two are the same by their texts
+    (
+        "@media print{a{top:0}}",
+        "@media print{a{top:0}}@import;",
+        Kind::Kept(1),
+        None,
+    ),
+    (
+        "@media print{a{top:0}}",
+        "@media print{b{top:0}}@import;",
+        Kind::Kept(0),
+        None,
+    ),
+];
+
 /// The sheet of a source.
 fn sheet(alloc: Global, source: &[u8]) -> Result<Sheet, SheetError>
     ensures { IfOk result (λ s. sheet_of source.now ≡ Ok s.items) }
@@ -111,16 +179,43 @@ fn sheet(alloc: Global, source: &[u8]) -> Result<Sheet, SheetError>
     read_sheet(alloc, source)
 }
 
+/// What is found in two sheets, without its document, and in the bodies of which blocks.
+fn found(
+    rt: &impl Abort,
+    alloc: Global,
+    pairs: &mut Pairs,
+    text: &str,
+    twin: &str,
+) -> Result<(Kind, Option<u32>), Fail> {
+    let (source, other) = (text.as_bytes(), twin.as_bytes());
+    let first = sheet(alloc, source).expect(rt, "a sheet");
+    let second = sheet(alloc, other).expect(rt, "a sheet");
+    let difference = compare(alloc, pairs, &first, source, &second, other)?;
+    Ok((kind_of(&difference.compared), difference.body))
+}
+
 #[test]
 fn sheets_compare(rt: HostRuntime) -> Result<(), Fail> {
     let alloc = rt.alloc();
     let mut pairs = Pairs::new(alloc, 0);
     for (text, twin, kind) in &ROWS {
-        let (source, other) = (text.as_bytes(), twin.as_bytes());
-        let first = sheet(alloc, source).expect(&rt, "a sheet");
-        let second = sheet(alloc, other).expect(&rt, "a sheet");
-        let found = compare_plain(alloc, &mut pairs, &first, source, &second, other)?;
-        assert!(rt; kind_of(&found) == *kind, "{text}");
+        assert!(rt;
+            found(&rt, alloc, &mut pairs, text, twin)? == (*kind, None),
+            "{text}"
+        );
+    }
+    Ok(())
+}
+
+#[test]
+fn bodies_compare(rt: HostRuntime) -> Result<(), Fail> {
+    let alloc = rt.alloc();
+    let mut pairs = Pairs::new(alloc, 0);
+    for (text, twin, kind, body) in &BLOCKS {
+        assert!(rt;
+            found(&rt, alloc, &mut pairs, text, twin)? == (*kind, *body),
+            "{text}"
+        );
     }
     Ok(())
 }

@@ -1,7 +1,9 @@
+mod Finding
 mod Looking
 mod NamedSteps
 mod Owned
 mod Ranks
+mod Results
 mod Rules
 mod StepParts
 mod Telling

@@ -16,42 +16,44 @@ use Rattle.step_laws.specs.declared.step.Step.{Step}
 use Rattle.step_laws.specs.declared.step.Step.TheVariants.{CutDecl, CutSel, JoinSelUp, JoinSelDown, JoinDeclUp, JoinDeclDown, Share}
 use Rattle.step_laws.specs.Sizes.{Saves, size}
 use Rattle.step_laws.specs.Steps.{HasStep, IsStep, first_item, last_item}
-use Rattle.step_turns.specs.Looking.{Covers, IsWith, Keeps, Reaches}
+use Rattle.step_turns.specs.Looking.{AreLater, Covers, FoundParts, IsAmong, IsWith, Keeps, KeepsLast, Reaches, ReachesLast}
 use Rattle.plan_board.specs.MarkList.{labels_of}
 use Rattle.step_turns.specs.Named.{IsLaterTurn, IsOwnedBy, IsStepOf}
 use Rattle.wall_laws.specs.Renumbering.{IsOfTwo}
 
 -- ---- The sooner of two leads
 
-pub keeps_itself : (best : Option Lead) → Keeps best best
-keeps_itself best t h = h
-
-pub keeps_both : (a b c : Option Lead) → Keeps a b → Keeps b c → Keeps a c
-keeps_both a b c f g t h = g t (f t h)
-
-pub none_kept : (best new : Option Lead) → best ≡ None → Keeps best new
+pub none_kept : (best new : Option Lead) → best ≡ None → KeepsLast best new
 none_kept best new none t (l, is, late) = absurd (let e : None ≡ Some l = sym none ∙ is in cc)
 
 -- what comes before the lead that is reached comes before a sooner one
-pub sooner_kept : TurnsAreOrdered → (best : Option Lead) (other lead : Lead) → best ≡ Some other → IsSooner (lead_told lead).turn (lead_told other).turn → Keeps best (Some lead)
+pub sooner_kept : TurnsAreOrdered → (best : Option Lead) (other lead : Lead) → best ≡ Some other → IsSooner (lead_told lead).turn (lead_told other).turn → KeepsLast best (Some lead)
 sooner_kept order best other lead was sooner t (l, is, late) = (lead, refl, λ before. late (subst (λ (x : Lead). IsSooner t (lead_told x).turn) (some-same (sym was ∙ is)) (order.1 t (lead_told lead).turn (lead_told other).turn before sooner)))
 
-pub same_kept : (best : Option Lead) (other : Lead) → best ≡ Some other → Keeps best (Some other)
+pub same_kept : (best : Option Lead) (other : Lead) → best ≡ Some other → KeepsLast best (Some other)
 same_kept best other was t (l, is, late) = (l, sym was ∙ is, late)
 
-pub reaches_itself : TurnsAreOrdered → (lead : Lead) → Reaches (Some lead) (lead_told lead).turn
+pub reaches_itself : TurnsAreOrdered → (lead : Lead) → ReachesLast (Some lead) (lead_told lead).turn
 reaches_itself order lead = (lead, refl, order.0 (lead_told lead).turn)
 
-pub reaches_other : (lead other : Lead) → (IsSooner (lead_told lead).turn (lead_told other).turn → ⊥) → Reaches (Some other) (lead_told lead).turn
+pub reaches_other : (lead other : Lead) → (IsSooner (lead_told lead).turn (lead_told other).turn → ⊥) → ReachesLast (Some other) (lead_told lead).turn
 reaches_other lead other late = (other, refl, late)
+
+-- ---- What was found
+
+pub keeps_itself : (found : FoundParts) → Keeps found found
+keeps_itself found t h = h
+
+pub keeps_both : (a b c : FoundParts) → Keeps a b → Keeps b c → Keeps a c
+keeps_both a b c f g t h = g t (f t h)
 
 -- ---- A step that is tried
 
 module _ (source : List ℕ) (board : BoardParts) (after : Lead) where
-  pub no_step : (best : Option Lead) (k : Step) → (HasStep board.items k → ⊥) → Covers source board after best k
+  pub no_step : (best : FoundParts) (k : Step) → (HasStep board.items k → ⊥) → Covers source board after best k
   no_step best k none e n is saves some later = absurd (none (e, is))
 
-  pub nothing_saved : (best : Option Lead) (k : Step) → IsSaving source board.items k 0 → Covers source board after best k
+  pub nothing_saved : (best : FoundParts) (k : Step) → IsSaving source board.items k 0 → Covers source board after best k
   nothing_saved best k saving e n is saves some later = absurd (let most : n ≤ 0 = (saving e is).1 n saves in omega (arith, most, some))
 
   one_saving : (k : Step) (m : ℕ) → IsSaving source board.items k m → 0 < m → (e : Edit) (n : ℕ) → IsStep board.items k e → Saves source board.items e n → n ≡ m
@@ -60,12 +62,12 @@ module _ (source : List ℕ) (board : BoardParts) (after : Lead) where
       let this : size source board.items ≡ size source (edited e board.items) + n = saves in
       omega (arith, other, this)
 
-  pub not_later : (best : Option Lead) (k : Step) (m : ℕ) (lead : Lead) → IsSaving source board.items k m → 0 < m → (lead_told lead).turn ≡ named (labels_of board.marks) m k →
+  pub not_later : (best : FoundParts) (k : Step) (m : ℕ) (lead : Lead) → IsSaving source board.items k m → 0 < m → (lead_told lead).turn ≡ named (labels_of board.marks) m k →
       (IsSooner (lead_told after).turn (lead_told lead).turn → ⊥) → Covers source board after best k
   not_later best k m lead saving some turn late e n is saves more later =
       absurd (late (subst (λ (t : Turn). IsSooner (lead_told after).turn t) (ap (λ (x : ℕ). named (labels_of board.marks) x k) (one_saving k m saving some e n is saves) ∙ sym turn) later))
 
-  pub reached_covers : (best : Option Lead) (k : Step) (m : ℕ) (lead : Lead) → IsSaving source board.items k m → 0 < m → (lead_told lead).turn ≡ named (labels_of board.marks) m k →
+  pub reached_covers : (best : FoundParts) (k : Step) (m : ℕ) (lead : Lead) → IsSaving source board.items k m → 0 < m → (lead_told lead).turn ≡ named (labels_of board.marks) m k →
       Reaches best (lead_told lead).turn → Covers source board after best k
   reached_covers best k m lead saving some turn reached e n is saves more later =
       subst (Reaches best) (turn ∙ ap (λ (x : ℕ). named (labels_of board.marks) x k) (sym (one_saving k m saving some e n is saves))) reached
@@ -87,16 +89,19 @@ module _ (source : List ℕ) (board : BoardParts) (after : Lead) where
     later = later;
   }
 
-  pub still_later : (best new : Option Lead) (lead : Lead) → IfSome best (IsLaterTurn source board after) → IsLaterTurn source board after lead → (new ≡ best) ⊎ (new ≡ Some lead) → IfSome new (IsLaterTurn source board after)
-  still_later best new lead before here (inl e) = subst (λ (o : Option Lead). IfSome o (IsLaterTurn source board after)) (sym e) before
-  still_later best new lead before here (inr e) = subst (λ (o : Option Lead). IfSome o (IsLaterTurn source board after)) (sym e) here
+  pub still_later : (old new : FoundParts) (lead : Lead) → AreLater source board after old → IsLaterTurn source board after lead → ((l : Lead) → IsAmong new l → IsAmong old l ⊎ (l ≡ lead)) → AreLater source board after new
+  still_later old new lead before here only l among = which (only l among)
+    where
+      which : IsAmong old l ⊎ (l ≡ lead) → IsLaterTurn source board after l
+      which (inl h) = before l h
+      which (inr e) = subst (IsLaterTurn source board after) (sym e) here
 
-  pub kept_covers : (old new : Option Lead) → Keeps old new → (k : Step) → Covers source board after old k → Covers source board after new k
+  pub kept_covers : (old new : FoundParts) → Keeps old new → (k : Step) → Covers source board after old k → Covers source board after new k
   kept_covers old new keeps k covers e n is saves some later = keeps (named (labels_of board.marks) n k) (covers e n is saves some later)
 
   -- ---- Cuts of a rule, one after the other
 
-  pub cut_more : (cut : ℕ → Step) (old new : Option Lead) (n : ℕ) → Keeps old new → ((i : ℕ) → i < n → Covers source board after old (cut i)) → Covers source board after new (cut n) →
+  pub cut_more : (cut : ℕ → Step) (old new : FoundParts) (n : ℕ) → Keeps old new → ((i : ℕ) → i < n → Covers source board after old (cut i)) → Covers source board after new (cut n) →
       (i : ℕ) → i < n + 1 → Covers source board after new (cut i)
   cut_more cut old new n keeps covers here i less = which (before i n less)
     where
@@ -107,7 +112,7 @@ module _ (source : List ℕ) (board : BoardParts) (after : Lead) where
       which (inl l) = kept_covers old new keeps (cut i) (covers i l)
       which (inr e) = subst (λ (m : ℕ). Covers source board after new (cut m)) (sym e) here
 
-  pub all_cuts : (best : Option Lead) (number decls selectors : ℕ) → ((i : ℕ) → i < decls → Covers source board after best (CutDecl number i)) →
+  pub all_cuts : (best : FoundParts) (number decls selectors : ℕ) → ((i : ℕ) → i < decls → Covers source board after best (CutDecl number i)) →
       ((i : ℕ) → i < selectors → Covers source board after best (CutSel number i)) →
       ((i : ℕ) (e : Edit) → IsStep board.items (CutDecl number i) e → i < decls) → ((i : ℕ) (e : Edit) → IsStep board.items (CutSel number i) e → i < selectors) →
       (k : Step) → (IsOfTwo k → ⊥) → first_item k ≡ number → Covers source board after best k
@@ -123,7 +128,7 @@ module _ (source : List ℕ) (board : BoardParts) (after : Lead) where
 
   -- ---- The steps of two items
 
-  pub all_joins : (best : Option Lead) (upper lower : ℕ) → Covers source board after best (JoinSelUp upper lower) → Covers source board after best (JoinSelDown upper lower) →
+  pub all_joins : (best : FoundParts) (upper lower : ℕ) → Covers source board after best (JoinSelUp upper lower) → Covers source board after best (JoinSelDown upper lower) →
       Covers source board after best (JoinDeclUp upper lower) → Covers source board after best (JoinDeclDown upper lower) → Covers source board after best (Share upper lower) →
       (k : Step) → IsOfTwo k → first_item k ≡ upper → last_item k ≡ lower → Covers source board after best k
   all_joins best upper lower a b c d f (CutDecl n i) two first last = absurd two
@@ -141,10 +146,10 @@ module _ (source : List ℕ) (board : BoardParts) (after : Lead) where
 
   -- ---- Partners, one after the other
 
-  abbrev pub AllWith : Option Lead → ℕ → List ℕ → Type 0
+  abbrev pub AllWith : FoundParts → ℕ → List ℕ → Type 0
   AllWith best number labels = (label : ℕ) (k : Step) → Contains labels label → IsWith board number label k → Covers source board after best k
 
-  pub partner_more : (old new : Option Lead) (number : ℕ) (all rest behind : List ℕ) (label : ℕ) → rest ≡ label ∷ behind → Keeps old new →
+  pub partner_more : (old new : FoundParts) (number : ℕ) (all rest behind : List ℕ) (label : ℕ) → rest ≡ label ∷ behind → Keeps old new →
       ((x : ℕ) (k : Step) → Contains all x → IsWith board number x k → Covers source board after old k ⊎ Contains rest x) → ((k : Step) → IsWith board number label k → Covers source board after new k) →
       (x : ℕ) (k : Step) → Contains all x → IsWith board number x k → Covers source board after new k ⊎ Contains behind x
   partner_more old new number all rest behind label is keeps before here x k among with_it = which (before x k among with_it)
@@ -156,7 +161,7 @@ module _ (source : List ℕ) (board : BoardParts) (after : Lead) where
         | inr r ↦ inr r
       ]
 
-  pub all_partners : (best : Option Lead) (number : ℕ) (all rest : List ℕ) → rest ≡ [] →
+  pub all_partners : (best : FoundParts) (number : ℕ) (all rest : List ℕ) → rest ≡ [] →
       ((x : ℕ) (k : Step) → Contains all x → IsWith board number x k → Covers source board after best k ⊎ Contains rest x) → AllWith best number all
   all_partners best number all rest is before x k among with_it = which (before x k among with_it)
     where

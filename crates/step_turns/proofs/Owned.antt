@@ -26,7 +26,7 @@ use Rattle.step_laws.specs.declared.step.Step.{Step}
 use Rattle.step_laws.specs.declared.step.Step.TheVariants.{CutDecl, CutSel, JoinSelUp, JoinSelDown, JoinDeclUp, JoinDeclDown, Share}
 use Rattle.step_laws.specs.Steps.{HasStep, IsStep, first_item, last_item}
 use Rattle.step_savings.proofs.ForCallers.{first_rule, last_rule}
-use Rattle.step_turns.specs.Looking.{Covers, IsWith, Reaches}
+use Rattle.step_turns.specs.Looking.{Covers, FoundParts, IsWith, Reaches}
 use Rattle.plan_board.specs.MarkList.{births_of, labels_of}
 use Rattle.step_turns.specs.Marked.{rules_of}
 use Rattle.step_turns.specs.Named.{IsOwnedBy}
@@ -116,7 +116,7 @@ module _ (source : List ℕ) (board : BoardParts) (after : Lead) (are : AreMarks
         ],
       )
 
-  module _ (best : Option Lead) (rule : RuleParts) (rule_at : slice_get board.items number ≡ Some (Rule rule)) (tables : TableParts) (cover : Cover tables (rules_of board)) (found : List ℕ)
+  module _ (best : FoundParts) (rule : RuleParts) (rule_at : slice_get board.items number ≡ Some (Rule rule)) (tables : TableParts) (cover : Cover tables (rules_of board)) (found : List ℕ)
       (partners : StepsHavePartners) (labelled_are : RulesAreLabelled)
       (all : (rules : List Labelled) (x : Labelled) → Cover tables rules → Contains rules x → CanBePartners rule x.rule → Contains found x.label)
       (cuts : (k : Step) → (IsOfTwo k → ⊥) → first_item k ≡ number → Covers source board after best k) (withs : AllWith source board after best number found) where
@@ -214,7 +214,7 @@ selector_inside items n count r at same i e is =
 
 -- ---- The steps of an item and a partner
 
-module _ (source : List ℕ) (board : BoardParts) (after : Lead) (best : Option Lead) (number label : ℕ) where
+module _ (source : List ℕ) (board : BoardParts) (after : Lead) (best : FoundParts) (number label : ℕ) where
   pub no_partner : LacksLabel board.marks label → (k : Step) → IsWith board number label k → Covers source board after best k
   no_partner lacks k w = absurd (lacks w.other w.mark w.mark_at w.label_is)
 
@@ -286,7 +286,7 @@ owner_at board beside birth k e is owned = which (later_cases (births board) (fi
 abbrev LabelOfOwner : BoardParts → ℕ → ℕ → Type 0
 LabelOfOwner board birth label = (n : ℕ) → slice_get (births_of board.marks) n ≡ Some birth → slice_get (labels_of board.marks) n ≡ Some label
 
-module _ (source : List ℕ) (board : BoardParts) (after : Lead) (best : Option Lead) (beside : length board.marks ≡ length board.items) (label : ℕ) (at : LabelOfOwner board after.owner label) where
+module _ (source : List ℕ) (board : BoardParts) (after : Lead) (best : FoundParts) (beside : length board.marks ≡ length board.items) (label : ℕ) (at : LabelOfOwner board after.owner label) where
   -- the mark of the owner has the label
   labelled_owner : (n : ℕ) (m : Mark) → slice_get board.marks n ≡ Some m → m.birth ≡ after.owner → m.label ≡ label
   labelled_owner n m mark_at born =

@@ -1,11 +1,13 @@
-//! Which step a lead names, and the next turn of an owner.
+//! Which step a lead names, and the next turns of an owner.
 #![tactic(auto)]
 
 mod cuts;
+mod found;
 mod naming;
 mod next;
 mod order;
 mod trying;
 
+pub use found::Found;
 pub use naming::step_of_lead;
-pub use next::next_lead;
+pub use next::next_leads;

@@ -1,21 +1,23 @@
-//! The next turn of an owner.
+//! The next turns of an owner.
 
-ghost use Rattle.std.specs.Prelude.{◌≡◌, ℕ, ◌<◌, Some, IfOk, IfSome, length, slice_get, slice_index};
+ghost use Rattle.std.specs.Prelude.{◌≡◌, ℕ, ◌<◌, ◌≤◌, Some, IfOk, OnOk, length, slice_get, slice_index};
 ghost use Rattle.std.specs.List.{Contains};
 ghost use Rattle.css_model.specs.declared.sheet.Item.TheVariants as item;
 ghost use Rattle.hold_laws.specs.Births.{later_born};
+ghost use Rattle.lead_plan.specs.Weights.{room};
 ghost use Rattle.plan_laws.specs.Plannable.{IsPlannable};
 ghost use Rattle.rule_tables.specs.Tables.{Cover};
 ghost use Rattle.step_laws.specs.declared.step.Step as declared;
 ghost use Rattle.step_laws.specs.declared.step.Step.TheVariants as kinds;
 ghost use Rattle.step_laws.specs.Steps.{first_item, last_item};
-ghost use Rattle.step_turns.specs.Looking.{Covers, IsWith, Keeps};
+ghost use Rattle.step_turns.specs.Looking.{AreLater, Covers, IsWith, Keeps};
 ghost use Rattle.plan_board.specs.MarkList.{births_of, labels_of};
 ghost use Rattle.step_turns.specs.Marked.{rules_of};
-ghost use Rattle.step_turns.specs.Named.{IsLaterTurn, IsOwnedBy};
+ghost use Rattle.step_turns.specs.Named.{IsOwnedBy};
 ghost use Rattle.wall_laws.specs.Renumbering.{IsOfTwo};
 
 use crate::cuts::find_rule;
+use crate::found::Found;
 use crate::trying::try_step;
 use css_model::Rule;
 use lead_plan::Lead;
@@ -25,7 +27,7 @@ use rule_tables::{Tables, rules_are_labelled, steps_have_partners};
 use std::alloc::{AllocError, Global};
 use step_laws::{Step, parts_are_few};
 
-/// The first turn of the best one so far and of the cuts of a rule's declarations, of which there are so many.
+/// Puts the turns of the cuts of a rule's declarations, of which there are so many.
 fn try_decl_cuts(
     board: &Board,
     tables: &Tables,
@@ -33,25 +35,26 @@ fn try_decl_cuts(
     after: &Lead,
     number: u32,
     count: u32,
-    best: Option<Lead>,
-) -> Option<Lead>
+    found: &mut Found,
+) -> Result<(), AllocError>
     requires plannable { IsPlannable source.now board.now.items }
     requires cover { Cover tables.now (rules_of board.now) }
     requires owned { slice_index (births_of board.now.marks) number ≡ after.now.owner }
-    requires later { IfSome best (IsLaterTurn source.now board.now after.now) }
-    ensures keeps { Keeps best result }
-    ensures covers { (i : ℕ) → i < count → Covers source.now board.now after.now result (kinds.CutDecl number i) }
-    ensures later { IfSome result (IsLaterTurn source.now board.now after.now) }
+    requires later { AreLater source.now board.now after.now found.old }
+    requires few { length found.old.leads ≤ room }
+    ensures keeps { OnOk result (Keeps found.old found.new) }
+    ensures covers { OnOk result ((i : ℕ) → i < count → Covers source.now board.now after.now found.new (kinds.CutDecl number i)) }
+    ensures later { OnOk result (AreLater source.now board.now after.now found.new) }
+    ensures few { length found.new.leads ≤ room }
 {
-    let mut so_far = best;
     for decl in 0..count {
         let step = Step::CutDecl { item: number, decl };
-        so_far = try_step(board, tables, source, after, &step, so_far);
+        try_step(board, tables, source, after, &step, found)?;
     }
-    so_far
+    Ok(())
 }
 
-/// The first turn of the best one so far and of the cuts of a rule's selectors, of which there are so many.
+/// Puts the turns of the cuts of a rule's selectors, of which there are so many.
 fn try_selector_cuts(
     board: &Board,
     tables: &Tables,
@@ -59,22 +62,23 @@ fn try_selector_cuts(
     after: &Lead,
     number: u32,
     count: u32,
-    best: Option<Lead>,
-) -> Option<Lead>
+    found: &mut Found,
+) -> Result<(), AllocError>
     requires plannable { IsPlannable source.now board.now.items }
     requires cover { Cover tables.now (rules_of board.now) }
     requires owned { slice_index (births_of board.now.marks) number ≡ after.now.owner }
-    requires later { IfSome best (IsLaterTurn source.now board.now after.now) }
-    ensures keeps { Keeps best result }
-    ensures covers { (i : ℕ) → i < count → Covers source.now board.now after.now result (kinds.CutSel number i) }
-    ensures later { IfSome result (IsLaterTurn source.now board.now after.now) }
+    requires later { AreLater source.now board.now after.now found.old }
+    requires few { length found.old.leads ≤ room }
+    ensures keeps { OnOk result (Keeps found.old found.new) }
+    ensures covers { OnOk result ((i : ℕ) → i < count → Covers source.now board.now after.now found.new (kinds.CutSel number i)) }
+    ensures later { OnOk result (AreLater source.now board.now after.now found.new) }
+    ensures few { length found.new.leads ≤ room }
 {
-    let mut so_far = best;
     for sel in 0..count {
         let step = Step::CutSel { item: number, sel };
-        so_far = try_step(board, tables, source, after, &step, so_far);
+        try_step(board, tables, source, after, &step, found)?;
     }
-    so_far
+    Ok(())
 }
 
 /// How many declarations a rule has.
@@ -99,22 +103,27 @@ fn try_cuts(
     after: &Lead,
     number: u32,
     rule: &Rule,
-) -> Option<Lead>
+    found: &mut Found,
+) -> Result<(), AllocError>
     requires plannable { IsPlannable source.now board.now.items }
     requires cover { Cover tables.now (rules_of board.now) }
     requires owned { slice_index (births_of board.now.marks) number ≡ after.now.owner }
     requires rule { slice_get board.now.items number ≡ Some (item.Rule rule.now) }
-    ensures covers { (k : declared.Step) → (IsOfTwo k → ⊥) → first_item k ≡ number → Covers source.now board.now after.now result k }
-    ensures later { IfSome result (IsLaterTurn source.now board.now after.now) }
+    requires later { AreLater source.now board.now after.now found.old }
+    requires few { length found.old.leads ≤ room }
+    ensures keeps { OnOk result (Keeps found.old found.new) }
+    ensures covers { OnOk result ((k : declared.Step) → (IsOfTwo k → ⊥) → first_item k ≡ number → Covers source.now board.now after.now found.new k) }
+    ensures later { OnOk result (AreLater source.now board.now after.now found.new) }
+    ensures few { length found.new.leads ≤ room }
 {
     parts_are_few();
     let decls = decl_count(rule) as u32;
     let selectors = selector_count(rule) as u32;
-    let best = try_decl_cuts(board, tables, source, after, number, decls, None);
-    try_selector_cuts(board, tables, source, after, number, selectors, best)
+    try_decl_cuts(board, tables, source, after, number, decls, found)?;
+    try_selector_cuts(board, tables, source, after, number, selectors, found)
 }
 
-/// The first turn of the best one so far and of the steps of two items.
+/// Puts the turns of the steps of two items.
 fn try_joins(
     board: &Board,
     tables: &Tables,
@@ -122,29 +131,31 @@ fn try_joins(
     after: &Lead,
     upper: u32,
     lower: u32,
-    best: Option<Lead>,
-) -> Option<Lead>
+    found: &mut Found,
+) -> Result<(), AllocError>
     requires plannable { IsPlannable source.now board.now.items }
     requires cover { Cover tables.now (rules_of board.now) }
     requires owned { slice_index (births_of board.now.marks) (later_born (births_of board.now.marks) upper lower) ≡ after.now.owner }
-    requires later { IfSome best (IsLaterTurn source.now board.now after.now) }
-    ensures keeps { Keeps best result }
-    ensures covers { (k : declared.Step) → IsOfTwo k → first_item k ≡ upper → last_item k ≡ lower → Covers source.now board.now after.now result k }
-    ensures later { IfSome result (IsLaterTurn source.now board.now after.now) }
+    requires later { AreLater source.now board.now after.now found.old }
+    requires few { length found.old.leads ≤ room }
+    ensures keeps { OnOk result (Keeps found.old found.new) }
+    ensures covers { OnOk result ((k : declared.Step) → IsOfTwo k → first_item k ≡ upper → last_item k ≡ lower → Covers source.now board.now after.now found.new k) }
+    ensures later { OnOk result (AreLater source.now board.now after.now found.new) }
+    ensures few { length found.new.leads ≤ room }
 {
     let step = Step::JoinSelUp { upper, lower };
-    let one = try_step(board, tables, source, after, &step, best);
+    try_step(board, tables, source, after, &step, found)?;
     let step = Step::JoinSelDown { upper, lower };
-    let two = try_step(board, tables, source, after, &step, one);
+    try_step(board, tables, source, after, &step, found)?;
     let step = Step::JoinDeclUp { upper, lower };
-    let three = try_step(board, tables, source, after, &step, two);
+    try_step(board, tables, source, after, &step, found)?;
     let step = Step::JoinDeclDown { upper, lower };
-    let four = try_step(board, tables, source, after, &step, three);
+    try_step(board, tables, source, after, &step, found)?;
     let step = Step::Share { upper, lower };
-    try_step(board, tables, source, after, &step, four)
+    try_step(board, tables, source, after, &step, found)
 }
 
-/// The first turn of the best one so far and of the steps of an item and another one with this label, if that was born
+/// Puts the turns of the steps of an item and another one with this label, if that was born
 /// before it.
 fn try_partner(
     board: &Board,
@@ -153,34 +164,36 @@ fn try_partner(
     after: &Lead,
     number: u32,
     label: u64,
-    best: Option<Lead>,
-) -> Option<Lead>
+    found: &mut Found,
+) -> Result<(), AllocError>
     requires plannable { IsPlannable source.now board.now.items }
     requires cover { Cover tables.now (rules_of board.now) }
     requires there { number < length board.now.items }
     requires owned { slice_index (births_of board.now.marks) number ≡ after.now.owner }
-    requires later { IfSome best (IsLaterTurn source.now board.now after.now) }
-    ensures keeps { Keeps best result }
-    ensures covers { (k : declared.Step) → IsWith board.now number label k → Covers source.now board.now after.now result k }
-    ensures later { IfSome result (IsLaterTurn source.now board.now after.now) }
+    requires later { AreLater source.now board.now after.now found.old }
+    requires few { length found.old.leads ≤ room }
+    ensures keeps { OnOk result (Keeps found.old found.new) }
+    ensures covers { OnOk result ((k : declared.Step) → IsWith board.now number label k → Covers source.now board.now after.now found.new k) }
+    ensures later { OnOk result (AreLater source.now board.now after.now found.new) }
+    ensures few { length found.new.leads ≤ room }
 {
     let _marks = board.marks();
     let Some(other) = board.number_of(label) else {
-        return best;
+        return Ok(());
     };
     let theirs = board.mark(other);
     let ours = board.mark(number);
     if theirs.birth >= ours.birth {
-        return best;
+        return Ok(());
     }
     if other < number {
-        try_joins(board, tables, source, after, other, number, best)
+        try_joins(board, tables, source, after, other, number, found)
     } else {
-        try_joins(board, tables, source, after, number, other, best)
+        try_joins(board, tables, source, after, number, other, found)
     }
 }
 
-/// The first turn of the best one so far and of the steps of an item and others with these labels that were born before
+/// Puts the turns of the steps of an item and others with these labels that were born before
 /// it.
 fn try_partners(
     board: &Board,
@@ -189,60 +202,63 @@ fn try_partners(
     after: &Lead,
     number: u32,
     labels: &[u64],
-    best: Option<Lead>,
-) -> Option<Lead>
+    found: &mut Found,
+) -> Result<(), AllocError>
     requires plannable { IsPlannable source.now board.now.items }
     requires cover { Cover tables.now (rules_of board.now) }
     requires there { number < length board.now.items }
     requires owned { slice_index (births_of board.now.marks) number ≡ after.now.owner }
-    requires later { IfSome best (IsLaterTurn source.now board.now after.now) }
-    ensures keeps { Keeps best result }
-    ensures covers { (label : ℕ) (k : declared.Step) → Contains labels.now label → IsWith board.now number label k → Covers source.now board.now after.now result k }
-    ensures later { IfSome result (IsLaterTurn source.now board.now after.now) }
+    requires later { AreLater source.now board.now after.now found.old }
+    requires few { length found.old.leads ≤ room }
+    ensures keeps { OnOk result (Keeps found.old found.new) }
+    ensures covers { OnOk result ((label : ℕ) (k : declared.Step) → Contains labels.now label → IsWith board.now number label k → Covers source.now board.now after.now found.new k) }
+    ensures later { OnOk result (AreLater source.now board.now after.now found.new) }
+    ensures few { length found.new.leads ≤ room }
 {
-    let mut so_far = best;
     let mut rest = labels;
     'rest: while let Some((label, behind)) = rest.split_first() {
-        so_far = try_partner(board, tables, source, after, number, *label, so_far);
+        try_partner(board, tables, source, after, number, *label, found)?;
         rest = behind;
     }
-    so_far
+    Ok(())
 }
 
-/// The next turn of an owner behind a lead's, if there is one: of the steps that save something and whose later born item,
-/// or whose rule that is cut, has the birth `after.owner`, the first one whose turn comes later than the lead's. `at` is
-/// the label of the item with this birth; where no item has it, there is no turn. The tables cover the rules of the sheet,
-/// with the labels of their items. The error comes where memory is short. The time is that of the owner's parts and of the
-/// rules with one of them.
-pub fn next_lead(
+/// The next turns of an owner behind a lead's, if there are some: of the steps that save something and whose later born
+/// item, or whose rule that is cut, has the birth `after.owner`, the first ones whose turns come later than the lead's, and
+/// the first of the others, if there are more. `at` is the label of the item with this birth; where no item has it, there is
+/// no turn. The tables cover the rules of the sheet, with the labels of their items. The error comes where memory is short.
+/// The time is that of the owner's parts and of the rules with one of them.
+pub fn next_leads(
     alloc: Global,
     board: &Board,
     tables: &Tables,
     source: &KnownLengths<'_>,
     at: u64,
     after: &Lead,
-) -> Result<Option<Lead>, AllocError>
+) -> Result<Found, AllocError>
     requires plannable { IsPlannable source.now board.now.items }
     requires cover { Cover tables.now (rules_of board.now) }
     requires at { (n : ℕ) → slice_get (births_of board.now.marks) n ≡ Some after.now.owner → slice_get (labels_of board.now.marks) n ≡ Some at }
-    ensures later { IfOk result (λ next. IfSome next (IsLaterTurn source.now board.now after.now)) }
-    ensures covers { IfOk result (λ next. (k : declared.Step) → IsOwnedBy board.now after.now.owner k → Covers source.now board.now after.now next k) }
+    ensures later { IfOk result (λ found. AreLater source.now board.now after.now found) }
+    ensures covers { IfOk result (λ found. (k : declared.Step) → IsOwnedBy board.now after.now.owner k → Covers source.now board.now after.now found k) }
+    ensures few { IfOk result (λ found. length found.leads ≤ room) }
 {
     steps_have_partners();
     rules_are_labelled();
+    let mut found = Found::new(alloc);
     let _marks = board.marks();
     let Some(number) = board.number_of(at) else {
-        return Ok(None);
+        return Ok(found);
     };
     let mark = board.mark(number);
     if mark.birth != after.owner {
-        return Ok(None);
+        return Ok(found);
     }
     let Some(rule) = find_rule(board.sheet(), number) else {
-        return Ok(None);
+        return Ok(found);
     };
-    let cut = try_cuts(board, tables, source, after, number, rule);
+    try_cuts(board, tables, source, after, number, rule, &mut found)?;
     let partners = tables.partners(alloc, rule)?;
-    let next = try_partners(board, tables, source, after, number, &partners, cut);
-    Ok(next)
+    try_partners(board, tables, source, after, number, &partners, &mut found)?;
+    Ok(found)
 }

@@ -1,68 +1,53 @@
-//! The sooner of two turns, while steps are looked at.
+//! A step is tried, while steps are looked at.
 
-ghost use Rattle.std.specs.Prelude.{◌≡◌, ◌⊎◌, Some, IfSome};
-ghost use Rattle.lead_plan.specs.Told.{lead_told};
-ghost use Rattle.plan_laws.specs.Cover.{IsSooner};
+ghost use Rattle.std.specs.Prelude.{◌≤◌, OnOk, length};
+ghost use Rattle.lead_plan.specs.Weights.{room};
 ghost use Rattle.plan_laws.specs.Plannable.{IsPlannable};
 ghost use Rattle.rule_tables.specs.Tables.{Cover};
-ghost use Rattle.step_turns.specs.Looking.{Covers, Keeps, Reaches};
+ghost use Rattle.step_turns.specs.Looking.{AreLater, Covers, Keeps};
 ghost use Rattle.step_turns.specs.Marked.{rules_of};
-ghost use Rattle.step_turns.specs.Named.{IsLaterTurn, IsOwnedBy};
+ghost use Rattle.step_turns.specs.Named.{IsOwnedBy};
 
 use crate::cuts::is_step_of;
+use crate::found::Found;
 use crate::order::{is_sooner, lead_of};
-use hold_laws::turns_are_ordered;
 use lead_plan::Lead;
 use merge_plan::{KnownLengths, saved};
 use plan_board::Board;
 use rule_tables::Tables;
+use std::alloc::AllocError;
 use step_laws::Step;
 
-/// The sooner of two leads.
-fn sooner_of(best: Option<Lead>, lead: Lead) -> Option<Lead>
-    ensures keeps { Keeps best result }
-    ensures reaches { Reaches result (lead_told lead).turn }
-    ensures is { (result ≡ best) ⊎ (result ≡ Some lead) }
-{
-    turns_are_ordered();
-    let Some(other) = best else {
-        return Some(lead);
-    };
-    if is_sooner(&lead, &other) {
-        Some(lead)
-    } else {
-        Some(other)
-    }
-}
-
-/// The sooner one of the best lead so far and the turn of a step, if that is one of the sheet, saves something and comes
-/// later than the lead `after`, whose owner is the step's.
+/// Puts the turn of a step to those that were found, if that is one of the sheet, saves something and comes later than the
+/// lead `after`, whose owner is the step's.
 pub(crate) fn try_step(
     board: &Board,
     tables: &Tables,
     source: &KnownLengths<'_>,
     after: &Lead,
     step: &Step,
-    best: Option<Lead>,
-) -> Option<Lead>
+    found: &mut Found,
+) -> Result<(), AllocError>
     requires plannable { IsPlannable source.now board.now.items }
     requires cover { Cover tables.now (rules_of board.now) }
     requires owned { IsOwnedBy board.now after.now.owner step.now }
-    requires later { IfSome best (IsLaterTurn source.now board.now after.now) }
-    ensures keeps { Keeps best result }
-    ensures covers { Covers source.now board.now after.now result step.now }
-    ensures later { IfSome result (IsLaterTurn source.now board.now after.now) }
+    requires later { AreLater source.now board.now after.now found.old }
+    requires few { length found.old.leads ≤ room }
+    ensures keeps { OnOk result (Keeps found.old found.new) }
+    ensures covers { OnOk result (Covers source.now board.now after.now found.new step.now) }
+    ensures later { OnOk result (AreLater source.now board.now after.now found.new) }
+    ensures few { length found.new.leads ≤ room }
 {
     if !is_step_of(board, tables, step) {
-        return best;
+        return Ok(());
     }
     let saving = saved(source, board.sheet(), step);
     if saving == 0 {
-        return best;
+        return Ok(());
     }
     let lead = lead_of(board, step, saving, after.owner);
     if !is_sooner(after, &lead) {
-        return best;
+        return Ok(());
     }
-    sooner_of(best, lead)
+    found.put(lead)
 }

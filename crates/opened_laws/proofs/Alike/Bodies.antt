@@ -1,9 +1,10 @@
 -- A block that is printed as it stands has a body of its own sheet only where it had one.
-use Rattle.std.proofs.Common.{◌≡◌, ◌≤◌, ℕ, suc, ◌+◌, Bool, true, false, nat_eq, List, [], ◌∷◌, ◌++◌, length, map, Option, Some, None, Result, Ok, Err, refl, sym, ◌∙◌, ap, ap₂, subst, arith}
+use Rattle.std.proofs.Common.{◌≡◌, ◌≤◌, ℕ, suc, Bool, true, false, nat_eq, List, [], ◌∷◌, ◌++◌, length, map, Option, Some, None, Result, Ok, Err, refl, sym, ◌∙◌, ap, ap₂, subst, arith}
 use Rattle.std.proofs.lemmas.Bool.{cond-false, true≢false}
 use Rattle.std.specs.Prelude.{if◌then◌else◌}
 use Rattle.std.specs.List.{AllZip, list_any, starts_with}
 use Rattle.std.specs.Str.{IsUtf8}
+use Rattle.block_laws.proofs.ForCallers.{IsInside, closed_inside}
 use Rattle.css_model.specs.declared.fault.SheetFault.{SheetFault}
 use Rattle.css_model.specs.declared.limits.TheConstants.{MAX_BYTES}
 use Rattle.css_model.specs.declared.sheet.Item.{Item}
@@ -25,7 +26,6 @@ use Rattle.opened_laws.proofs.Alike.Sheets.{IsReadAlike, IsSpotless, sheet_alike
 use Rattle.opened_laws.proofs.Pieces.Alone.{IsAlone, all_raised, alone, lie_before, printed_raised, printed_shown, raised_shown}
 use Rattle.opened_laws.proofs.Pieces.Blocks.{HasBlock, has_block}
 use Rattle.opened_laws.proofs.Pieces.Cuts.{behind_front, cut_last}
-use Rattle.opened_laws.proofs.Pieces.Inside.{IsInside, closed_inside}
 use Rattle.opened_laws.proofs.Pieces.Marks.{mark_behind, mark_stays}
 
 -- ---- the parts of two items whose tokens are alike

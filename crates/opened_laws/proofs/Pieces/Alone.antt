@@ -6,6 +6,7 @@ use Rattle.std.specs.Option.{option_map}
 use Rattle.std.specs.Str.{IsUtf8}
 use Rattle.std.proofs.lemmas.Bool.{cond-false}
 use Rattle.std.proofs.lemmas.List.{drop-drop, drop-take, length-append, take-take}
+use Rattle.block_laws.proofs.ForCallers.{IsMoved, IsMovedInner, IsMovedLast, end_gap, token_at}
 use Rattle.css_model.specs.declared.token.Bracket.{Bracket}
 use Rattle.css_model.specs.declared.token.Gap.{Gap}
 use Rattle.css_model.specs.declared.token.Gap.TheVariants as gap
@@ -22,7 +23,6 @@ use Rattle.css_tokens.proofs.ForCallers.{lexed_are_parts}
 use Rattle.list_facts.proofs.Zips.{AllLast}
 use Rattle.print_laws.proofs.ForCallers.{Ground, closers_of, ground, lexemes-open, open_behind}
 use Rattle.sheet_laws.proofs.ForCallers.{Shown, closed, shown}
-use Rattle.opened_laws.proofs.Pieces.Places.{IsMoved, IsMovedInner, IsMovedLast, end_gap, token_at}
 
 -- ---- parts that are a text
 

@@ -1,7 +1,6 @@
 -- Rows that agree place by place, cut at one place.
-use Rattle.std.proofs.Common.{◌≡◌, Bool, true, false, List, [], ◌∷◌, ◌++◌, length, arith}
-use Rattle.std.specs.List.{AllByRecursion, AllZip, position_or_len}
-use Rattle.list_facts.proofs.Cuts.{position_here, position_later}
+use Rattle.std.proofs.Common.{◌≡◌, List, [], ◌∷◌, ◌++◌, length, arith}
+use Rattle.std.specs.List.{AllZip}
 use Rattle.list_facts.proofs.Zips.{AllLast}
 
 -- Two rows of as many elements before others.
@@ -34,11 +33,3 @@ first_of_rows R L Q r l y [] x [] z = l y x z
 first_of_rows R L Q r l y [] x (x' ∷ xs) z = absurd z
 first_of_rows R L Q r l y (y' ∷ ys) x [] z = absurd z
 first_of_rows R L Q r l y (y' ∷ ys) x (x' ∷ xs) z = r y x z.0
-
--- where the first element stands that passes a test
-pub position_of : {A : Type 0} (p : A → Bool) (front : List A) (x : A) (rest : List A) → AllByRecursion (λ y. p y ≡ false) front → p x ≡ true → position_or_len p (front ++ x ∷ rest) ≡ length front
-position_of p [] x rest none is = position_here p x rest is
-position_of p (y ∷ front) x rest none is =
-    let later = position_of p front x rest none.1 is in
-    let here = position_later p y (front ++ x ∷ rest) none.0 in
-    omega (arith, later, here)

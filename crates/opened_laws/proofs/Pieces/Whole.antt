@@ -2,8 +2,9 @@
 use Rattle.std.proofs.Common.{◌≡◌, ◌≤◌, ℕ, ◌+◌, ◌-◌, ◌==◌, Bool, true, false, cond, List, [], ◌∷◌, ◌++◌, length, map, drop, refl, sym, ◌∙◌, ap, ap₂, subst, arith}
 use Rattle.std.specs.Prelude.{◌&&◌}
 use Rattle.std.specs.List.{AllByRecursion, AllZip, list_any}
-use Rattle.std.proofs.lemmas.Bool.{cond-false, cond-true, and_parts, false≢true}
+use Rattle.std.proofs.lemmas.Bool.{cond-false, cond-true, false≢true}
 use Rattle.std.proofs.lemmas.List.{append_assoc, length-drop, length-take-le}
+use Rattle.block_laws.proofs.ForCallers.{IsInside, IsMovedInner, IsMovedLast, StayInside, inside_from, sign_is}
 use Rattle.css_model.specs.declared.sheet.Piece.{Piece}
 use Rattle.css_model.specs.declared.token.Gap.{Gap}
 use Rattle.css_model.specs.declared.token.Lexeme.{Lexeme}
@@ -16,16 +17,15 @@ use Rattle.css_model.specs.Text.Lexemes.{end_of, is_sign_at, is_sign_of, lexemes
 use Rattle.css_model.specs.Text.Source.{text_at}
 use Rattle.css_model.specs.Text.Tokens.{Parts, parts, text_of, tokens_at}
 use Rattle.css_tokens.proofs.ForCallers.{lexed_are_parts}
+use Rattle.list_facts.proofs.Cuts.{position_at}
 use Rattle.list_facts.proofs.Zips.{AllLast, zip_from_last, zip_position}
 use Rattle.media_groups.specs.Opened.{body_of, head_of}
 use Rattle.print_laws.specs.Replaced.{whole_piece}
 use Rattle.print_laws.proofs.ForCallers.{AreLeveled, Ground, IsItemOf, open_behind}
 use Rattle.sheet_laws.proofs.ForCallers.{StandsIn, ends_in, ends_with_block, is_ended, is_nil, stand_alone_in}
 use Rattle.opened_laws.proofs.Pieces.Alone.{LieBefore, lie_before, piece_of_piece}
-use Rattle.opened_laws.proofs.Pieces.Blocks.{HasBlock, has_block, none_before_item, sign_kind}
-use Rattle.opened_laws.proofs.Pieces.Cuts.{AreCut, cut_last, first_of_rows, position_of}
-use Rattle.opened_laws.proofs.Pieces.Inside.{IsInside, inside_from}
-use Rattle.opened_laws.proofs.Pieces.Places.{IsMovedInner, IsMovedLast, StayInside}
+use Rattle.opened_laws.proofs.Pieces.Blocks.{HasBlock, has_block, none_before_item}
+use Rattle.opened_laws.proofs.Pieces.Cuts.{AreCut, cut_last, first_of_rows}
 
 -- ---- an item that ends by itself ends with its block
 
@@ -93,7 +93,7 @@ up_to_close text g xs item ended b =
     let in_text : lexemes_of text ≡ item.before ++ up.first ∷ (up.rest ++ b.close ∷ item.behind) =
     item.are ∙ ap (λ zs. item.before ++ (zs ++ item.behind)) rows ∙ ap (λ zs. item.before ++ up.first ∷ zs) (append_assoc up.rest (b.close ∷ []) item.behind) in
     let none : open_behind [] item.before ≡ [] = none_before_item item.before xs item.behind up.first (up.rest ++ b.close ∷ []) rows (subst (AreLeveled []) item.are g.leveled) item.leveled in
-    let sign = sign_kind close_curly b.close.kind (and_parts (is_sign_of close_curly b.close.kind) (b.close.level == 1) b.closes).0 in
+    let sign = sign_is close_curly 1 b.close b.closes in
     let found = inside_from text g.parts item.before up.first up.rest b.close item.behind [] in_text sign none (stay_outside (up.first ∷ up.rest)) in
     let start : up.first.span.start ≡ (piece_of xs).start = ap (λ zs. (piece_of zs).start) (sym rows) in
     record {
@@ -240,11 +240,11 @@ same_by_parts text g' ys item' ended' b' block g xs item ended b is whole =
 
     heads : length b'.head ≡ length b.head
     heads =
-        sym (position_of opens_block b'.head b'.open_ b'.inner b'.before_open b'.opens)
+        sym (position_at opens_block b'.head b'.open_ b'.inner b'.before_open b'.opens)
         ∙ zip_position (IsCarried (piece_of ys).start (length (text_of u.inside.parts))) opens_block opens_block (opens_same (piece_of ys).start (length (text_of u.inside.parts)))
         (b'.head ++ b'.open_ ∷ b'.inner) (b.head ++ b.open_ ∷ b.inner)
         (zip_from_last (IsCarriedInner (piece_of ys).start (length (text_of u.inside.parts))) (IsCarried (piece_of ys).start (length (text_of u.inside.parts))) (IsCarried (piece_of ys).start (length (text_of u.inside.parts))) (λ y x c. c.0) (λ y x c. c) _ _ carried)
-        ∙ position_of opens_block b.head b.open_ b.inner b.before_open b.opens
+        ∙ position_at opens_block b.head b.open_ b.inner b.before_open b.opens
 
     cut : AreCut (IsCarriedInner (piece_of ys).start (length (text_of u.inside.parts))) (IsCarried (piece_of ys).start (length (text_of u.inside.parts))) b'.head (b'.open_ ∷ b'.inner) b.head (b.open_ ∷ b.inner)
     cut = cut_last (IsCarriedInner (piece_of ys).start (length (text_of u.inside.parts))) (IsCarried (piece_of ys).start (length (text_of u.inside.parts))) b'.head b'.open_ b'.inner b.head b.open_ b.inner heads carried

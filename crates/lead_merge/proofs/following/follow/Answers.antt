@@ -1,14 +1,39 @@
-use Rattle.std.proofs.Common.{sym, subst}
+use Rattle.std.proofs.Common.{◌≡◌, ◌+◌, ◌<◌, ◌≤◌, List, length, false, sym, ap, ◌∙◌, subst}
 use Rattle.std.specs.Prelude.{IfSome}
 use Rattle.std.specs.List.{Contains}
 use Rattle.hold_laws.specs.Leads as held
-use Rattle.lead_merge.proofs.Followed.{is_followed}
-use Rattle.lead_merge.proofs.Results.{on_both}
+use Rattle.lead_merge.proofs.Followed.{is_followed, lighter, others_later, others_lead}
+use Rattle.lead_merge.proofs.Results.{on_ok}
 use Rattle.lead_merge.proofs.following.follow.Goals as goal
+use Rattle.lead_plan.specs.declared.lead.Lead.{Lead}
 use Rattle.lead_plan.specs.Told.{lead_told}
+use Rattle.lead_plan.specs.Weights.{room, total, weight}
+use Rattle.plan_laws.specs.Cover.{IsSooner}
 use Rattle.plan_state.specs.PlanParts.{PlanParts}
+use Rattle.plan_state.specs.Waking.{alone}
+use Rattle.step_turns.specs.Looking.{FoundParts}
+
+pub add_others-requires-clause-others_all : goal.add_others-requires-clause-others_all
+add_others-requires-clause-others_all c = subst (λ (f : FoundParts). IfSome f.others (λ n. n.alone ≡ false)) (sym c.found.view_is)
+    (others_lead c.args.source.now c.args.plan.now c.args.lead.now c.in_ok-found.found c.in_ok-found.ensures)
+
+pub add_others-requires-clause-later : goal.add_others-requires-clause-later
+add_others-requires-clause-later c = subst (λ (f : FoundParts). IfSome f.others (λ n. IsSooner (lead_told c.args.lead.now).turn (lead_told n).turn)) (sym c.found.view_is)
+    (others_later c.args.source.now c.args.plan.now c.args.lead.now c.in_ok-found.found c.in_ok-found.ensures)
 
 pub returns-clause-followed : goal.returns-clause-followed
-returns-clause-followed c = on_both c.add_next.result ((l : held.Lead) → Contains c.plan.inside.waiting l → Contains c.add_next.new.waiting l) (IfSome c.in_ok-next.next (λ n. Contains c.add_next.new.waiting (lead_told n))) _
-    (λ stay added. is_followed c.args.source.now c.args.plan.now c.args.lead.now c.in_ok-next.next c.args.plan.now.leads c.add_next.new.waiting c.in_ok-next.ensures
-    (λ l among. stay l (subst (λ (p : PlanParts). Contains p.leads l) (sym c.plan.view_is) among)) added) c.add_next.ensures.stay c.add_next.ensures.added
+returns-clause-followed c = on_ok c.add_others.result (IfSome c.found.inside.others (λ n. Contains c.add_others.new.waiting (lead_told n))) _
+    (λ added. is_followed c.args.source.now c.args.plan.now c.args.lead.now c.in_ok-found.found c.args.plan.now.leads c.add_others.new.waiting c.in_ok-found.ensures
+    (λ l among. c.add_others.ensures.stay l (c.lead_all_alone.ensures.stay l (subst (λ (p : PlanParts). Contains p.leads l) (sym c.plan.view_is) among)))
+    (λ l among. c.add_others.ensures.stay (alone l) (c.in_ok-lead_all_alone.ensures.added l
+    (subst (λ (xs : List Lead). Contains xs l) (sym c.deref.ensures.value) (subst (λ (f : FoundParts). Contains f.leads l) (sym c.found.view_is) among))))
+    (subst (λ (f : FoundParts). IfSome f.others (λ n. Contains c.add_others.new.waiting (lead_told n))) c.found.view_is added)) c.add_others.ensures.added
+
+pub returns-clause-less : goal.returns-clause-less
+returns-clause-less c =
+    let few : length c.deref.result.now ≤ room =
+    subst (λ (xs : List Lead). length xs ≤ room) (sym (c.deref.ensures.value ∙ ap (λ (f : FoundParts). f.leads) c.found.view_is)) c.in_ok-found.ensures.few in
+    on_ok c.add_others.result (total c.add_others.new.waiting + room < total c.lead_all_alone.new.waiting + weight (lead_told c.args.lead.now)) _
+    (λ less. subst (λ (p : PlanParts). total c.add_others.new.waiting < total p.leads + weight (lead_told c.args.lead.now)) c.plan.view_is
+    (lighter (total c.add_others.new.waiting) (total c.lead_all_alone.new.waiting) (total c.plan.inside.waiting) (length c.deref.result.now) room (weight (lead_told c.args.lead.now)) less
+    c.in_ok-lead_all_alone.ensures.weighs few)) c.add_others.ensures.less

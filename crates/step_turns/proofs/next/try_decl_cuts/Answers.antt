@@ -5,16 +5,18 @@ use Rattle.step_turns.proofs.next.try_decl_cuts.Goals as goal
 
 pub loop-decl-init : goal.loop-decl-init
 loop-decl-init c = record {
-  keeps = keeps_itself c.args.best;
+  keeps = keeps_itself c.args.found.now;
   covers = λ i less. absurd (omega (arith, less));
   later = c.requires.later;
+  few = c.requires.few;
 }
 
 pub loop-decl-preserved : goal.loop-decl-preserved
 loop-decl-preserved c = record {
-  keeps = keeps_both c.args.best c.loop-decl.so_far c.try_step-so_far.result c.loop-decl.invariant.keeps c.try_step-so_far.ensures.keeps;
-  covers = cut_more c.args.source.now c.args.board.now c.args.after.now (CutDecl c.args.number) c.loop-decl.so_far c.try_step-so_far.result c.loop-decl.decl c.try_step-so_far.ensures.keeps c.loop-decl.invariant.covers c.try_step-so_far.ensures.covers;
-  later = c.try_step-so_far.ensures.later;
+  keeps = keeps_both c.args.found.now c.loop-decl.found c.try_step.new.found c.loop-decl.invariant.keeps c.in_ok-try_step.ensures.keeps;
+  covers = cut_more c.args.source.now c.args.board.now c.args.after.now (CutDecl c.args.number) c.loop-decl.found c.try_step.new.found c.loop-decl.decl c.in_ok-try_step.ensures.keeps c.loop-decl.invariant.covers c.in_ok-try_step.ensures.covers;
+  later = c.in_ok-try_step.ensures.later;
+  few = c.try_step.ensures.few;
 }
 
 pub returns-clause-covers : goal.returns-clause-covers

@@ -1,28 +1,29 @@
 use Rattle.step_turns.proofs.Owned.{born_later, owner_above, owner_below, partner_above, partner_below}
+use Rattle.step_turns.proofs.Results.{on_ok}
 use Rattle.step_turns.proofs.Telling.{label_of_mark}
 use Rattle.step_turns.proofs.next.try_partner.Goals as goal
 
 pub returns-then-theirs-ours-clause-covers : goal.returns-then-theirs-ours-clause-covers
 returns-then-theirs-ours-clause-covers c =
-    born_later c.args.source.now c.args.board.now c.args.after.now c.args.best c.args.number c.args.label c.in-Some.other c.mark-theirs.result c.mark-ours.result c.mark-theirs.ensures c.mark-ours.ensures c.marks-marks.ensures.are_marks
+    born_later c.args.source.now c.args.board.now c.args.after.now c.args.found.now c.args.number c.args.label c.in-Some.other c.mark-theirs.result c.mark-ours.result c.mark-theirs.ensures c.mark-ours.ensures c.marks-marks.ensures.are_marks
     (label_of_mark c.args.board.now.marks c.in-Some.other c.args.label c.mark-theirs.result c.in-Some.ensures.some c.mark-theirs.ensures) c.if-theirs-ours.true
 
 pub try_joins-requires-clause-owned : goal.try_joins-requires-clause-owned
 try_joins-requires-clause-owned c =
-    owner_below c.args.source.now c.args.board.now c.args.after.now c.args.best c.args.number c.args.label c.in-Some.other c.mark-theirs.result c.mark-ours.result c.mark-theirs.ensures c.mark-ours.ensures c.if-theirs-ours.false
+    owner_below c.args.source.now c.args.board.now c.args.after.now c.args.found.now c.args.number c.args.label c.in-Some.other c.mark-theirs.result c.mark-ours.result c.mark-theirs.ensures c.mark-ours.ensures c.if-theirs-ours.false
     c.args.after.now.owner c.requires.owned
 
 pub try_joins-requires-else-other-number-clause-owned : goal.try_joins-requires-else-other-number-clause-owned
 try_joins-requires-else-other-number-clause-owned c =
-    owner_above c.args.source.now c.args.board.now c.args.after.now c.args.best c.args.number c.args.label c.in-Some.other c.mark-theirs.result c.mark-ours.result c.mark-theirs.ensures c.mark-ours.ensures c.if-theirs-ours.false
+    owner_above c.args.source.now c.args.board.now c.args.after.now c.args.found.now c.args.number c.args.label c.in-Some.other c.mark-theirs.result c.mark-ours.result c.mark-theirs.ensures c.mark-ours.ensures c.if-theirs-ours.false
     c.args.after.now.owner c.requires.owned
 
 pub returns-then-other-number-clause-covers : goal.returns-then-other-number-clause-covers
 returns-then-other-number-clause-covers c =
-    partner_above c.args.source.now c.args.board.now c.args.after.now c.try_joins.result c.args.number c.args.label c.in-Some.other c.mark-theirs.result c.mark-ours.result c.mark-theirs.ensures c.mark-ours.ensures c.marks-marks.ensures.are_marks
-    (label_of_mark c.args.board.now.marks c.in-Some.other c.args.label c.mark-theirs.result c.in-Some.ensures.some c.mark-theirs.ensures) c.if-other-number.true c.try_joins.ensures.covers
+    on_ok c.try_joins.result _ _ (λ covers. partner_above c.args.source.now c.args.board.now c.args.after.now c.try_joins.new.found c.args.number c.args.label c.in-Some.other c.mark-theirs.result c.mark-ours.result c.mark-theirs.ensures c.mark-ours.ensures c.marks-marks.ensures.are_marks
+    (label_of_mark c.args.board.now.marks c.in-Some.other c.args.label c.mark-theirs.result c.in-Some.ensures.some c.mark-theirs.ensures) c.if-other-number.true covers) c.try_joins.ensures.covers
 
 pub returns-else-other-number-clause-covers : goal.returns-else-other-number-clause-covers
 returns-else-other-number-clause-covers c =
-    partner_below c.args.source.now c.args.board.now c.args.after.now c.try_joins-else-other-number.result c.args.number c.args.label c.in-Some.other c.mark-theirs.result c.mark-ours.result c.mark-theirs.ensures c.mark-ours.ensures c.marks-marks.ensures.are_marks
-    (label_of_mark c.args.board.now.marks c.in-Some.other c.args.label c.mark-theirs.result c.in-Some.ensures.some c.mark-theirs.ensures) c.if-other-number.false c.try_joins-else-other-number.ensures.covers
+    on_ok c.try_joins-else-other-number.result _ _ (λ covers. partner_below c.args.source.now c.args.board.now c.args.after.now c.try_joins-else-other-number.new.found c.args.number c.args.label c.in-Some.other c.mark-theirs.result c.mark-ours.result c.mark-theirs.ensures c.mark-ours.ensures c.marks-marks.ensures.are_marks
+    (label_of_mark c.args.board.now.marks c.in-Some.other c.args.label c.mark-theirs.result c.in-Some.ensures.some c.mark-theirs.ensures) c.if-other-number.false covers) c.try_joins-else-other-number.ensures.covers

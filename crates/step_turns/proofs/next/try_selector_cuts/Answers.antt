@@ -5,16 +5,18 @@ use Rattle.step_turns.proofs.next.try_selector_cuts.Goals as goal
 
 pub loop-sel-init : goal.loop-sel-init
 loop-sel-init c = record {
-  keeps = keeps_itself c.args.best;
+  keeps = keeps_itself c.args.found.now;
   covers = λ i less. absurd (omega (arith, less));
   later = c.requires.later;
+  few = c.requires.few;
 }
 
 pub loop-sel-preserved : goal.loop-sel-preserved
 loop-sel-preserved c = record {
-  keeps = keeps_both c.args.best c.loop-sel.so_far c.try_step-so_far.result c.loop-sel.invariant.keeps c.try_step-so_far.ensures.keeps;
-  covers = cut_more c.args.source.now c.args.board.now c.args.after.now (CutSel c.args.number) c.loop-sel.so_far c.try_step-so_far.result c.loop-sel.sel c.try_step-so_far.ensures.keeps c.loop-sel.invariant.covers c.try_step-so_far.ensures.covers;
-  later = c.try_step-so_far.ensures.later;
+  keeps = keeps_both c.args.found.now c.loop-sel.found c.try_step.new.found c.loop-sel.invariant.keeps c.in_ok-try_step.ensures.keeps;
+  covers = cut_more c.args.source.now c.args.board.now c.args.after.now (CutSel c.args.number) c.loop-sel.found c.try_step.new.found c.loop-sel.sel c.in_ok-try_step.ensures.keeps c.loop-sel.invariant.covers c.in_ok-try_step.ensures.covers;
+  later = c.in_ok-try_step.ensures.later;
+  few = c.try_step.ensures.few;
 }
 
 pub returns-clause-covers : goal.returns-clause-covers

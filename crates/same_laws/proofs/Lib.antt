@@ -1,0 +1,9 @@
+mod Alike
+mod Blanked
+mod Couples
+pub mod ForCallers
+mod Keeping
+mod KeptAlike
+mod NeverSame
+mod Scenes
+mod Winning

@@ -1,0 +1,6 @@
+//! Laws on two sheets compared: functions that do nothing, whose contracts are the laws, and the proofs of these.
+#![tactic(auto)]
+
+mod same;
+
+pub use same::{same_parts_keep, same_sheets_win_alike};
