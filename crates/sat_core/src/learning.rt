@@ -49,10 +49,10 @@ pub(crate) fn learn(
     let lits = collect(alloc, trail, seen)?;
     let before = last_marked(trail, seen, at);
     let back = back_level(trail, before);
+    bump(trail, &lits);
     trail.undo_to(back);
     *head = head_after(before, trail);
     arena.attach(&lits)?;
-    bump(trail, &lits);
     Ok(Clause { lits })
 }
 
