@@ -10,7 +10,7 @@ use std::alloc::{AllocError, Global};
 
 /// The family of a name, by parts of the name and of the table: no memory is taken.
 #[derive(Clone, Copy)]
-enum Seen<'a> {
+pub(crate) enum Seen<'a> {
     /// That of `all`.
     All,
     /// A custom property's own.
@@ -28,7 +28,8 @@ fn is_custom(name: &[char]) -> bool
     matches!(name, ['-', '-', ..])
 }
 
-fn seen_family(name: &[char]) -> Seen<'_>
+/// The family of a name.
+pub(crate) fn seen_family(name: &[char]) -> Seen<'_>
     ensures { family_seen result ≡ family_of name.now }
 {
     if is_word(name, b"all") {

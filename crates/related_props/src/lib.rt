@@ -1,14 +1,17 @@
 //! Tells which properties can set the same thing: the families of properties, and which names are
-//! related.
+//! related; and masks of items, by which most that has nothing related is passed over.
 #![tactic(auto)]
 
+mod bits;
 mod families;
 mod laws;
+mod masks;
 mod parts;
 mod table;
 
 pub use families::{family, related};
 pub use laws::{all_is_related, related_is_reflexive, related_is_symmetric};
+pub use masks::{decl_mask, item_mask, item_masks, mask_of_items};
 
 #[cfg(test)]
 mod tests;

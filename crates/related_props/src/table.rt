@@ -1,9 +1,11 @@
-ghost use Rattle.std.specs.Prelude.{◌≡◌, ◌==◌, find, map, zip};
+ghost use Rattle.std.specs.Prelude.{◌≡◌, ◌==◌, false, None, find, map, zip};
 ghost use Rattle.std.specs.List.{list_all, list_any};
 ghost use Rattle.std.specs.Option.{option_copied};
 ghost use Rattle.css_model.specs.Lists.{same_text};
 ghost use Rattle.css_model.specs.Cascade.Family.{rows, family_in};
 ghost use Rattle.related_props.specs.Table.{row_of};
+
+use crate::bits::bit_of;
 
 /// A family of the table, and the parts of names that lead to it, in ASCII.
 struct Row {
@@ -93,9 +95,23 @@ fn family_among(table: &[Row], part: &[char]) -> Option<&'static [u8]>
     }
 }
 
+/// The bits of the parts of the table.
+const LISTED: u64 = 0x8313_c144_788c_741c;
+
+/// Whether the table may have a part, by its bit.
+#[tactic(auto, using(crate::proofs::ListedBits::none_listed))]
+fn may_be_listed(part: &[char]) -> bool
+    ensures { result ≡ false → family_in rows part.now ≡ None }
+{
+    LISTED & (1 << bit_of(part)) != 0
+}
+
 /// The family that the table names for a part, if it has the part.
 pub(crate) fn listed_family(part: &[char]) -> Option<&'static [u8]>
     ensures { option_copied result ≡ family_in rows part.now }
 {
+    if !may_be_listed(part) {
+        return None;
+    }
     family_among(&TABLE, part)
 }

@@ -21,8 +21,8 @@ use Rattle.window_order.specs.Standing.{decl_before, is_in_item, is_in_rule, ite
 
 pub in_rule_is : (r : RuleParts) (p : Pair) → (is_in_rule r p ≡ true) ↔ InRule r p
 in_rule_is r p = (
-  λ h. let w : (has_selector r.selectors p.selector ≡ true) × (has_decl r.decls p.decl ≡ true) = and_parts (has_selector r.selectors p.selector) (has_decl r.decls p.decl) h in ((has_selector_is r.selectors p.selector).0 w.0, (has_decl_is r.decls p.decl).0 w.1),
-  λ h. and_from (has_selector r.selectors p.selector) (has_decl r.decls p.decl) ((has_selector_is r.selectors p.selector).1 h.0) ((has_decl_is r.decls p.decl).1 h.1),
+  λ h. let w : (has_decl r.decls p.decl ≡ true) × (has_selector r.selectors p.selector ≡ true) = and_parts (has_decl r.decls p.decl) (has_selector r.selectors p.selector) h in ((has_selector_is r.selectors p.selector).0 w.1, (has_decl_is r.decls p.decl).0 w.0),
+  λ h. and_from (has_decl r.decls p.decl) (has_selector r.selectors p.selector) ((has_decl_is r.decls p.decl).1 h.1) ((has_selector_is r.selectors p.selector).1 h.0),
 )
 
 pub kept_rule_has : (item : Item) (p : Pair) → ((r : RuleParts) → item ≡ Rule r → ⊥) → HasPair (item ∷ []) p → ⊥

@@ -11,7 +11,7 @@ use Rattle.order_laws.specs.Members.{same_decl, has_selector, has_decl}
 
 -- a pair stands in a rule
 abbrev pub is_in_rule : RuleParts → Pair → Bool
-is_in_rule r p = has_selector r.selectors p.selector && has_decl r.decls p.decl
+is_in_rule r p = has_decl r.decls p.decl && has_selector r.selectors p.selector
 
 -- a pair stands in an item
 abbrev pub is_in_item : Pair → Item → Bool

@@ -9,11 +9,11 @@ use crate::members::{has_decl, has_selector};
 use crate::pair::PairRef;
 use css_model::{Decl, DeclItem, Item, Rule};
 
-/// Whether a pair stands in a rule.
+/// Whether a pair stands in a rule. Its declaration is looked for first: that takes less than a selector.
 fn is_in_rule(rule: &Rule, p: &PairRef<'_>) -> bool
     ensures { result ≡ standing.is_in_rule rule.now p.now }
 {
-    has_selector(&rule.selectors, p.selector) && has_decl(&rule.decls, p.decl)
+    has_decl(&rule.decls, p.decl) && has_selector(&rule.selectors, p.selector)
 }
 
 /// Whether a pair stands in an item.
@@ -42,7 +42,6 @@ fn stands(items: &[Item], p: &PairRef<'_>) -> bool
 }
 
 /// Whether a pair stands in some items.
-
 pub(crate) fn stands_in(items: &[Item], p: &PairRef<'_>) -> bool
     ensures { IsTrue result ↔ HasPair items.now p.now }
 {
