@@ -13,6 +13,8 @@ import os
 import re
 import resource
 import shlex
+import signal
+import socket
 import subprocess
 import sys
 import tempfile
@@ -83,6 +85,16 @@ def limit_memory(kibibytes):
     """What leaves the program so much memory for data."""
     size = kibibytes * 1024
     return lambda: resource.setrlimit(resource.RLIMIT_DATA, (size, size))
+
+
+def limit_files(size):
+    """What lets the program write so many bytes to a file, and then fails."""
+
+    def before():
+        signal.signal(signal.SIGXFSZ, signal.SIG_IGN)
+        resource.setrlimit(resource.RLIMIT_FSIZE, (size, size))
+
+    return before
 
 
 def unknown(word, tip=b""):
@@ -320,6 +332,67 @@ def try_sheets(tries):
     tries.check_read("a sheet that is too long", ["min"], long, 3, b"", told, MAX_BYTES + 1)
 
 
+def try_limits(tries):
+    """The longest and the deepest sheets, and what stands just behind a limit."""
+    deep = b"@x" + b"(" * 256 + b")" * 256 + b";"
+    tries.check_read("256 open brackets", ["min"], deep, 0, deep, b"", len(deep))
+    deeper = b"@x" + b"(" * 257 + b")" * 257 + b";"
+    told = b"refused: TooDeep at 258\n"
+    tries.check_read("257 open brackets", ["min"], deeper, 3, b"", told, len(deeper))
+    tries.check_read("white space", ["min"], b" " * MAX_BYTES, 0, b"", b"", MAX_BYTES)
+    for selector, text in [
+        (" a" * 12, b"disjoint\n"),
+        (" a" * 13, b"outside 6\n"),
+        (".a" * 32, b"disjoint\n"),
+        (".a" * 33, b"outside 7\n"),
+        (":nth-child(32n+1000)", b"disjoint\n"),
+        (":nth-child(n+1001)", b"outside 8\n"),
+        (":nth-child(2n)" * 4, b"disjoint\n"),
+        (":nth-child(2n)" * 5, b"outside 9\n"),
+    ]:
+        tries.check_read(selector, ["cmp", selector, "*::after"], SHEET, 0, text, b"", 0)
+
+
+def try_prefixes(tries):
+    """A sheet that is cut off somewhere is merged, or refused for what is open; what is merged stays as it is."""
+    with open(".ci/page.css", "rb") as file:
+        page = file.read()
+    merged = set()
+    for size in range(len(page) + 1):
+        ran = tries.run(["min"], page[:size])
+        if ran.returncode == 0:
+            merged.add(ran.stdout)
+            end = (0, ran.stdout, b"")
+        else:
+            place = re.fullmatch(rb"refused: EndInside at (\d+)\n", ran.stderr)
+            end = (3, b"", ran.stderr if place and int(place[1]) < size else "EndInside before the end")
+        tries.is_same(f"{size} bytes of a page", "the end", (ran.returncode, ran.stdout, ran.stderr), end)
+    for text in sorted(merged):
+        tries.check("a merged front of a page", ["min"], text, 0, text, b"")
+
+
+def try_faults(tries):
+    """A read that fails behind so many bytes, and a write that does."""
+    sheet = b".a{top:0}.b{top:1px}.a{top:2px}"
+    report = b"items 3 3\nbytes 31 31\nsteps 0\nblocked JoinSelUp 1 3 meet 2\nblocked JoinSelDown 1 3 meet 2\n"
+    for size in range(len(sheet) + 1):
+        reader, writer = socket.socketpair()
+        # What the writer leaves unread fails the read behind what it has sent.
+        reader.send(b"x")
+        writer.send(sheet[:size])
+        writer.close()
+        tries.check(f"a read that fails behind {size} bytes", ["min", "--report"], reader, 4, b"", READ_FAULT)
+        reader.close()
+    for stream, text, out, err in [("stdout", sheet, None, WRITE_FAULT), ("stderr", report, sheet, None)]:
+        for size in range(len(text) + 1):
+            with tempfile.TemporaryFile() as file:
+                ran = tries.run(["min", "--report"], sheet, before=limit_files(size), **{stream: file})
+                file.seek(0)
+                found = (ran.returncode, file.read(), ran.stdout, ran.stderr)
+            status, told = (5, err) if size < len(text) else (0, report if stream == "stdout" else None)
+            tries.is_same(f"{stream} of {size} bytes", "the end", found, (status, text[:size], out, told))
+
+
 def try_streams(tries):
     tries.check("a closed input", ["min"], SHEET, 4, b"", READ_FAULT, before=close(0))
     folder = os.open("/", os.O_RDONLY)
@@ -386,6 +459,9 @@ def main():
     try_lives(tries)
     try_reports(tries)
     try_sheets(tries)
+    try_limits(tries)
+    try_prefixes(tries)
+    try_faults(tries)
     try_streams(tries)
     # A sheet that is merged, so that each kind of memory is taken.
     rules = b"".join(b".a%d { top : %dpx ; }\n.a%d{color:c%d}\n" % (i, i, i, i) for i in range(20))
