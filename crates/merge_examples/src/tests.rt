@@ -1,13 +1,21 @@
-//! What sheets become, worked by hand, with how many items they have before and after, and how many steps are taken.
+//! What sheets become, worked by hand, with how many items they have before and after, and how many steps are taken;
+//! and that the plan by turns that lead is the plan by a look at each step.
+
+ghost use Rattle.std.specs.Prelude.{IfOk};
+ghost use Rattle.plan_laws.specs.Plannable.{IsPlannable};
 
 use cnf::NO_LIMIT;
+use css_model::Sheet;
+use merge_laws::read_is_plannable;
+use merge_plan::Merged;
 use merge_text::{MergedText, merge_text};
 use overlap::Pairs;
-use sheet_read::SheetError;
+use sheet_read::{SheetError, read_sheet};
 use std::alloc::Global;
 use std::process::Abort;
 use std::test::Fail;
 use step_obstacles::PairObstacles;
+use trial_gen::make_sheet;
 
 /// The usual sheet of a page.
 const PAGE: &[u8] = b"/* base */
@@ -161,6 +169,40 @@ fn what_stays_as_it_stands(rt: HostRuntime) -> Result<(), Fail> {
         (b".a{margin:0;margin-left:1px}.b{margin:0}", 2),
     ] {
         becomes(&rt, rt.alloc(), source, source, (items, items, 0))?;
+    }
+    Ok(())
+}
+
+/// The sheet of a source.
+fn sheet_of(alloc: Global, source: &[u8]) -> Result<Sheet, SheetError>
+    ensures { IfOk result (λ s. IsPlannable source.now s.items) }
+{
+    read_is_plannable();
+    read_sheet(alloc, source)
+}
+
+/// What a source becomes by a look at each step, with no answers at first.
+fn plainly_merged(alloc: Global, source: &[u8]) -> Result<Merged, SheetError> {
+    let mut obstacles = PairObstacles::new(alloc, Pairs::new(alloc, NO_LIMIT));
+    let sheet = sheet_of(alloc, source)?;
+    Ok(merge_plan::merge(alloc, &mut obstacles, source, sheet)?)
+}
+
+/// What it becomes by turns that lead, with no answers at first.
+fn merged_by_leads(alloc: Global, source: &[u8]) -> Result<Merged, SheetError> {
+    let mut obstacles = PairObstacles::new(alloc, Pairs::new(alloc, NO_LIMIT));
+    let sheet = sheet_of(alloc, source)?;
+    Ok(lead_merge::merge(alloc, &mut obstacles, source, sheet)?)
+}
+
+#[test]
+fn leads_plan_as_the_plain_loop_does(rt: HostRuntime) -> Result<(), Fail> {
+    for (rules, taken) in [(0, 0), (10, 2), (20, 4), (40, 9), (60, 13)] {
+        let source = make_sheet(rt.alloc(), rules)?;
+        let plain = plainly_merged(rt.alloc(), &source)?;
+        let by_leads = merged_by_leads(rt.alloc(), &source)?;
+        assert!(rt; by_leads.sheet == plain.sheet, "at {rules}");
+        assert_eq!(rt; (by_leads.taken, plain.taken), (taken, taken), "at {rules}");
     }
     Ok(())
 }
