@@ -14,7 +14,7 @@ SOURCES := crates.txt $(shell find crates -path '*/out' -prune -o \( -name '*.rt
 all: cssmin
 
 cssmin: $(SOURCES)
-	@echo 'Proving each function, then compiling: an hour or so from nothing, minutes after a change.'
+	@echo 'Proving each function, then compiling: long from nothing, minutes after a change.'
 	cd crates/cssmin && $(RT) run -- min </dev/null
 	cp crates/cssmin/out/cssmin $@
 	@echo 'Built ./cssmin'
