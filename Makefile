@@ -1,7 +1,7 @@
 # make            proves and builds the program, and puts it here as ./cssmin
 # make check      the whole gate: every proof, must-fail edit, test and program, and the process tried
 # make install    installs it below PREFIX (/usr/local), with its man page and completions for bash, zsh and fish
-# make examples   checks that the program gives the outputs beside the examples
+# make examples   checks that the program gives the outputs beside the examples, and that they style every page alike
 # make bench      measures it, its reading of tokens and its answers for pairs, against wc -c on the same files
 # make sizes      prints the sizes that it and esbuild give the examples
 # make recipes    tries the recipes for builds in examples/build
@@ -31,6 +31,7 @@ install: cssmin
 
 examples: cssmin
 	for sheet in $(SHEETS); do ./cssmin min <$$sheet | cmp - $${sheet%.css}.min.css || exit 1; done
+	for sheet in $(SHEETS); do CSSMIN=./cssmin examples/same/same.sh $$sheet $${sheet%.css}.min.css || exit 1; done
 
 bench: cssmin
 	cd crates/token_count && $(RT) run </dev/null

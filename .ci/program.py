@@ -21,7 +21,7 @@ import tempfile
 
 MORE = b"\nFor more information, try '--help'.\n"
 NO_WORD = b"""error: 'cssmin' requires a subcommand but one was not provided
-  [subcommands: min, cmp, style, dead, check, why, trial, help]
+  [subcommands: min, cmp, style, dead, check, why, same, trial, help]
 
 Usage: cssmin <COMMAND>
 """ + MORE
@@ -164,6 +164,14 @@ why 1
 why 01 1
 why 1 4294967296
 why 1 2 3
+same
+same ''
+same -1
+same 01
+same 4294967296
+same 1 2
+same 1 --report
+same 1 --budget 20001
 help min
 --version --version
 """
@@ -187,7 +195,7 @@ def try_itself(tries):
     for word in ["--version", "-V"]:
         tries.check_read(word, [word], SHEET, 0, f"cssmin {version}\n".encode(), b"", 0)
     for words in [["--help"], ["-h"], ["help"], ["min", "--help"], ["min", "-h"], ["cmp", "--help"], ["cmp", "-h"],
-            ["check", "--help"], ["why", "--help"], ["style", "--help"], ["dead", "--help"], ["trial", "--help"]]:
+            ["check", "--help"], ["why", "--help"], ["same", "--help"], ["style", "--help"], ["dead", "--help"], ["trial", "--help"]]:
         ran = tries.run(words, SHEET)
         name = " ".join(words)
         tries.is_same(name, "the exit status", ran.returncode, 0)
@@ -298,6 +306,22 @@ def try_moves(tries):
         (["1", "26"], 7, b"", b"no item 26\n"),
     ]:
         tries.check_read(" ".join(["why", *move]), ["why", *move], page, status, text, told, len(page))
+
+
+def try_two_sheets(tries):
+    one, other = b".a{top:0}.b{top:1px}", b".b{top:1px}.a{top:0}"
+    split = str(len(one))
+    lines = b"reversed\n.a{top:0}\n.b{top:1px}\nchild 0 pseudo none\n0 1 - x\n1 1 * x class=a%20b\n"
+    tries.check_read("two sheets in another order", ["same", split], one + other, 0, lines, b"", len(one + other))
+    tries.check_read("a sheet and itself", ["same", split], one + one, 0, b"same\n", b"", len(one + one))
+    tries.check_read("no second sheet", ["same", "21"], one, 10, b"", b"no split 21\n", len(one))
+    broken = one + b'a{b:"x'
+    tries.check_read("a broken second sheet", ["same", split], broken, 11, b"", b"second refused: EndInside at 4\n", len(broken))
+    long = b" " * (2 * MAX_BYTES + 2)
+    told = b"refused: TooLong at %d\n" % MAX_BYTES
+    tries.check_read("two sheets that are too long", ["same", "0"], long, 3, b"", told, 2 * MAX_BYTES + 1)
+    told = b"second refused: TooLong at %d\n" % MAX_BYTES
+    tries.check_read("a second sheet that is too long", ["same", "0"], long[:-2], 11, b"", told, 2 * MAX_BYTES)
 
 
 def try_reports(tries):
@@ -440,6 +464,7 @@ def try_examples(tries):
         with open(path.removesuffix(".css") + ".min.css", "rb") as file:
             printed = file.read()
         tries.check(path, ["min"], sheet, 0, printed, b"")
+        tries.check(f"{path} and what became of it", ["same", str(len(sheet))], sheet + printed, 0, b"same\n", b"")
 
 
 def main():
@@ -455,6 +480,7 @@ def main():
     try_pairs(tries)
     try_logs(tries)
     try_moves(tries)
+    try_two_sheets(tries)
     try_winners(tries)
     try_lives(tries)
     try_reports(tries)

@@ -7,12 +7,12 @@ use std::alloc::{AllocError, Global};
 const PROGRAM_HELP: &str = "\
 Exit status: 0 done, 2 wrong words, 3 the sheet is refused, 4 the input could not be read,
 5 the output could not be written, 6 not enough memory, 7 no such item, 8 the log is refused,
-9 the document is refused.
+9 the document is refused, 10 the input has fewer bytes than N, 11 the second sheet is refused.
 
     cssmin min <sheet.css >sheet.min.css
     cssmin cmp 'a:hover' '.menu > a'
     { cat page.txt; echo; cat sheet.css; } | cssmin style
-    cssmin dead <sheet.css
+    cat sheet.css sheet.min.css | cssmin same $(wc -c <sheet.css)
 
 No file names are taken: name the sheet by `<`, and the target by `>`, which must be another file.";
 
@@ -172,6 +172,36 @@ fn why_command<'a>(alloc: Global) -> Result<Command<'a>, AllocError> {
         .arg(budget(alloc))
 }
 
+const SAME_HELP: &str = "\
+Standard input has two style sheets, one behind the other: the first one is the first N bytes. They
+are compared as the sheets of a page, with the rules inside of `@media`. Writes one of these to
+standard output, the first that is found:
+
+    same           they style every page alike
+    missing RULE   the second sheet lacks this pair of a selector and a declaration
+    extra RULE     the second sheet has this pair, and the first one does not
+    kept N         the rules or at-rules that are kept as they stand differ at the Nth of them, or
+                   it is in another order with a rule
+    reversed       the two pairs that follow are in another order, and in the small page behind
+                   them the other one wins
+    unsure R       two selectors are not compared, for the reason of the number R
+    unsure spent   the budget was spent before that was decided
+
+Nothing is written where a sheet is refused: the first one as `cssmin min` refuses it, the second
+one with status 11 and a line `second refused: KIND at N`, N in its own bytes from 0.";
+
+/// The command `same`.
+fn same_command<'a>(alloc: Global) -> Result<Command<'a>, AllocError> {
+    let split = Arg::new(alloc, "N")
+        .required(true)
+        .help("How many bytes the first sheet has");
+    Command::new(alloc, "same")
+        .about("Tell whether two style sheets style every page alike")
+        .after_help(SAME_HELP)
+        .arg(split.value_parser(value_parser!(u32)))?
+        .arg(budget(alloc))
+}
+
 /// The word `help`.
 fn help_command<'a>(alloc: Global) -> Command<'a> {
     Command::new(alloc, "help").about("Print this message")
@@ -190,6 +220,7 @@ pub(crate) fn program<'a>(alloc: Global, version: &'a str) -> Result<Command<'a>
         .subcommand(dead_command(alloc)?)?
         .subcommand(check_command(alloc))?
         .subcommand(why_command(alloc)?)?
+        .subcommand(same_command(alloc)?)?
         .subcommand(trial_command(alloc)?)?
         .disable_help_subcommand(true)
         .subcommand(help_command(alloc))

@@ -22,7 +22,7 @@ fn tells_why_words_are_refused(rt: HostRuntime) -> Result<(), Fail> {
         (
             "",
             &b"error: 'cssmin' requires a subcommand but one was not provided
-  [subcommands: min, cmp, style, dead, check, why, trial, help]
+  [subcommands: min, cmp, style, dead, check, why, same, trial, help]
 
 Usage: cssmin <COMMAND>
 
@@ -94,6 +94,7 @@ fn tells_how_it_is_used(rt: HostRuntime) -> Result<(), Fail> {
             b"Tell whether one element can match two selectors",
         ),
         (Topic::Why, b"Tell why a rule of a style sheet"),
+        (Topic::Same, b"Tell whether two style sheets"),
         (Topic::Style, b"Tell which declarations win"),
         (Topic::Dead, b"Tell which selectors of a style sheet"),
         (Topic::Check, b"Check a log that refutes a formula"),

@@ -56,6 +56,7 @@ pub fn help_text(alloc: Global, about: Topic) -> Result<Vec<u8>, AllocError>
         Topic::Min => &["cssmin", "min", "--help"],
         Topic::Cmp => &["cssmin", "cmp", "--help"],
         Topic::Why => &["cssmin", "why", "--help"],
+        Topic::Same => &["cssmin", "same", "--help"],
         Topic::Style => &["cssmin", "style", "--help"],
         Topic::Dead => &["cssmin", "dead", "--help"],
         Topic::Check => &["cssmin", "check", "--help"],

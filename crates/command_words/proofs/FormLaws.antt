@@ -2,7 +2,7 @@
 use Rattle.std.proofs.Common.{◌≡◌, ◌↔◌, ℕ, List, [], ◌∷◌, Bool, true, false, cond, not, ◌&&◌, ◌||◌, ◌==◌, Option, Some, None, refl, sym, ◌∙◌, ap, subst}
 use Rattle.std.specs.Cmp.Lexicographic.{bytes_decides}
 use Rattle.std.specs.Prelude.{codes, drop, take}
-use Rattle.command_words.specs.Forms.{Arguments, Min, Cmp, Help, Version, alone, arguments, moved, most_number, arguments_of, asked, asks_help, command_named, form_of, is_help, is_operand, is_word, most_budget, named, number_up_to, tried, most_rules, with_budget, with_log, with_report, with_operand, with_other_word, with_word, with_words}
+use Rattle.command_words.specs.Forms.{Arguments, Min, Cmp, Help, Version, alone, arguments, moved, compared, most_number, arguments_of, asked, asks_help, command_named, form_of, is_help, is_operand, is_word, most_budget, named, number_up_to, tried, most_rules, with_budget, with_log, with_report, with_operand, with_other_word, with_word, with_words}
 use Rattle.command_words.specs.declared.command.Topic.{Topic}
 use Rattle.command_words.specs.declared.command.Topic.TheVariants as topic
 
@@ -69,6 +69,10 @@ moved_is_not_min None to budget is = absurd (let bad : ⊥ = cc in bad)
 moved_is_not_min (Some from) None budget is = absurd (let bad : ⊥ = cc in bad)
 moved_is_not_min (Some from) (Some to) budget is = absurd (let bad : ⊥ = cc in bad)
 
+compared_is_not_min : (split budget : Option ℕ) → compared split budget ≡ Some (Min None false) → ⊥
+compared_is_not_min None budget is = absurd (let bad : ⊥ = cc in bad)
+compared_is_not_min (Some split) budget is = absurd (let bad : ⊥ = cc in bad)
+
 tried_is_not_min : (rules : Option ℕ) → tried rules ≡ Some (Min None false) → ⊥
 tried_is_not_min None is = absurd (let bad : ⊥ = cc in bad)
 tried_is_not_min (Some rules) is = absurd (let bad : ⊥ = cc in bad)
@@ -112,6 +116,12 @@ asked_min topic.Check (Some (arguments [] None false true)) is = absurd (let bad
 asked_min topic.Check (Some (arguments [] None false false)) is = absurd (let bad : ⊥ = cc in bad)
 asked_min topic.Check (Some (arguments [] (Some budget) log report)) is = absurd (let bad : ⊥ = cc in bad)
 asked_min topic.Check (Some (arguments (first ∷ more) budget log report)) is = absurd (let bad : ⊥ = cc in bad)
+asked_min topic.Same None is = absurd (let bad : ⊥ = cc in bad)
+asked_min topic.Same (Some (arguments [] budget log report)) is = absurd (let bad : ⊥ = cc in bad)
+asked_min topic.Same (Some (arguments (split ∷ []) budget true report)) is = absurd (let bad : ⊥ = cc in bad)
+asked_min topic.Same (Some (arguments (split ∷ []) budget false true)) is = absurd (let bad : ⊥ = cc in bad)
+asked_min topic.Same (Some (arguments (split ∷ []) budget false false)) is = absurd (compared_is_not_min (number_up_to most_number split) budget is)
+asked_min topic.Same (Some (arguments (first ∷ second ∷ more) budget log report)) is = absurd (let bad : ⊥ = cc in bad)
 asked_min topic.Trial None is = absurd (let bad : ⊥ = cc in bad)
 asked_min topic.Trial (Some (arguments [] budget log report)) is = absurd (let bad : ⊥ = cc in bad)
 asked_min topic.Trial (Some (arguments (rules ∷ []) None true report)) is = absurd (let bad : ⊥ = cc in bad)
@@ -139,17 +149,21 @@ named_min (Some about) name words is = by (asks_help words) is
 
 command_min : (name : List ℕ) → command_named name ≡ Some topic.Min → name ≡ codes "min"
 unfolding command_named
-command_min name is = by (is_word name (codes "min")) (is_word name (codes "dead")) (is_word name (codes "style")) (is_word name (codes "cmp")) (is_word name (codes "check")) (is_word name (codes "why")) (is_word name (codes "trial")) refl is
+command_min name is =
+    by (is_word name (codes "min")) (is_word name (codes "dead")) (is_word name (codes "style")) (is_word name (codes "cmp")) (is_word name (codes "check")) (is_word name (codes "why")) (is_word name (codes "same")) (is_word name (codes "trial")) refl is
   where
-    by : (b c d e f g h : Bool) → is_word name (codes "min") ≡ b → cond b (Some topic.Min) (cond c (Some topic.Dead) (cond d (Some topic.Style) (cond e (Some topic.Cmp) (cond f (Some topic.Check) (cond g (Some topic.Why) (cond h (Some topic.Trial) None)))))) ≡ Some topic.Min → name ≡ codes "min"
-    by true c d e f g h test is = (bytes_decides name (codes "min")).0 test
-    by false true d e f g h test is = absurd (let bad : ⊥ = cc in bad)
-    by false false true e f g h test is = absurd (let bad : ⊥ = cc in bad)
-    by false false false true f g h test is = absurd (let bad : ⊥ = cc in bad)
-    by false false false false true g h test is = absurd (let bad : ⊥ = cc in bad)
-    by false false false false false true h test is = absurd (let bad : ⊥ = cc in bad)
-    by false false false false false false true test is = absurd (let bad : ⊥ = cc in bad)
-    by false false false false false false false test is = absurd (let bad : ⊥ = cc in bad)
+    by : (b c d e f g h i : Bool) → is_word name (codes "min") ≡ b
+        → cond b (Some topic.Min) (cond c (Some topic.Dead) (cond d (Some topic.Style) (cond e (Some topic.Cmp) (cond f (Some topic.Check) (cond g (Some topic.Why) (cond h (Some topic.Same) (cond i (Some topic.Trial) None))))))) ≡ Some topic.Min
+        → name ≡ codes "min"
+    by true c d e f g h i test is = (bytes_decides name (codes "min")).0 test
+    by false true d e f g h i test is = absurd (let bad : ⊥ = cc in bad)
+    by false false true e f g h i test is = absurd (let bad : ⊥ = cc in bad)
+    by false false false true f g h i test is = absurd (let bad : ⊥ = cc in bad)
+    by false false false false true g h i test is = absurd (let bad : ⊥ = cc in bad)
+    by false false false false false true h i test is = absurd (let bad : ⊥ = cc in bad)
+    by false false false false false false true i test is = absurd (let bad : ⊥ = cc in bad)
+    by false false false false false false false true test is = absurd (let bad : ⊥ = cc in bad)
+    by false false false false false false false false test is = absurd (let bad : ⊥ = cc in bad)
 
 min_only : (words : List (List ℕ)) → form_of words ≡ Some (Min None false) → words ≡ codes "min" ∷ []
 min_only [] is = absurd (let bad : ⊥ = cc in bad)

@@ -14,6 +14,7 @@ pub data Form : Type 0 where
   Cmp : (left right : List ℕ) (budget : Option ℕ) (log : Bool) → Form
   Check : Form
   Why : (from to : ℕ) (budget : Option ℕ) → Form
+  Same : (split : ℕ) (budget : Option ℕ) → Form
   Trial : (rules : ℕ) → Form
   Help : Topic → Form
   Version : Form
@@ -37,7 +38,7 @@ is_operand (c ∷ cs) = not (c == 45)
 abbrev pub most_budget : ℕ
 most_budget = 20000
 
--- the greatest number of an item that words may name
+-- the greatest number of an item or of bytes that words may name
 abbrev pub most_number : ℕ
 most_number = 4294967295
 
@@ -109,6 +110,11 @@ abbrev pub moved : (from to budget : Option ℕ) → Option Form
 moved (Some from) (Some to) budget = Some (Why from to budget)
 moved from to budget = None
 
+-- a number of bytes
+abbrev pub compared : (split budget : Option ℕ) → Option Form
+compared (Some split) budget = Some (Same split budget)
+compared None budget = None
+
 -- a number of rules
 abbrev pub tried : (rules : Option ℕ) → Option Form
 tried (Some rules) = Some (Trial rules)
@@ -122,6 +128,7 @@ asked topic.Style (Some (arguments [] None false false)) = Some Style
 asked topic.Cmp (Some (arguments (left ∷ right ∷ []) budget log false)) = Some (Cmp left right budget log)
 asked topic.Check (Some (arguments [] None false false)) = Some Check
 asked topic.Why (Some (arguments (from ∷ to ∷ []) budget false false)) = moved (number_up_to most_number from) (number_up_to most_number to) budget
+asked topic.Same (Some (arguments (split ∷ []) budget false false)) = compared (number_up_to most_number split) budget
 asked topic.Trial (Some (arguments (rules ∷ []) None false false)) = tried (number_up_to most_rules rules)
 asked about words = None
 
@@ -134,6 +141,7 @@ command_named name =
     else if is_word name (codes "cmp") then Some topic.Cmp
     else if is_word name (codes "check") then Some topic.Check
     else if is_word name (codes "why") then Some topic.Why
+    else if is_word name (codes "same") then Some topic.Same
     else if is_word name (codes "trial") then Some topic.Trial else None
 
 -- whether the words behind a command ask how it is used

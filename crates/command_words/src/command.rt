@@ -41,6 +41,8 @@ pub enum Topic {
     Cmp,
     /// The command `why`.
     Why,
+    /// The command `same`.
+    Same,
     /// The command `check`.
     Check,
     /// The command `trial`.
@@ -83,6 +85,13 @@ pub enum Command<'a> {
         from: u32,
         /// The number of the one that it is moved to.
         to: u32,
+        /// How many clauses may be learned for a pair, where the words say it: at most `MOST_BUDGET`.
+        budget: Option<u32>,
+    },
+    /// Compare two style sheets, the first of which has the first bytes of the input.
+    Same {
+        /// How many bytes the first sheet has.
+        split: u32,
         /// How many clauses may be learned for a pair, where the words say it: at most `MOST_BUDGET`.
         budget: Option<u32>,
     },

@@ -36,6 +36,16 @@ fn moved<'a>(from: &str, to: &str, budget: Option<u32>) -> Option<Command<'a>>
     }
 }
 
+/// The comparison of two sheets, where the word is a number of bytes.
+fn compared<'a>(split: &str, budget: Option<u32>) -> Option<Command<'a>>
+    ensures { form_if_some result ≡ forms.compared (forms.number_up_to forms.most_number split.now) budget }
+{
+    match number_up_to(u32::MAX, split) {
+        Some(split) => Some(Command::Same { split, budget }),
+        None => None,
+    }
+}
+
 /// The trial of a made sheet, where the word is a number of its rules.
 fn tried<'a>(rules: &str) -> Option<Command<'a>>
     ensures { form_if_some result ≡ forms.tried (forms.number_up_to forms.most_rules rules.now) }
@@ -73,6 +83,7 @@ fn asked<'a>(about: Topic, words: Option<Arguments<'a>>) -> Option<Command<'a>>
         }),
         (Topic::Check, Operands::None, None, false, false) => Some(Command::Check),
         (Topic::Why, Operands::Two(from, to), budget, false, false) => moved(from, to, budget),
+        (Topic::Same, Operands::One(split), budget, false, false) => compared(split, budget),
         (Topic::Trial, Operands::One(rules), None, false, false) => tried(rules),
         _ => None,
     }
@@ -95,6 +106,8 @@ fn command_named(name: &str) -> Option<Topic>
         Some(Topic::Check)
     } else if name == "why" {
         Some(Topic::Why)
+    } else if name == "same" {
+        Some(Topic::Same)
     } else if name == "trial" {
         Some(Topic::Trial)
     } else {

@@ -21,7 +21,7 @@ use Rattle.cssmin.specs.Change.{Change}
 use Rattle.cssmin.specs.Commands.Min.{Merges, MinDoes}
 use Rattle.cssmin.specs.Run.{Ran}
 use Rattle.cssmin.specs.declared.status.Status.{Status}
-use Rattle.cssmin.specs.declared.status.Status.TheVariants.{Done, Usage, SheetRefused, NoItem, DocRefused, LogRefused, ReadFault, WriteFault, NoMemory}
+use Rattle.cssmin.specs.declared.status.Status.TheVariants.{Done, Usage, SheetRefused, NoItem, DocRefused, LogRefused, NoSplit, SecondRefused, ReadFault, WriteFault, NoMemory}
 use Rattle.cssmin.proofs.Forms.{min_did}
 
 -- where a true answer is that the budget was spent, there was one
@@ -49,6 +49,8 @@ made budget asked (SheetRefused fault) input output err held pairs does is = abs
 made budget asked (NoItem fault) input output err held pairs does is = absurd (let none : held ≡ None = does.2 in let bad : ⊥ = cc in bad)
 made budget asked (DocRefused fault) input output err held pairs does is = absurd (let none : held ≡ None = does.2 in let bad : ⊥ = cc in bad)
 made budget asked (LogRefused fault) input output err held pairs does is = absurd (let none : held ≡ None = does.2 in let bad : ⊥ = cc in bad)
+made budget asked (NoSplit fault) input output err held pairs does is = absurd (let none : held ≡ None = does.2 in let bad : ⊥ = cc in bad)
+made budget asked (SecondRefused fault) input output err held pairs does is = absurd (let none : held ≡ None = does.2 in let bad : ⊥ = cc in bad)
 made budget asked ReadFault input output err held pairs does is = absurd (let none : held ≡ None = does.1 in let bad : ⊥ = cc in bad)
 made budget asked WriteFault input output err held pairs does is = (does.read, does.text, does.report, does.made)
 made budget asked NoMemory input output err held pairs does is = absurd (let none : held ≡ None = does.0 in let bad : ⊥ = cc in bad)

@@ -2,16 +2,18 @@
 use Rattle.std.proofs.Common.{Bool, ◌≡◌, ◌⊎◌, ◌↔◌, inl, inr, ℕ, List, [], true, false, Option, Some, None, IsSomeAnd, refl, sym, ◌∙◌, ap, subst}
 use Rattle.std.proofs.lemmas.Bool.{false≢true}
 use Rattle.std.specs.Prelude.{IsNone}
-use Rattle.command_words.specs.Forms.{Form, Min, Style, Dead, Cmp, Check, Why, Trial, Help, Version, form_of}
+use Rattle.command_words.specs.Forms.{Form, Min, Style, Dead, Cmp, Check, Why, Same, Trial, Help, Version, form_of}
 use Rattle.css_model.specs.declared.fault.SheetFault.{SheetFault}
 use Rattle.css_model.specs.Sheets.Limits.{max_bytes}
 use Rattle.log_text.specs.CheckedTexts.{max_log_bytes}
 use Rattle.overlap.specs.PairsParts.{PairsParts}
+use Rattle.same_text.specs.SameTexts.{max_both}
 use Rattle.cssmin.specs.Change.{Change, HasFailed}
 use Rattle.cssmin.specs.Commands.Check.{CheckDoes, CheckRefuses, Checks}
 use Rattle.cssmin.specs.Commands.Cmp.{CmpDoes}
 use Rattle.cssmin.specs.Commands.Dead.{DeadDoes, TellsLives}
 use Rattle.cssmin.specs.Commands.Min.{Merges, MinDoes, MinRefuses}
+use Rattle.cssmin.specs.Commands.Same.{ComparesSheets, SameDoes, SameRefuses}
 use Rattle.cssmin.specs.Commands.Style.{StyleDoes, StyleRefuses, TellsWinners}
 use Rattle.cssmin.specs.Commands.Trial.{TrialDoes}
 use Rattle.cssmin.specs.Commands.Why.{ExplainsMove, WhyDoes, WhyRefuses}
@@ -22,7 +24,7 @@ use Rattle.cssmin.specs.Telling.{Tells}
 use Rattle.cssmin.specs.Writing.{Stops, WritesSome}
 use Rattle.trial_gen.specs.Made.{made_sheet}
 use Rattle.cssmin.specs.declared.status.Status.{Status}
-use Rattle.cssmin.specs.declared.status.Status.TheVariants.{Done, Usage, SheetRefused, NoItem, DocRefused, LogRefused, ReadFault, WriteFault, NoMemory}
+use Rattle.cssmin.specs.declared.status.Status.TheVariants.{Done, Usage, SheetRefused, NoItem, DocRefused, LogRefused, NoSplit, SecondRefused, ReadFault, WriteFault, NoMemory}
 use Rattle.cssmin.proofs.Faults.{one_fault, fault_or_none, merged_no_fault}
 use Rattle.cssmin.proofs.Outcomes.{completes, completes_silent, refuses, silent_out, stops_failed, stops_out, told_of_does}
 
@@ -51,6 +53,9 @@ style_did words status input output err held ran is = did words (Some Style) sta
 pub why_did : (words : List (List ℕ)) (from to : ℕ) (budget : Option ℕ) (status : Status) (input output err : Change) (held : Option PairsParts) → Ran words status input output err held → form_of words ≡ Some (Why from to budget) → WhyDoes from to budget status input output err held
 why_did words from to budget status input output err held ran is = did words (Some (Why from to budget)) status input output err held ran is
 
+pub same_did : (words : List (List ℕ)) (split : ℕ) (budget : Option ℕ) (status : Status) (input output err : Change) (held : Option PairsParts) → Ran words status input output err held → form_of words ≡ Some (Same split budget) → SameDoes split budget status input output err held
+same_did words split budget status input output err held ran is = did words (Some (Same split budget)) status input output err held ran is
+
 pub trial_did : (words : List (List ℕ)) (rules : ℕ) (status : Status) (input output err : Change) (held : Option PairsParts) → Ran words status input output err held → form_of words ≡ Some (Trial rules) → TrialDoes rules status output err held
 trial_did words rules status input output err held ran is = did words (Some (Trial rules)) status input output err held ran is
 
@@ -63,6 +68,7 @@ no_usage Check input output err held h = h.0
 no_usage (Dead budget) input output err held h = h.0
 no_usage Style input output err held h = h.0
 no_usage (Why from to budget) input output err held h = h.0
+no_usage (Same split budget) input output err held h = h.0
 no_usage (Trial rules) input output err held h = h
 no_usage (Help about) input output err held h = h.0
 no_usage Version input output err held h = h.0
@@ -85,6 +91,7 @@ read_fault_of (Some Check) input output err held h = h.0
 read_fault_of (Some (Dead budget)) input output err held h = h.0
 read_fault_of (Some Style) input output err held h = h.0
 read_fault_of (Some (Why from to budget)) input output err held h = h.0
+read_fault_of (Some (Same split budget)) input output err held h = h.0
 read_fault_of (Some (Trial rules)) input output err held h = absurd h
 read_fault_of (Some (Help about)) input output err held h = absurd h.0
 read_fault_of (Some Version) input output err held h = absurd h.0
@@ -100,6 +107,7 @@ write_fault_of (Some Check) input output err held h = stops_failed h.text h.repo
 write_fault_of (Some (Dead budget)) input output err held h = stops_failed h.text h.report output err h.stopped
 write_fault_of (Some Style) input output err held h = stops_failed h.text h.report output err h.stopped
 write_fault_of (Some (Why from to budget)) input output err held h = stops_failed h.text h.report output err h.stopped
+write_fault_of (Some (Same split budget)) input output err held h = stops_failed h.text h.report output err h.stopped
 write_fault_of (Some (Trial rules)) input output err held h = stops_failed h.0 [] output err h.2
 write_fault_of (Some (Help about)) input output err held h = stops_failed h.0.0 [] output err h.0.2
 write_fault_of (Some Version) input output err held h = stops_failed h.0.0 [] output err h.0.2
@@ -130,6 +138,8 @@ one_refusal read (SheetRefused found) fault cause has = ap SheetRefused (one_fau
 one_refusal read (NoItem found) fault cause has = absurd cause
 one_refusal read (DocRefused found) fault cause has = absurd cause
 one_refusal read (LogRefused found) fault cause has = absurd cause
+one_refusal read (NoSplit found) fault cause has = absurd cause
+one_refusal read (SecondRefused found) fault cause has = absurd cause
 one_refusal read ReadFault fault cause has = absurd cause
 one_refusal read WriteFault fault cause has = absurd cause
 one_refusal read NoMemory fault cause has = absurd cause
@@ -142,6 +152,8 @@ no_refusal read (SheetRefused found) none cause = fault_or_none read found cause
 no_refusal read (NoItem found) none cause = cause
 no_refusal read (DocRefused found) none cause = cause
 no_refusal read (LogRefused found) none cause = cause
+no_refusal read (NoSplit found) none cause = cause
+no_refusal read (SecondRefused found) none cause = cause
 no_refusal read ReadFault none cause = cause
 no_refusal read WriteFault none cause = cause
 no_refusal read NoMemory none cause = cause
@@ -186,6 +198,10 @@ pub told_why : (words : List (List ℕ)) (from to : ℕ) (budget : Option ℕ) (
     → form_of words ≡ Some (Why from to budget) → IsSomeAnd input.old (λ read. (other : Status) → WhyRefuses from to other read → ⊥) → (HasFailed input → ⊥) → (HasFailed output → ⊥) → (status ≡ Done) ⊎ (status ≡ NoMemory)
 told_why words from to budget status input output err held ran is none sure safe = completes_silent max_bytes (ExplainsMove from to budget) (WhyRefuses from to) status input output err held (why_did words from to budget status input output err held ran is) none sure safe
 
+pub told_same : (words : List (List ℕ)) (split : ℕ) (budget : Option ℕ) (status : Status) (input output err : Change) (held : Option PairsParts) → Ran words status input output err held
+    → form_of words ≡ Some (Same split budget) → IsSomeAnd input.old (λ read. (other : Status) → SameRefuses split other read → ⊥) → (HasFailed input → ⊥) → (HasFailed output → ⊥) → (status ≡ Done) ⊎ (status ≡ NoMemory)
+told_same words split budget status input output err held ran is none sure safe = completes_silent max_both (ComparesSheets split budget) (SameRefuses split) status input output err held (same_did words split budget status input output err held ran is) none sure safe
+
 writes_done : (kind : List ℕ → Type 0) (status : Status) (output err : Change) → WritesSome kind status output err → (HasFailed output → ⊥) → (status ≡ Done) ⊎ (status ≡ NoMemory)
 writes_done kind Done output err h safe = inl refl
 writes_done kind Usage output err h safe = absurd h
@@ -193,6 +209,8 @@ writes_done kind (SheetRefused fault) output err h safe = absurd h
 writes_done kind (NoItem fault) output err h safe = absurd h
 writes_done kind (DocRefused fault) output err h safe = absurd h
 writes_done kind (LogRefused fault) output err h safe = absurd h
+writes_done kind (NoSplit fault) output err h safe = absurd h
+writes_done kind (SecondRefused fault) output err h safe = absurd h
 writes_done kind ReadFault output err h safe = absurd h
 writes_done kind WriteFault output err h safe = absurd (safe (stops_out h.0 output err h.2))
 writes_done kind NoMemory output err h safe = inr refl
@@ -204,6 +222,8 @@ cmp_done left right budget log (SheetRefused fault) output err held h safe = abs
 cmp_done left right budget log (NoItem fault) output err held h safe = absurd h
 cmp_done left right budget log (DocRefused fault) output err held h safe = absurd h
 cmp_done left right budget log (LogRefused fault) output err held h safe = absurd h
+cmp_done left right budget log (NoSplit fault) output err held h safe = absurd h
+cmp_done left right budget log (SecondRefused fault) output err held h safe = absurd h
 cmp_done left right budget log ReadFault output err held h safe = absurd h
 cmp_done left right budget log WriteFault output err held h safe = absurd (safe (stops_out h.0 output err h.2))
 cmp_done left right budget log NoMemory output err held h safe = inr refl
@@ -215,6 +235,8 @@ trial_done rules (SheetRefused fault) output err held h none safe = absurd (faul
 trial_done rules (NoItem fault) output err held h none safe = absurd h
 trial_done rules (DocRefused fault) output err held h none safe = absurd h
 trial_done rules (LogRefused fault) output err held h none safe = absurd h
+trial_done rules (NoSplit fault) output err held h none safe = absurd h
+trial_done rules (SecondRefused fault) output err held h none safe = absurd h
 trial_done rules ReadFault output err held h none safe = absurd h
 trial_done rules WriteFault output err held h none safe = absurd (safe (stops_out h.0 output err h.2))
 trial_done rules NoMemory output err held h none safe = inr refl
@@ -226,6 +248,7 @@ other_done Check status input output err held h unneeded none safe = absurd (fal
 other_done (Dead budget) status input output err held h unneeded none safe = absurd (false≢true (sym unneeded))
 other_done Style status input output err held h unneeded none safe = absurd (false≢true (sym unneeded))
 other_done (Why from to budget) status input output err held h unneeded none safe = absurd (false≢true (sym unneeded))
+other_done (Same split budget) status input output err held h unneeded none safe = absurd (false≢true (sym unneeded))
 other_done (Trial rules) status input output err held h unneeded none safe = trial_done rules status output err held h (none rules refl) safe
 other_done (Help about) status input output err held h unneeded none safe = writes_done _ status output err h.0 safe
 other_done Version status input output err held h unneeded none safe = writes_done _ status output err h.0 safe
@@ -243,6 +266,8 @@ some_told kind (SheetRefused fault) output err h undone unfailed = absurd h
 some_told kind (NoItem fault) output err h undone unfailed = absurd h
 some_told kind (DocRefused fault) output err h undone unfailed = absurd h
 some_told kind (LogRefused fault) output err h undone unfailed = absurd h
+some_told kind (NoSplit fault) output err h undone unfailed = absurd h
+some_told kind (SecondRefused fault) output err h undone unfailed = absurd h
 some_told kind ReadFault output err h undone unfailed = absurd h
 some_told kind WriteFault output err h undone unfailed = absurd (unfailed refl)
 some_told kind NoMemory output err h undone unfailed = h
@@ -254,6 +279,8 @@ cmp_told left right budget log (SheetRefused fault) output err held h undone unf
 cmp_told left right budget log (NoItem fault) output err held h undone unfailed = absurd h
 cmp_told left right budget log (DocRefused fault) output err held h undone unfailed = absurd h
 cmp_told left right budget log (LogRefused fault) output err held h undone unfailed = absurd h
+cmp_told left right budget log (NoSplit fault) output err held h undone unfailed = absurd h
+cmp_told left right budget log (SecondRefused fault) output err held h undone unfailed = absurd h
 cmp_told left right budget log ReadFault output err held h undone unfailed = absurd h
 cmp_told left right budget log WriteFault output err held h undone unfailed = absurd (unfailed refl)
 cmp_told left right budget log NoMemory output err held h undone unfailed = h.1
@@ -265,6 +292,8 @@ trial_told rules (SheetRefused fault) output err held h undone unfailed = h.2
 trial_told rules (NoItem fault) output err held h undone unfailed = absurd h
 trial_told rules (DocRefused fault) output err held h undone unfailed = absurd h
 trial_told rules (LogRefused fault) output err held h undone unfailed = absurd h
+trial_told rules (NoSplit fault) output err held h undone unfailed = absurd h
+trial_told rules (SecondRefused fault) output err held h undone unfailed = absurd h
 trial_told rules ReadFault output err held h undone unfailed = absurd h
 trial_told rules WriteFault output err held h undone unfailed = absurd (unfailed refl)
 trial_told rules NoMemory output err held h undone unfailed = h.1
@@ -277,6 +306,7 @@ told_of (Some Check) status input output err held h undone unfailed = told_of_do
 told_of (Some (Dead budget)) status input output err held h undone unfailed = told_of_does max_bytes (Silent (TellsLives budget)) MinRefuses status input output err held h undone unfailed
 told_of (Some Style) status input output err held h undone unfailed = told_of_does max_bytes (Silent TellsWinners) StyleRefuses status input output err held h undone unfailed
 told_of (Some (Why from to budget)) status input output err held h undone unfailed = told_of_does max_bytes (Silent (ExplainsMove from to budget)) (WhyRefuses from to) status input output err held h undone unfailed
+told_of (Some (Same split budget)) status input output err held h undone unfailed = told_of_does max_both (Silent (ComparesSheets split budget)) (SameRefuses split) status input output err held h undone unfailed
 told_of (Some (Trial rules)) status input output err held h undone unfailed = trial_told rules status output err held h undone unfailed
 told_of (Some (Help about)) status input output err held h undone unfailed = some_told _ status output err h.0 undone unfailed
 told_of (Some Version) status input output err held h undone unfailed = some_told _ status output err h.0 undone unfailed

@@ -7,7 +7,7 @@ use Rattle.cssmin.specs.Tasks.{Began, Did, Does, Reads, Silent}
 use Rattle.cssmin.specs.Telling.{Tells}
 use Rattle.cssmin.specs.Writing.{Stops, Writes}
 use Rattle.cssmin.specs.declared.status.Status.{Status}
-use Rattle.cssmin.specs.declared.status.Status.TheVariants.{Done, Usage, SheetRefused, NoItem, DocRefused, LogRefused, ReadFault, WriteFault, NoMemory}
+use Rattle.cssmin.specs.declared.status.Status.TheVariants.{Done, Usage, SheetRefused, NoItem, DocRefused, LogRefused, NoSplit, SecondRefused, ReadFault, WriteFault, NoMemory}
 use Rattle.cssmin.specs.declared.tasks.Answer.{Answer}
 
 -- ---- Failed writes
@@ -35,6 +35,8 @@ stopped_as most Makes Refuses (SheetRefused fault) input output err held why non
 stopped_as most Makes Refuses (NoItem fault) input output err held why none told = (tt, why.1, none, told)
 stopped_as most Makes Refuses (DocRefused fault) input output err held why none told = (tt, why.1, none, told)
 stopped_as most Makes Refuses (LogRefused fault) input output err held why none told = (tt, why.1, none, told)
+stopped_as most Makes Refuses (NoSplit fault) input output err held why none told = (tt, why.1, none, told)
+stopped_as most Makes Refuses (SecondRefused fault) input output err held why none told = (tt, why.1, none, told)
 stopped_as most Makes Refuses ReadFault input output err held why none told = (why, none, told)
 stopped_as most Makes Refuses WriteFault input output err held why none told = absurd why.0
 stopped_as most Makes Refuses NoMemory input output err held why none told = (none, told)
@@ -55,6 +57,8 @@ wrote most Makes Refuses answer (SheetRefused fault) input output err made writt
 wrote most Makes Refuses answer (NoItem fault) input output err made written = absurd written
 wrote most Makes Refuses answer (DocRefused fault) input output err made written = absurd written
 wrote most Makes Refuses answer (LogRefused fault) input output err made written = absurd written
+wrote most Makes Refuses answer (NoSplit fault) input output err made written = absurd written
+wrote most Makes Refuses answer (SecondRefused fault) input output err made written = absurd written
 wrote most Makes Refuses answer ReadFault input output err made written = absurd written
 wrote most Makes Refuses answer WriteFault input output err made written = record { read = made.0; text = answer.text.items; report = answer.report.items; all_read = made.1; made = made.2; stopped = written }
 wrote most Makes Refuses answer NoMemory input output err made written = absurd written
@@ -77,6 +81,8 @@ refuses_of most Makes Refuses wanted (SheetRefused fault) (Some bytes) left' n n
 refuses_of most Makes Refuses wanted (NoItem fault) (Some bytes) left' n n' output err held does unmade one has sure = inl (one bytes (NoItem fault) does.1.0 has)
 refuses_of most Makes Refuses wanted (DocRefused fault) (Some bytes) left' n n' output err held does unmade one has sure = inl (one bytes (DocRefused fault) does.1.0 has)
 refuses_of most Makes Refuses wanted (LogRefused fault) (Some bytes) left' n n' output err held does unmade one has sure = inl (one bytes (LogRefused fault) does.1.0 has)
+refuses_of most Makes Refuses wanted (NoSplit fault) (Some bytes) left' n n' output err held does unmade one has sure = inl (one bytes (NoSplit fault) does.1.0 has)
+refuses_of most Makes Refuses wanted (SecondRefused fault) (Some bytes) left' n n' output err held does unmade one has sure = inl (one bytes (SecondRefused fault) does.1.0 has)
 refuses_of most Makes Refuses wanted ReadFault (Some bytes) left' n n' output err held does unmade one has sure = absurd (sure does.0)
 refuses_of most Makes Refuses wanted WriteFault (Some bytes) left' n n' output err held does unmade one has sure =
     absurd (unmade does.read does.text does.report held does.made (subst (Refuses wanted) does.all_read.0 has))
@@ -103,6 +109,8 @@ completes_of most Makes Refuses (SheetRefused fault) (Some bytes) left' n n' out
 completes_of most Makes Refuses (NoItem fault) (Some bytes) left' n n' output err held does none sure safe = absurd (none (NoItem fault) does.1.0)
 completes_of most Makes Refuses (DocRefused fault) (Some bytes) left' n n' output err held does none sure safe = absurd (none (DocRefused fault) does.1.0)
 completes_of most Makes Refuses (LogRefused fault) (Some bytes) left' n n' output err held does none sure safe = absurd (none (LogRefused fault) does.1.0)
+completes_of most Makes Refuses (NoSplit fault) (Some bytes) left' n n' output err held does none sure safe = absurd (none (NoSplit fault) does.1.0)
+completes_of most Makes Refuses (SecondRefused fault) (Some bytes) left' n n' output err held does none sure safe = absurd (none (SecondRefused fault) does.1.0)
 completes_of most Makes Refuses ReadFault (Some bytes) left' n n' output err held does none sure safe = absurd (sure does.0)
 completes_of most Makes Refuses WriteFault (Some bytes) left' n n' output err held does none sure safe = absurd (safe does)
 completes_of most Makes Refuses NoMemory (Some bytes) left' n n' output err held does none sure safe = inr refl
@@ -130,6 +138,8 @@ told_of_does most Makes Refuses (SheetRefused fault) input output err held does 
 told_of_does most Makes Refuses (NoItem fault) input output err held does undone unfailed = does.3
 told_of_does most Makes Refuses (DocRefused fault) input output err held does undone unfailed = does.3
 told_of_does most Makes Refuses (LogRefused fault) input output err held does undone unfailed = does.3
+told_of_does most Makes Refuses (NoSplit fault) input output err held does undone unfailed = does.3
+told_of_does most Makes Refuses (SecondRefused fault) input output err held does undone unfailed = does.3
 told_of_does most Makes Refuses ReadFault input output err held does undone unfailed = does.2
 told_of_does most Makes Refuses WriteFault input output err held does undone unfailed = absurd (unfailed refl)
 told_of_does most Makes Refuses NoMemory input output err held does undone unfailed = does.1

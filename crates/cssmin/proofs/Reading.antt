@@ -8,7 +8,7 @@ use Rattle.cssmin.specs.Change.{Change}
 use Rattle.cssmin.specs.Status.{IsRefusal}
 use Rattle.cssmin.specs.Tasks.{IsAnswered, IsRefused, Reads}
 use Rattle.cssmin.specs.declared.status.Status.{Status}
-use Rattle.cssmin.specs.declared.status.Status.TheVariants.{Done, Usage, SheetRefused, NoItem, DocRefused, LogRefused, ReadFault, WriteFault, NoMemory}
+use Rattle.cssmin.specs.declared.status.Status.TheVariants.{Done, Usage, SheetRefused, NoItem, DocRefused, LogRefused, NoSplit, SecondRefused, ReadFault, WriteFault, NoMemory}
 use Rattle.cssmin.specs.declared.tasks.Answer.{Answer}
 
 -- all that was left was taken, where it is within the limit
@@ -36,6 +36,8 @@ reads_too_long most Makes Refuses (SheetRefused fault) left left' n n' is cause 
 reads_too_long most Makes Refuses (NoItem fault) left left' n n' is cause taken = (tt, long_read most (Refuses (NoItem fault)) left left' cause taken)
 reads_too_long most Makes Refuses (DocRefused fault) left left' n n' is cause taken = (tt, long_read most (Refuses (DocRefused fault)) left left' cause taken)
 reads_too_long most Makes Refuses (LogRefused fault) left left' n n' is cause taken = (tt, long_read most (Refuses (LogRefused fault)) left left' cause taken)
+reads_too_long most Makes Refuses (NoSplit fault) left left' n n' is cause taken = (tt, long_read most (Refuses (NoSplit fault)) left left' cause taken)
+reads_too_long most Makes Refuses (SecondRefused fault) left left' n n' is cause taken = (tt, long_read most (Refuses (SecondRefused fault)) left left' cause taken)
 reads_too_long most Makes Refuses ReadFault left left' n n' is cause taken = absurd is
 reads_too_long most Makes Refuses WriteFault left left' n n' is cause taken = absurd is
 reads_too_long most Makes Refuses NoMemory left left' n n' is cause taken = absurd is
@@ -64,6 +66,8 @@ reads_answered most Makes Refuses (Err (SheetRefused fault)) read left left' n n
 reads_answered most Makes Refuses (Err (NoItem fault)) read left left' n n' all short is = (tt, refused_read most (Refuses (NoItem fault)) left left' read all short is.1)
 reads_answered most Makes Refuses (Err (DocRefused fault)) read left left' n n' all short is = (tt, refused_read most (Refuses (DocRefused fault)) left left' read all short is.1)
 reads_answered most Makes Refuses (Err (LogRefused fault)) read left left' n n' all short is = (tt, refused_read most (Refuses (LogRefused fault)) left left' read all short is.1)
+reads_answered most Makes Refuses (Err (NoSplit fault)) read left left' n n' all short is = (tt, refused_read most (Refuses (NoSplit fault)) left left' read all short is.1)
+reads_answered most Makes Refuses (Err (SecondRefused fault)) read left left' n n' all short is = (tt, refused_read most (Refuses (SecondRefused fault)) left left' read all short is.1)
 reads_answered most Makes Refuses (Err ReadFault) read left left' n n' all short is = absurd is.0
 reads_answered most Makes Refuses (Err WriteFault) read left left' n n' all short is = absurd is.0
 reads_answered most Makes Refuses (Err NoMemory) read left left' n n' all short is = tt

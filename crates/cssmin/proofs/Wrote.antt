@@ -11,7 +11,7 @@ use Rattle.cssmin.specs.Status.{IsRefusal}
 use Rattle.cssmin.specs.Telling.{Tells}
 use Rattle.cssmin.specs.Writing.{Writes, WritesSome}
 use Rattle.cssmin.specs.declared.status.Status.{Status}
-use Rattle.cssmin.specs.declared.status.Status.TheVariants.{Done, Usage, SheetRefused, NoItem, DocRefused, LogRefused, ReadFault, WriteFault, NoMemory}
+use Rattle.cssmin.specs.declared.status.Status.TheVariants.{Done, Usage, SheetRefused, NoItem, DocRefused, LogRefused, NoSplit, SecondRefused, ReadFault, WriteFault, NoMemory}
 
 pub wrote_some : (kind : List ℕ → Type 0) (text : List ℕ) (status : Status) (output err : Change) → kind text → Writes text [] status output err → WritesSome kind status output err
 wrote_some kind text Done output err is wrote = (text, is, wrote)
@@ -20,6 +20,8 @@ wrote_some kind text (SheetRefused fault) output err is wrote = absurd wrote
 wrote_some kind text (NoItem fault) output err is wrote = absurd wrote
 wrote_some kind text (DocRefused fault) output err is wrote = absurd wrote
 wrote_some kind text (LogRefused fault) output err is wrote = absurd wrote
+wrote_some kind text (NoSplit fault) output err is wrote = absurd wrote
+wrote_some kind text (SecondRefused fault) output err is wrote = absurd wrote
 wrote_some kind text ReadFault output err is wrote = absurd wrote
 wrote_some kind text WriteFault output err is wrote = (text, is, wrote)
 wrote_some kind text NoMemory output err is wrote = absurd wrote
@@ -32,6 +34,8 @@ wrote_answer left right budget log held text (SheetRefused fault) output err is 
 wrote_answer left right budget log held text (NoItem fault) output err is wrote = absurd wrote
 wrote_answer left right budget log held text (DocRefused fault) output err is wrote = absurd wrote
 wrote_answer left right budget log held text (LogRefused fault) output err is wrote = absurd wrote
+wrote_answer left right budget log held text (NoSplit fault) output err is wrote = absurd wrote
+wrote_answer left right budget log held text (SecondRefused fault) output err is wrote = absurd wrote
 wrote_answer left right budget log held text ReadFault output err is wrote = absurd wrote
 wrote_answer left right budget log held text WriteFault output err is wrote = (text, is, wrote)
 wrote_answer left right budget log held text NoMemory output err is wrote = absurd wrote
@@ -43,6 +47,8 @@ wrote_trial rules held text (SheetRefused fault) output err is wrote = absurd wr
 wrote_trial rules held text (NoItem fault) output err is wrote = absurd wrote
 wrote_trial rules held text (DocRefused fault) output err is wrote = absurd wrote
 wrote_trial rules held text (LogRefused fault) output err is wrote = absurd wrote
+wrote_trial rules held text (NoSplit fault) output err is wrote = absurd wrote
+wrote_trial rules held text (SecondRefused fault) output err is wrote = absurd wrote
 wrote_trial rules held text ReadFault output err is wrote = absurd wrote
 wrote_trial rules held text WriteFault output err is wrote = (text, is, wrote)
 wrote_trial rules held text NoMemory output err is wrote = absurd wrote

@@ -3,6 +3,7 @@ pub mod Check
 pub mod Cmp
 pub mod Dead
 pub mod Min
+pub mod Same
 pub mod Style
 pub mod Trial
 pub mod Why

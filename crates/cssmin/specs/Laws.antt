@@ -7,13 +7,14 @@ use Rattle.cnf.specs.declared.lit.Lit.{Lit}
 use Rattle.css_model.specs.Documents.SelectorParts.{SelectorParts}
 use Rattle.overlap.specs.declared.answer.Answer.TheVariants.{Spent}
 use Rattle.overlap.specs.Remembered.{IsAnswered}
-use Rattle.command_words.specs.Forms.{Form, Min, Style, Dead, Cmp, Check, Why, Trial, form_of}
+use Rattle.command_words.specs.Forms.{Form, Min, Style, Dead, Cmp, Check, Why, Same, Trial, form_of}
 use Rattle.overlap.specs.PairsParts.{PairsParts}
 use Rattle.cssmin.specs.Change.{Change, HasFailed}
 use Rattle.cssmin.specs.Commands.Check.{CheckDoes, CheckRefuses}
 use Rattle.cssmin.specs.Commands.Cmp.{CmpDoes}
 use Rattle.cssmin.specs.Commands.Dead.{DeadDoes}
 use Rattle.cssmin.specs.Commands.Min.{Merges, MinDoes, MinRefuses}
+use Rattle.cssmin.specs.Commands.Same.{SameDoes, SameRefuses}
 use Rattle.cssmin.specs.Commands.Style.{StyleDoes, StyleRefuses}
 use Rattle.cssmin.specs.Commands.Trial.{TrialDoes}
 use Rattle.cssmin.specs.Commands.Why.{WhyDoes, WhyRefuses}
@@ -56,6 +57,10 @@ StyleDoesItsWord = (words : List (List ℕ)) (status : Status) (input output err
 -- words that ask for it do what `why` says
 abbrev pub WhyDoesItsWord : Type 0
 WhyDoesItsWord = (words : List (List ℕ)) (from to : ℕ) (budget : Option ℕ) (status : Status) (input output err : Change) (held : Option PairsParts) → Ran words status input output err held → form_of words ≡ Some (Why from to budget) → WhyDoes from to budget status input output err held
+
+-- words that ask for it do what `same` says
+abbrev pub SameDoesItsWord : Type 0
+SameDoesItsWord = (words : List (List ℕ)) (split : ℕ) (budget : Option ℕ) (status : Status) (input output err : Change) (held : Option PairsParts) → Ran words status input output err held → form_of words ≡ Some (Same split budget) → SameDoes split budget status input output err held
 
 -- words that try merging do what `trial` says
 abbrev pub TrialDoesItsWord : Type 0
@@ -134,6 +139,12 @@ abbrev pub MoveIsExplained : Type 0
 MoveIsExplained =
     (words : List (List ℕ)) (from to : ℕ) (budget : Option ℕ) (status : Status) (input output err : Change) (held : Option PairsParts) → Ran words status input output err held
     → form_of words ≡ Some (Why from to budget) → IsSomeAnd input.old (λ read. (other : Status) → WhyRefuses from to other read → ⊥) → (HasFailed input → ⊥) → (HasFailed output → ⊥) → (status ≡ Done) ⊎ (status ≡ NoMemory)
+
+-- two sheets that are not refused are compared, where no read or write failed and the memory sufficed
+abbrev pub SheetsAreCompared : Type 0
+SheetsAreCompared =
+    (words : List (List ℕ)) (split : ℕ) (budget : Option ℕ) (status : Status) (input output err : Change) (held : Option PairsParts) → Ran words status input output err held
+    → form_of words ≡ Some (Same split budget) → IsSomeAnd input.old (λ read. (other : Status) → SameRefuses split other read → ⊥) → (HasFailed input → ⊥) → (HasFailed output → ⊥) → (status ≡ Done) ⊎ (status ≡ NoMemory)
 
 -- what needs no input is done, where a made sheet has no fault, no write failed and the memory sufficed
 abbrev pub OthersAreDone : Type 0

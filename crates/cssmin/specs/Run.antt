@@ -1,15 +1,17 @@
 -- What a run of the program did, by what its words ask for and its status.
 use Rattle.std.specs.Prelude.{◌≡◌, ℕ, ◌+◌, Bool, true, false, List, Option, Some, None}
 use Rattle.command_texts.specs.Texts.{EndsLine, version_text}
-use Rattle.command_words.specs.Forms.{Form, Min, Style, Dead, Cmp, Check, Why, Trial, Help, Version, form_of}
+use Rattle.command_words.specs.Forms.{Form, Min, Style, Dead, Cmp, Check, Why, Same, Trial, Help, Version, form_of}
 use Rattle.css_model.specs.Sheets.Limits.{max_bytes}
 use Rattle.log_text.specs.CheckedTexts.{max_log_bytes}
 use Rattle.overlap.specs.PairsParts.{PairsParts}
+use Rattle.same_text.specs.SameTexts.{max_both}
 use Rattle.cssmin.specs.Change.{Change}
 use Rattle.cssmin.specs.Commands.Check.{CheckDoes}
 use Rattle.cssmin.specs.Commands.Cmp.{CmpDoes}
 use Rattle.cssmin.specs.Commands.Dead.{DeadDoes}
 use Rattle.cssmin.specs.Commands.Min.{MinDoes}
+use Rattle.cssmin.specs.Commands.Same.{SameDoes}
 use Rattle.cssmin.specs.Commands.Style.{StyleDoes}
 use Rattle.cssmin.specs.Commands.Trial.{TrialDoes}
 use Rattle.cssmin.specs.Commands.Why.{WhyDoes}
@@ -27,6 +29,7 @@ Outcome Style status input output err held = StyleDoes status input output err h
 Outcome (Cmp left right budget log) status input output err held = CmpDoes left right budget log status output err held
 Outcome Check status input output err held = CheckDoes status input output err held
 Outcome (Why from to budget) status input output err held = WhyDoes from to budget status input output err held
+Outcome (Same split budget) status input output err held = SameDoes split budget status input output err held
 Outcome (Trial rules) status input output err held = TrialDoes rules status output err held
 Outcome (Help about) status input output err held = WritesSome EndsLine status output err × (held ≡ None)
 Outcome Version status input output err held = WritesSome (λ text. text ≡ version_text) status output err × (held ≡ None)
@@ -45,13 +48,15 @@ needs_input (Some Style) = true
 needs_input (Some (Cmp left right budget log)) = false
 needs_input (Some Check) = true
 needs_input (Some (Why from to budget)) = true
+needs_input (Some (Same split budget)) = true
 needs_input (Some (Trial rules)) = false
 needs_input (Some (Help about)) = false
 needs_input (Some Version) = false
 
--- the most bytes of the input that are taken: one past the limit of a log, or of a sheet
+-- the most bytes of the input that are taken: one past the limit of a log, of two sheets, or of a sheet
 abbrev pub most_taken : Option Form → ℕ
 most_taken (Some Check) = max_log_bytes + 1
+most_taken (Some (Same split budget)) = max_both + 1
 most_taken form = max_bytes + 1
 
 -- A run on these words ended with this status: it did what the words ask for, and told what came of that.

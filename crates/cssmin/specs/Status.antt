@@ -6,7 +6,7 @@ use Rattle.cssmin.specs.declared.status.LogFault.{LogFault}
 use Rattle.cssmin.specs.declared.status.LogFault.TheVariants.{TooLong, BadLine}
 use Rattle.style_text.specs.Messages.{doc_fault_text}
 use Rattle.cssmin.specs.declared.status.Status.{Status}
-use Rattle.cssmin.specs.declared.status.Status.TheVariants.{Done, Usage, SheetRefused, NoItem, DocRefused, LogRefused, ReadFault, WriteFault, NoMemory}
+use Rattle.cssmin.specs.declared.status.Status.TheVariants.{Done, Usage, SheetRefused, NoItem, DocRefused, LogRefused, NoSplit, SecondRefused, ReadFault, WriteFault, NoMemory}
 
 abbrev pub number_of : Status → ℕ
 number_of Done = 0
@@ -18,6 +18,8 @@ number_of NoMemory = 6
 number_of (NoItem number) = 7
 number_of (DocRefused fault) = 9
 number_of (LogRefused fault) = 8
+number_of (NoSplit number) = 10
+number_of (SecondRefused fault) = 11
 
 -- why a log is refused
 abbrev pub log_fault_text : LogFault → List ℕ
@@ -31,6 +33,8 @@ IsMessage Done text = text ≡ []
 IsMessage Usage text = EndsLine text
 IsMessage (SheetRefused fault) text = text ≡ codes "refused: " ++ fault_text fault ++ 10 ∷ []
 IsMessage (LogRefused fault) text = text ≡ codes "log refused: " ++ log_fault_text fault ++ 10 ∷ []
+IsMessage (NoSplit number) text = text ≡ codes "no split " ++ decimal number ++ 10 ∷ []
+IsMessage (SecondRefused fault) text = text ≡ codes "second refused: " ++ fault_text fault ++ 10 ∷ []
 IsMessage (NoItem number) text = text ≡ codes "no item " ++ decimal number ++ 10 ∷ []
 IsMessage ReadFault text = text ≡ codes "read fault" ++ 10 ∷ []
 IsMessage WriteFault text = text ≡ codes "write fault" ++ 10 ∷ []
@@ -43,4 +47,6 @@ IsRefusal (SheetRefused fault) = Unit {0}
 IsRefusal (NoItem number) = Unit {0}
 IsRefusal (DocRefused fault) = Unit {0}
 IsRefusal (LogRefused fault) = Unit {0}
+IsRefusal (NoSplit number) = Unit {0}
+IsRefusal (SecondRefused fault) = Unit {0}
 IsRefusal status = ⊥

@@ -5,6 +5,7 @@ pub(crate) mod check;
 pub(crate) mod cmp;
 pub(crate) mod dead;
 pub(crate) mod min;
+pub(crate) mod same;
 pub(crate) mod style;
 pub(crate) mod trial;
 pub(crate) mod why;

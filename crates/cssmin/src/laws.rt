@@ -11,6 +11,7 @@ pub(crate) fn words_decide_usage()
     ensures style { laws.StyleDoesItsWord }
     ensures dead { laws.DeadDoesItsWord }
     ensures check { laws.CheckDoesItsWord }
+    ensures same { laws.SameDoesItsWord }
     ensures trial { laws.TrialDoesItsWord }
 {}
 
@@ -33,6 +34,7 @@ pub(crate) fn each_sheet_has_its_status()
     ensures told_dead { laws.SheetIsTold }
     ensures told_style { laws.PageIsTold }
     ensures told_why { laws.MoveIsExplained }
+    ensures told_same { laws.SheetsAreCompared }
     ensures others { laws.OthersAreDone }
 {}
 

@@ -12,6 +12,7 @@ use crate::commands::check::Check;
 use crate::commands::cmp::cmp;
 use crate::commands::dead::Dead;
 use crate::commands::min::Min;
+use crate::commands::same::Same;
 use crate::commands::style::Style;
 use crate::commands::trial::trial;
 use crate::commands::why::Why;
@@ -77,6 +78,9 @@ fn obey<S: Source, O: Sink, E: Sink>(
                 held,
             )
         }
+        Some(Command::Same { split, budget }) => {
+            perform(alloc, words, &Same { split, budget }, input, out, err, held)
+        }
         Some(Command::Trial { rules }) => trial(alloc, words, rules.number(), out, err, held),
         Some(Command::Help(about)) => help(alloc, about, out, err),
         Some(Command::Version) => version(alloc, out, err),
@@ -92,12 +96,14 @@ fn obey<S: Source, O: Sink, E: Sink>(
 /// sheet, and writes to `out` which declarations win. `cmp LEFT RIGHT` compares two selectors,
 /// and writes to `out` whether one element can match both. `check` reads a log, and writes to `out` whether it
 /// refutes its formula. `why FROM TO` reads a sheet, and writes to `out` what hinders the move of one rule to another;
-/// `NoItem` comes exactly where there is no item of one of these numbers. `trial N` merges a made sheet of N rules, and writes
+/// `NoItem` comes exactly where there is no item of one of these numbers. `same N` reads two sheets, the first one of N bytes,
+/// and writes to `out` what is found in them; `NoSplit` comes exactly where there are fewer bytes, and `SecondRefused` where the
+/// second sheet has a fault. `trial N` merges a made sheet of N rules, and writes
 /// to `out` what came of it. Words that ask for help or the version have it
 /// written to `out`. What else happened is told on `err`.
 ///
 /// `Usage` comes exactly of words that have no form. A sheet with a fault is refused (`SheetRefused`), and so is
-/// one of more than 1,048,576 bytes, after one byte more; so is a log (`LogRefused`), whose bound is 134,217,728 bytes. `ReadFault` comes only where a read failed,
+/// one of more than 1,048,576 bytes, after one byte more, or two of more than 2,097,152; so is a log (`LogRefused`), whose bound is 134,217,728 bytes. `ReadFault` comes only where a read failed,
 /// `WriteFault` only where a write failed, and after it the front of the text stands on `out`. No clause tells
 /// when memory is short: it may be at any point before the first byte is written, and a body that always
 /// answered so for words that have a form would meet them all. Tests stand against that. What follows for each

@@ -39,10 +39,14 @@ pub enum Status {
     DocRefused(DocFault),
     /// The log has a fault.
     LogRefused(LogFault),
+    /// The input has fewer bytes than this, which the first sheet was to have.
+    NoSplit(u32),
+    /// The second sheet has a fault.
+    SecondRefused(SheetFault),
 }
 
 impl Status {
-    /// The number of the status: 0, or 2 to 9.
+    /// The number of the status: 0, or 2 to 11.
     pub fn number(&self) -> u8
         ensures { result ≡ number_of self.now }
     {
@@ -56,6 +60,8 @@ impl Status {
             Status::NoItem(_) => 7,
             Status::DocRefused(_) => 9,
             Status::LogRefused(_) => 8,
+            Status::NoSplit(_) => 10,
+            Status::SecondRefused(_) => 11,
         }
     }
 

@@ -43,6 +43,20 @@ fn item_refusal(alloc: Global, number: u32) -> Result<String, AllocError>
     format!(in alloc; "no item {number}\n")
 }
 
+/// The line that names the number of bytes that the input has not.
+fn split_refusal(alloc: Global, number: u32) -> Result<String, AllocError>
+    ensures { IfOk result (λ text. IsMessage (Status.NoSplit number) (string_bytes text)) }
+{
+    format!(in alloc; "no split {number}\n")
+}
+
+/// The line that names the fault of the second sheet.
+fn second_refusal(alloc: Global, fault: SheetFault) -> Result<String, AllocError>
+    ensures { IfOk result (λ text. IsMessage (Status.SecondRefused fault) (string_bytes text)) }
+{
+    format!(in alloc; "second refused: {fault}\n")
+}
+
 /// Writes a text, as far as that goes.
 fn tell_text<E: Sink>(text: &[u8], err: &mut E)
     requires { (bytes : List ℕ) → E.fits err.old bytes }
@@ -122,6 +136,10 @@ pub(crate) fn tell<E: Sink>(
         Status::LogRefused(fault) => return tell_refusal(log_refusal(alloc, fault), status, err),
         Status::DocRefused(fault) => return tell_refusal(doc_refusal(alloc, fault), status, err),
         Status::NoItem(number) => return tell_refusal(item_refusal(alloc, number), status, err),
+        Status::NoSplit(number) => return tell_refusal(split_refusal(alloc, number), status, err),
+        Status::SecondRefused(fault) => {
+            return tell_refusal(second_refusal(alloc, fault), status, err);
+        }
         Status::ReadFault => tell_text(b"read fault\n", err),
         Status::WriteFault => tell_write_fault(err),
         Status::NoMemory => return tell_no_memory(err),

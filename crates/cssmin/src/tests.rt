@@ -357,6 +357,7 @@ fn tells_of_itself(rt: HostRuntime) -> Result<(), Fail> {
         "cmp --help",
         "cmp -h",
         "why --help",
+        "same --help",
         "style --help",
         "dead --help",
         "check --help",
@@ -531,6 +532,54 @@ fn tells_why_a_rule_may_not_be_moved(rt: HostRuntime) -> Result<(), Fail> {
     ] {
         let ran = run_over(rt.alloc(), line, sheet, Outside::faultless())?;
         ran.assert_is(&rt, Status::NoItem(number), b"", told);
+    }
+    Ok(())
+}
+
+#[test]
+fn compares_two_sheets(rt: HostRuntime) -> Result<(), Fail> {
+    for (line, sheets, text) in [
+        (
+            "same 16",
+            &b"a{top:0}b{top:0}a,b{top:0}"[..],
+            &b"same\n"[..],
+        ),
+        (
+            "same --budget 0 20",
+            b".a{top:0}.b{top:1px}.b{top:1px}.a{top:0}",
+            b"reversed\n.a{top:0}\n.b{top:1px}\nchild 0 pseudo none\n0 1 - x\n1 1 * x class=a%20b\n",
+        ),
+        ("same 8", b"a{top:0}", b"missing a{top:0}\n"),
+        ("same 0", b"a{top:0}", b"extra a{top:0}\n"),
+    ] {
+        let ran = run_over(rt.alloc(), line, sheets, Outside::faultless())?;
+        ran.assert_is(&rt, Status::Done, text, b"");
+        assert!(rt; ran.held.is_some(), "{line}");
+    }
+    let end = fault(FaultKind::EndInside, 4);
+    for (line, sheets, refused, told) in [
+        (
+            "same 9",
+            &b"a{top:0}"[..],
+            Status::NoSplit(9),
+            &b"no split 9\n"[..],
+        ),
+        (
+            "same 6",
+            b"a{b:\"xa{b:\"x",
+            Status::SheetRefused(end),
+            b"refused: EndInside at 4\n",
+        ),
+        (
+            "same 2",
+            b"@;a{b:\"x",
+            Status::SecondRefused(end),
+            b"second refused: EndInside at 4\n",
+        ),
+    ] {
+        let ran = run_over(rt.alloc(), line, sheets, Outside::faultless())?;
+        ran.assert_is(&rt, refused, b"", told);
+        assert!(rt; ran.held.is_none(), "{line}");
     }
     Ok(())
 }

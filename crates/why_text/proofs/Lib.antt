@@ -1,6 +1,7 @@
 mod Blocking
 mod Entries
 mod Evidence
+pub mod ForCallers
 mod FreeMoves
 mod Moves
 mod Numbers

@@ -35,10 +35,10 @@ use Rattle.why_text.proofs.Blocking.{explained_blocked, IsBlockedMove}
 use Rattle.why_text.proofs.Evidence.{meeting_shown}
 use Rattle.why_text.proofs.Places.{selector_is, decl_is}
 
-abbrev pair_with : SelectorParts → Decl → Pair
+abbrev pub pair_with : SelectorParts → Decl → Pair
 pair_with s d = record { selector = s; decl = d }
 
-abbrev pair_of : SelItem → DeclItem → Pair
+abbrev pub pair_of : SelItem → DeclItem → Pair
 pair_of s d = pair_with s.selector d.decl
 
 -- ---- Two rules that both apply
@@ -119,7 +119,7 @@ other_winners : (s : SelItem) (d : DeclItem) (t : SelItem) (f : DeclItem) → d.
 other_winners s d t f different same = different (sym (ap decl_of same))
 
 module _ (matching : MatchingIsDecided) (understanding : UnderstandingIsDecided) (s : SelItem) (d : DeclItem) (t : SelItem) (f : DeclItem) where
-  order_shown : (e : Example) → Weigh (pair_of s d) (pair_of t f) → ShowsMeeting s.selector t.selector e → ShowsOrder s d t f e
+  pub order_shown : (e : Example) → Weigh (pair_of s d) (pair_of t f) → ShowsMeeting s.selector t.selector e → ShowsOrder s d t f e
   order_shown e weigh shows =
       let doc = expand e in
       let target = target_of e in

@@ -57,7 +57,7 @@ last_is_there counts items x h =
       decl_is = h.decl_is;
     }
 
-last_is_place : (counts : ℕ → Bool) (items : List Item) (x : PlacedPair) → StandsLast counts items x → IsPlace items (place_of x.place)
+pub last_is_place : (counts : ℕ → Bool) (items : List Item) (x : PlacedPair) → StandsLast counts items x → IsPlace items (place_of x.place)
 last_is_place counts items x h = let w = last_is_there counts items x h in (w.selector, w.decl, w.stand)
 
 -- two rules at one place are one

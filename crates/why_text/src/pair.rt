@@ -46,8 +46,8 @@ fn print_rule(
     Ok(text)
 }
 
-/// The text of a pair of a sheet that is sound for `source`, as a rule.
-pub(crate) fn print_pair(
+/// The text of the pair at this place of a sheet that is sound for `source`, as a rule, such as `.a{left:0}`.
+pub fn print_pair(
     alloc: Global,
     source: &[u8],
     sheet: &Sheet,

@@ -1,4 +1,4 @@
-use Rattle.cssmin.proofs.Forms.{told_why, told_style, told_dead, checked, completed, others_done, refused_for}
+use Rattle.cssmin.proofs.Forms.{told_same, told_why, told_style, told_dead, checked, completed, others_done, refused_for}
 use Rattle.cssmin.proofs.laws.each_sheet_has_its_status.Goals as goal
 
 pub returns-clause-refuses : goal.returns-clause-refuses
@@ -21,3 +21,6 @@ returns-clause-told_style c = told_style
 
 pub returns-clause-told_why : goal.returns-clause-told_why
 returns-clause-told_why c = told_why
+
+pub returns-clause-told_same : goal.returns-clause-told_same
+returns-clause-told_same c = told_same

@@ -1,4 +1,4 @@
-use Rattle.cssmin.proofs.Forms.{why_did, style_did, dead_did, check_did, cmp_did, min_did, trial_did, usage_is}
+use Rattle.cssmin.proofs.Forms.{same_did, why_did, style_did, dead_did, check_did, cmp_did, min_did, trial_did, usage_is}
 use Rattle.cssmin.proofs.laws.words_decide_usage.Goals as goal
 
 pub returns-clause-usage : goal.returns-clause-usage
@@ -24,3 +24,6 @@ returns-clause-trial c = trial_did
 
 pub returns-clause-why : goal.returns-clause-why
 returns-clause-why c = why_did
+
+pub returns-clause-same : goal.returns-clause-same
+returns-clause-same c = same_did

@@ -1,0 +1,4 @@
+mod Found
+mod Locating
+mod Printing
+mod Words

@@ -1,0 +1,22 @@
+//! What follows of what is told, as functions that do nothing.
+
+ghost use Rattle.same_text.specs.Laws.{ReversedPairsShowOrder, SameTextsWinAlike};
+
+use cascade_laws::{matching_is_decided, understanding_is_decided};
+use order_laws::{listed_stands_last, weighing_is_decided};
+
+/// Two sheets of which `same` is told style every page alike, as `same_sheets_win_alike` says.
+pub fn same_texts_win_alike()
+    ensures { SameTextsWinAlike }
+{}
+
+/// The example of two pairs that are found in another order shows that their order counts: for its marked element the later one
+/// of the two rules wins, whichever it is (CSS Cascading 3, section 6).
+pub fn reversed_pairs_show_order()
+    ensures { ReversedPairsShowOrder }
+{
+    listed_stands_last();
+    weighing_is_decided();
+    matching_is_decided();
+    understanding_is_decided();
+}
