@@ -1,10 +1,10 @@
 -- The selectors of what a step of a sheet reverses may be asked for.
-use Rattle.std.proofs.Common.{◌≡◌, ℕ, zero, suc, Bool, true, List, [], ◌∷◌, map, Some, None, refl, sym, ap, ap₂, ◌∙◌, subst}
-use Rattle.std.specs.Prelude.{slice_get, Ok}
-use Rattle.std.specs.List.{AllByRecursion, Contains}
+use Rattle.std.proofs.Common.{◌≡◌, ℕ, zero, suc, Bool, true, List, [], ◌∷◌, map, Some, None, sym, ap, ap₂, ◌∙◌, subst}
+use Rattle.std.specs.Prelude.{slice_get}
+use Rattle.std.specs.List.{AllByRecursion}
 use Rattle.cascade_laws.proofs.ForCallers.{some-same}
 use Rattle.css_model.specs.declared.sheet.Item.{Item}
-use Rattle.css_model.specs.declared.sheet.Item.TheVariants.{Rule, KeptRule, KeptBlock}
+use Rattle.css_model.specs.declared.sheet.Item.TheVariants.{Rule}
 use Rattle.css_model.specs.declared.sheet.SelItem.{SelItem}
 use Rattle.css_model.specs.Cascade.Order.{Pair}
 use Rattle.css_model.specs.Documents.SelectorParts.{SelectorParts}
@@ -14,7 +14,7 @@ use Rattle.order_laws.specs.Edits.{Moved, Edit, edited}
 use Rattle.order_laws.specs.Members.{has_number}
 use Rattle.order_laws.specs.Places.{PlacedPair, StandsLast}
 use Rattle.order_laws.specs.Reversed.{Other, AnotherPair, KeptAt, Reversal, reversed, IsReversedWith, ListedIsReversed}
-use Rattle.overlap.specs.PairsParts.{Answered, PairsParts}
+use Rattle.overlap.specs.PairsParts.{PairsParts}
 use Rattle.print_laws.specs.Profile.{HasSelectorsInProfile, SelectorsAreInProfile}
 use Rattle.step_laws.specs.declared.step.Step.{Step}
 use Rattle.step_laws.specs.declared.step.Step.TheVariants.{CutDecl, CutSel, JoinSelUp, JoinSelDown, JoinDeclUp, JoinDeclDown, Share}
@@ -61,7 +61,7 @@ all_askable profile few listed items items' m h = all_members IsAskable (reverse
 
 -- ---- What a step moves
 
-moved_is : (items : List Item) (k : Step) (e : Edit) → IsStep items k e → moved_in items (moved_of k) ≡ e.moved
+pub moved_is : (items : List Item) (k : Step) (e : Edit) → IsStep items k e → moved_in items (moved_of k) ≡ e.moved
 moved_is items (CutDecl n i) e is = ap (λ item. moved_rule n (rule_in item)) is.rule_at ∙ ap (λ (d : Edit). d.moved) (sym is.is)
 moved_is items (CutSel n i) e is = ap (λ item. moved_rule n (rule_in item)) is.rule_at ∙ ap (λ (d : Edit). d.moved) (sym is.is)
 moved_is items (JoinSelUp x y) e is = ap (λ item. moved_rule y (rule_in item)) is.rules.lower_at ∙ ap (λ (d : Edit). d.moved) (sym is.is)

@@ -1,5 +1,5 @@
 -- The common pairs of two rules, and what is moved out of no item.
-use Rattle.std.proofs.Common.{◌≡◌, ◌⊎◌, ℕ, suc, Bool, true, false, not, List, [], ◌∷◌, ◌++◌, refl, sym, ap, ap₂, ◌∙◌, subst, inl, inr}
+use Rattle.std.proofs.Common.{◌≡◌, ◌⊎◌, ℕ, suc, Bool, true, false, not, List, [], ◌∷◌, ◌++◌, refl, sym, ap, ap₂, ◌∙◌, inl, inr}
 use Rattle.std.specs.Prelude.{◌&&◌, ◌||◌}
 use Rattle.std.specs.List.{Contains, filter}
 use Rattle.std.proofs.lemmas.Bool.{and_parts, and_from, or_cases, or_left, or_right}
@@ -14,10 +14,10 @@ use Rattle.list_facts.proofs.Members.{Contains-filter, Contains-filtered}
 use Rattle.order_laws.proofs.ForCallers.{any_from, any_of, has_decl_is}
 use Rattle.order_laws.specs.Edits.{is_moved}
 use Rattle.order_laws.specs.Members.{same_selector, has_selector, has_decl, has_number}
-use Rattle.order_laws.specs.Places.{PlacedPair, last_pairs_from}
+use Rattle.order_laws.specs.Places.{last_pairs_from}
 use Rattle.order_laws.specs.Reversed.{moved_pairs}
 use Rattle.step_laws.proofs.ForCallers.{in_common, is_common}
-use Rattle.step_laws.specs.RuleParting.{both_selectors, common_decls}
+use Rattle.step_laws.specs.RuleParting.{common_decls}
 use Rattle.sheet_order.proofs.Lists.{same_test, any_append}
 use Rattle.sheet_order.specs.Taking.{common_of, is_of_both, nothing}
 

@@ -1,10 +1,9 @@
 -- Kept items, one by one.
-use Rattle.std.proofs.Common.{◌≡◌, ℕ, zero, suc, ◌+◌, ◌-◌, nat_eq, Bool, true, false, List, [], ◌∷◌, ◌++◌, refl, ap, ◌∙◌, arith}
+use Rattle.std.proofs.Common.{◌≡◌, ℕ, zero, suc, ◌+◌, ◌-◌, nat_eq, false, List, [], ◌∷◌, ◌++◌, refl, ap, ◌∙◌, arith}
 use Rattle.std.proofs.lemmas.Bool.{true≢false}
-use Rattle.std.specs.Prelude.{if◌then◌else◌}
 use Rattle.css_model.specs.declared.sheet.Item.{Item}
 use Rattle.css_model.specs.declared.sheet.Item.TheVariants.{Rule, KeptRule, KeptBlock}
-use Rattle.css_model.specs.Sheets.KeptItems.{is_kept, kept_before}
+use Rattle.css_model.specs.Sheets.KeptItems.{kept_before}
 use Rattle.sheet_order.specs.Counting.{count_of}
 use Rattle.order_laws.specs.Reversed.{kept_from}
 

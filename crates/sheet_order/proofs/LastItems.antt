@@ -1,5 +1,5 @@
 -- The last pairs, item by item from the end.
-use Rattle.std.proofs.Common.{◌≡◌, ℕ, suc, ◌+◌, ◌<◌, Bool, List, [], ◌∷◌, ◌++◌, length, take, drop, refl, sym, ap, ap₂, ◌∙◌, arith}
+use Rattle.std.proofs.Common.{◌≡◌, ℕ, suc, Bool, List, [], ◌∷◌, ◌++◌, length, drop, refl, sym, ap, ◌∙◌}
 use Rattle.std.proofs.lemmas.List.{append_assoc}
 use Rattle.std.proofs.Math.Seq.{drop-append_seam}
 use Rattle.css_model.specs.declared.sheet.Item.{Item}
@@ -10,7 +10,7 @@ use Rattle.sheet_order.specs.Counting.{last_with}
 abbrev pub EndsSo : (ℕ → Bool) → List Item → List Item → List PlacedPair → Type 0
 EndsSo counts items rest later = (rest ++ drop (length rest) items ≡ items) × (later ≡ last_pairs_from counts (length rest) (drop (length rest) items))
 
-length_more : (before : List Item) (last : Item) → length (before ++ last ∷ []) ≡ suc (length before)
+pub length_more : {X : Type 0} (before : List X) (last : X) → length (before ++ last ∷ []) ≡ suc (length before)
 length_more [] last = refl
 length_more (x ∷ before) last = ap suc (length_more before last)
 

@@ -1,7 +1,11 @@
 mod Askable
 mod Common
+mod Finding
+mod FirstSelectors
 mod Held
+mod Inserting
 mod KeptNumbers
+mod LastDecls
 mod LastItems
 mod Limited
 mod Limits
@@ -9,6 +13,6 @@ mod Lists
 mod NarrowEntries
 mod Permission
 mod PuttingIn
-mod RuleSelectors
+mod RulePairs
 mod Somewhere
 pub mod ForCallers

@@ -1,19 +1,17 @@
 -- The selectors of the pairs of a sound sheet keep the limits.
 use Rattle.std.proofs.Common.{◌≡◌, ℕ, zero, suc, Bool, List, [], ◌∷◌, map, Some, None, refl, sym, ap, ◌∙◌, subst}
 use Rattle.std.specs.Prelude.{Result, Ok, Err, slice_get}
-use Rattle.std.specs.List.{AllByRecursion, Contains, filter}
+use Rattle.std.specs.List.{AllByRecursion, Contains}
 use Rattle.cascade_laws.proofs.ForCallers.{some-same}
 use Rattle.css_model.specs.declared.reason.Reason.{Reason}
 use Rattle.css_model.specs.declared.sheet.Item.{Item}
 use Rattle.css_model.specs.declared.sheet.Item.TheVariants.{Rule, KeptRule, KeptBlock}
 use Rattle.css_model.specs.declared.sheet.SelItem.{SelItem}
-use Rattle.css_model.specs.declared.token.Lexeme.{Lexeme}
 use Rattle.css_model.specs.Documents.SelectorParts.{SelectorParts}
 use Rattle.css_model.specs.Selectors.Reading.{selector_of_lexemes}
 use Rattle.css_model.specs.Sheets.RuleParts.{RuleParts}
 use Rattle.css_model.specs.Sheets.Selectors.{with_piece}
 use Rattle.css_model.specs.Sheets.Sound.{IsSound, IsSoundSelector}
-use Rattle.css_model.specs.Sheets.StyleRule.{selectors_of}
 use Rattle.css_model.specs.Text.Lexemes.{piece_of}
 use Rattle.list_facts.proofs.Members.{Contains-here, Contains-there, Contains-filter}
 use Rattle.order_laws.specs.Edits.{Moved, is_moved}

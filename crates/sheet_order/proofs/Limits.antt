@@ -1,5 +1,5 @@
 -- Selectors that keep the limits are small.
-use Rattle.std.proofs.Common.{ℕ, ◌≤◌, List, [], ◌∷◌, length}
+use Rattle.std.proofs.Common.{◌≤◌, List, [], ◌∷◌, length}
 use Rattle.std.specs.List.{All, AllByRecursion}
 use Rattle.std.proofs.lemmas.List.Elements.{All-cons, All-nil}
 use Rattle.css_model.specs.declared.selector.Simple.{Simple}

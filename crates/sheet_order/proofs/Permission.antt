@@ -1,14 +1,14 @@
 -- Steps that may be taken are free, and others are blocked.
 use Rattle.std.proofs.Common.{◌≡◌, ◌⊎◌, ℕ, Bool, true, false, List, [], ◌∷◌, map, Some, None, refl, sym, subst, inl, inr}
-use Rattle.std.specs.List.{AllByRecursion, Contains}
+use Rattle.std.specs.List.{Contains}
 use Rattle.std.proofs.lemmas.List.Elements.{Contains-append_right}
-use Rattle.css_model.specs.Cascade.Order.{Pair, HasPair}
+use Rattle.css_model.specs.Cascade.Order.{Pair}
 use Rattle.css_model.specs.declared.sheet.Item.{Item}
 use Rattle.css_model.specs.Documents.SelectorParts.{SelectorParts}
-use Rattle.css_model.specs.Sheets.KeptItems.{is_kept, kept_before, kept_items}
+use Rattle.css_model.specs.Sheets.KeptItems.{kept_before}
 use Rattle.list_facts.proofs.Members.{Contains-here, Contains-nil, Contains-cons_cases}
 use Rattle.order_laws.proofs.ForCallers.{map_has}
-use Rattle.order_laws.specs.Edits.{Moved, Edit, edited, StandsIn, IsRearrangement}
+use Rattle.order_laws.specs.Edits.{Edit, edited, StandsIn}
 use Rattle.order_laws.specs.Members.{has_number}
 use Rattle.order_laws.specs.Places.{PlacedPair, StandsLast, ListedStandsLast}
 use Rattle.order_laws.specs.Reversed.{Other, AnotherPair, KeptAt, Reversal, reversed, IsReversedWith, ListedIsReversed}
@@ -22,7 +22,7 @@ use Rattle.step_laws.specs.declared.step.Step.{Step}
 use Rattle.step_laws.specs.Free.{AreApart, AreNotApart, IsFree, IsBlocked, by_pair, by_kept}
 use Rattle.step_laws.specs.Left.{StepsRearrange}
 use Rattle.step_laws.specs.Steps.{IsStep}
-use Rattle.sheet_order.specs.Allowing.{Judges, JudgesOther, AreFree, IsFirst, IsAllowed, cause_by}
+use Rattle.sheet_order.specs.Allowing.{Judges, JudgesOther, AreFree, IsAllowed, cause_by}
 use Rattle.sheet_order.specs.declared.permitting.Allowed.TheVariants.{Free, Blocked}
 use Rattle.sheet_order.specs.Laws.{is_apart, answer_seen}
 use Rattle.sheet_order.proofs.Somewhere.{stands_somewhere, KeptPlace, place_of_kept}

@@ -1,16 +1,13 @@
 -- The last pairs of a sheet while their list is made.
-use Rattle.std.specs.Prelude.{ℕ, Bool, true, not, if◌then◌else◌, ◌&&◌, List, [], ◌++◌, map, take, drop, Option, Some, None}
+use Rattle.std.specs.Prelude.{ℕ, Bool, true, not, if◌then◌else◌, ◌&&◌, List, ◌++◌, Option, Some, None}
 use Rattle.std.specs.Borrow.{Bor}
-use Rattle.std.specs.List.{filter, flat_map, list_any}
-use Rattle.css_model.specs.declared.sheet.DeclItem.{DeclItem}
+use Rattle.std.specs.List.{filter, list_any}
 use Rattle.css_model.specs.declared.sheet.Item.{Item}
-use Rattle.css_model.specs.declared.sheet.SelItem.{SelItem}
-use Rattle.css_model.specs.Documents.SelectorParts.{SelectorParts}
 use Rattle.css_model.specs.Cascade.Order.{Pair}
 use Rattle.css_model.specs.Sheets.KeptItems.{is_kept}
 use Rattle.order_laws.specs.Comparing.{is_later}
-use Rattle.order_laws.specs.Members.{has_number, has_selector, same_pair}
-use Rattle.order_laws.specs.Places.{PlacedPair, placed, first_selectors, last_decls, pairs_of, has_pair}
+use Rattle.order_laws.specs.Members.{has_number, same_pair}
+use Rattle.order_laws.specs.Places.{PlacedPair, pairs_of, has_pair}
 
 -- whether an item counts by its number: all do, or these (own)
 abbrev pub counted : Option (Bor (List ℕ)) → ℕ → Bool
@@ -24,15 +21,6 @@ not_among later p = not (has_pair later p.pair)
 -- the last pairs of an item and those behind it, from the last pairs behind it (own)
 abbrev pub last_with : (ℕ → Bool) → ℕ → Item → List PlacedPair → List PlacedPair
 last_with counts number item later = if counts number then filter (not_among later) (pairs_of number item) ++ later else later
-
--- the pairs of a selector of a rule, unless it is among the earlier ones (own)
-abbrev pub pairs_if_new : ℕ → List DeclItem → List SelItem → ℕ × SelectorParts → List PlacedPair
-pairs_if_new item decls earlier s = if has_selector earlier s.1 then [] else map (placed item s) (last_decls 0 decls)
-
--- the pairs of the selectors of a rule from this number on (own)
-abbrev pub pairs_left : ℕ → List DeclItem → List SelItem → ℕ → List PlacedPair
-pairs_left item decls selectors n =
-    flat_map (λ s. map (placed item s) (last_decls 0 decls)) (filter (λ t. not (has_selector (take n selectors) t.1)) (first_selectors n (drop n selectors)))
 
 -- whether the first pair is in a list, and the second one at a later place (own)
 abbrev pub before_in : List PlacedPair → Pair → Pair → Bool

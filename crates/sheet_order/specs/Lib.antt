@@ -1,7 +1,9 @@
 pub mod Allowing
 pub mod Counting
+pub mod Keys
 pub mod Laws
 pub mod Narrow
 pub mod Others
 pub mod Places
+pub mod Sameness
 pub mod Taking

@@ -37,7 +37,7 @@ fn same_rank(p: &Placed<'_>, q: &Placed<'_>) -> bool
 }
 
 /// Whether two pairs weigh.
-fn weigh(p: &Placed<'_>, q: &Placed<'_>) -> bool
+pub fn weigh(p: &Placed<'_>, q: &Placed<'_>) -> bool
     requires first { KeepsLimits p.now.pair.selector }
     requires second { KeepsLimits q.now.pair.selector }
     ensures { result ≡ order.weigh p.now.pair q.now.pair }
@@ -60,7 +60,7 @@ fn weighs_some(p: &Placed<'_>, decls: &[Decl]) -> bool
 }
 
 /// Whether a pair and a kept item weigh.
-fn weighs_kept(p: &Placed<'_>, item: &Item) -> bool
+pub fn weighs_kept(p: &Placed<'_>, item: &Item) -> bool
     ensures { result ≡ order.weighs_kept p.now.pair item.now }
 {
     match item {

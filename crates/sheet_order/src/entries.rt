@@ -14,16 +14,20 @@ use std::marker::Model;
 
 /// What is reversed with a moved pair: another pair, or the kept item of this number.
 #[derive(Drop)]
-pub(crate) enum Counterpart<'a> {
+pub enum Counterpart<'a> {
+    /// Another pair, at its last place in the sheet.
     Pair(Placed<'a>),
+    /// The kept item of this number, from 0 among all items.
     Kept(usize),
 }
 
 /// A moved pair, and what it is reversed with.
 #[derive(Drop)]
-pub(crate) struct Reversal<'a> {
-    pub(crate) moved: Placed<'a>,
-    pub(crate) other: Counterpart<'a>,
+pub struct Reversal<'a> {
+    /// The moved pair, at its last place in what is moved.
+    pub moved: Placed<'a>,
+    /// The other pair, or the kept item.
+    pub other: Counterpart<'a>,
 }
 
 impl<'a> Model for Reversal<'a> {

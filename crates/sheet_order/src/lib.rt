@@ -3,9 +3,11 @@
 
 mod comparing;
 mod entries;
+mod keys;
 mod laws;
 mod members;
 mod moving;
+mod pair_index;
 mod pairs;
 mod permitting;
 mod places;
@@ -13,15 +15,20 @@ mod reversing;
 mod sorting;
 mod taking;
 
-pub use comparing::{Ordered, is_kept, is_reversed, is_reversed_kept, kept_before};
+pub use comparing::{
+    Ordered, is_kept, is_reversed, is_reversed_kept, kept_before, weigh, weighs_kept,
+};
+pub use entries::{Counterpart, Reversal};
 pub use laws::{allowed_steps_are_free, other_steps_are_blocked};
 pub use moving::move_rule;
+pub use pair_index::PairIndex;
 pub use pairs::{Placed, has_pair, last_pairs};
-pub use permitting::{Allowed, permitted};
+pub use permitting::{Allowed, judged, moved_of, permitted};
 pub use places::{Moved, Other, PairPlace, Reversed};
-pub use reversing::{narrow_place, ordered, reversed};
-pub use sorting::exceeds;
+pub use reversing::{narrow_all, narrow_place, ordered, reversed};
+pub use sorting::{ascending, exceeds};
 pub use step_laws::BlockCause;
+pub use taking::moved_pairs;
 
 #[cfg(test)]
 mod tests;

@@ -1,14 +1,16 @@
 //! The pairs of a sheet, each at its last place.
 
-ghost use Rattle.std.specs.Prelude.{◌≡◌, ◌++◌, [], ◌∷◌, IfOk, OnOk, map, not};
-ghost use Rattle.std.specs.List.{filter};
+ghost use Rattle.std.specs.Prelude.{◌≡◌, IfOk, OnOk, map, reverse};
 ghost use Rattle.css_model.specs.declared.sheet.Item.TheVariants as kinds;
 ghost use Rattle.order_laws.specs.Members.{same_pair};
 ghost use Rattle.order_laws.specs.Places as order;
-ghost use Rattle.sheet_order.specs.Counting.{counted, last_with, not_among, pairs_if_new, pairs_left};
+ghost use Rattle.sheet_order.specs.Counting.{counted, last_with};
+ghost use Rattle.sheet_order.specs.Keys.{PutsPairs, inserted, products_back};
 
-use crate::members::{has_decl, has_number, has_selector};
+use crate::keys::{DeclKey, PairKey, SelectorKey};
+use crate::members::has_number;
 use css_model::{Decl, DeclItem, Item, Rule, SelItem, Selector};
+use indexmap::IndexSet;
 use std::alloc::{AllocError, Global};
 use std::marker::Model;
 
@@ -68,125 +70,114 @@ pub fn has_pair(pairs: &[Placed<'_>], p: &Placed<'_>) -> bool
     pairs.iter().any(|q| q.is_same(p))
 }
 
-/// Puts the pairs of a selector and these declarations behind the others: of equal declarations the last.
-fn push_pairs<'a>(
-    found: &mut Vec<Placed<'a>>,
-    item: usize,
-    selector_number: usize,
-    selector: &'a Selector,
-    decls: &'a [DeclItem],
-) -> Result<(), AllocError>
-    ensures { OnOk result (found.new.items ≡ found.old.items ++ map (order.placed item (selector_number, selector.now)) (order.last_decls 0 decls.now)) }
-{
-    let mut rest = decls;
-    let mut decl_number = 0;
-    'rest: while let Some((first, behind)) = rest.split_first() {
-        if !has_decl(behind, &first.decl) {
-            found.push(Placed {
-                selector,
-                decl: &first.decl,
-                item,
-                selector_number,
-                decl_number,
-            })?;
-        }
-        rest = behind;
-        decl_number += 1;
-    }
-    Ok(())
-}
-
-/// Puts the pairs of a selector behind the others, unless it is among the earlier ones of its rule.
-fn push_selector<'a>(
-    found: &mut Vec<Placed<'a>>,
-    item: usize,
-    number: usize,
-    selector: &'a Selector,
-    earlier: &[SelItem],
-    decls: &'a [DeclItem],
-) -> Result<(), AllocError>
-    ensures { OnOk result (found.new.items ≡ found.old.items ++ pairs_if_new item decls.now earlier.now (number, selector.now)) }
-{
-    if !has_selector(earlier, selector) {
-        push_pairs(found, item, number, selector, decls)?;
-    }
-    Ok(())
-}
-
-/// Puts the pairs of selectors and declarations of a rule behind the others, each once: at the first of equal
-/// selectors, and the last of equal declarations.
-#[tactic(auto, using(crate::proofs::RuleSelectors::left_at_last))]
-fn push_selectors<'a>(
-    found: &mut Vec<Placed<'a>>,
-    item: usize,
+/// The selectors of a rule with their numbers: of equal ones the first.
+fn first_selectors<'a>(
+    alloc: Global,
     selectors: &'a [SelItem],
-    decls: &'a [DeclItem],
-) -> Result<(), AllocError>
-    ensures { OnOk result (found.new.items ≡ found.old.items ++ pairs_left item decls.now selectors.now 0) }
+) -> Result<IndexSet<SelectorKey<'a>>, AllocError>
+    ensures { IfOk result (λ firsts. firsts.keys ≡ order.first_selectors 0 selectors.now) }
 {
+    let mut firsts = IndexSet::new(alloc);
     let mut number = 0;
     let mut rest = selectors;
     'rest: while let Some((first, behind)) = rest.split_first() {
-        let earlier = &selectors[..number];
-        push_selector(found, item, number, &first.selector, earlier, decls)?;
+        firsts.insert(SelectorKey {
+            number,
+            selector: &first.selector,
+        })?;
         number += 1;
         rest = behind;
     }
+    Ok(firsts)
+}
+
+/// The declarations of a rule with their numbers, the last one first: of equal ones the last.
+fn last_decls<'a>(alloc: Global, decls: &'a [DeclItem]) -> Result<IndexSet<DeclKey<'a>>, AllocError>
+    ensures { IfOk result (λ lasts. lasts.keys ≡ reverse (order.last_decls 0 decls.now)) }
+{
+    let mut lasts = IndexSet::new(alloc);
+    let mut rest = decls;
+    'rest: while let Some((last, before)) = rest.split_last() {
+        lasts.insert(DeclKey {
+            number: before.len(),
+            decl: &last.decl,
+        })?;
+        rest = before;
+    }
+    Ok(lasts)
+}
+
+/// Puts the pairs of a selector and these declarations behind the others, in their order, unless they are there.
+#[tactic(auto, using(crate::proofs::Lists::map_append, crate::proofs::Inserting::inserted_append))]
+fn put_pairs<'a>(
+    found: &mut IndexSet<PairKey<'a>>,
+    item: usize,
+    selector: &SelectorKey<'a>,
+    decls: &[DeclKey<'a>],
+) -> Result<(), AllocError>
+    ensures { OnOk result (found.new.keys ≡ inserted found.old.keys (map (order.placed item selector.now) decls.now)) }
+{
+    for decl in decls {
+        let placed = Placed {
+            selector: selector.selector,
+            decl: decl.decl,
+            item,
+            selector_number: selector.number,
+            decl_number: decl.number,
+        };
+        found.insert(PairKey { placed })?;
+    }
     Ok(())
 }
 
-/// The pairs of a rule, each once.
-#[tactic(auto, using(crate::proofs::RuleSelectors::left_at_first))]
-fn pairs_of_rule<'a>(
+/// Puts the pairs of selectors and declarations behind the others, those of the last selector first, unless they are
+/// there.
+#[tactic(auto, using(crate::proofs::Inserting::products_next))]
+fn put_products<'a>(
+    found: &mut IndexSet<PairKey<'a>>,
+    item: usize,
+    selectors: IndexSet<SelectorKey<'a>>,
+    decls: &[DeclKey<'a>],
+) -> Result<(), AllocError>
+    ensures { OnOk result (found.new.keys ≡ inserted found.old.keys (products_back item selectors.entry.keys decls.now)) }
+{
+    let mut left = selectors;
+    'left: while let Some(last) = left.pop() {
+        put_pairs(found, item, &last, decls)?;
+    }
+    Ok(())
+}
+
+/// Puts the pairs of a rule behind the others, the last one first, unless they are there.
+#[tactic(auto, using(crate::proofs::RulePairs::rule_put))]
+fn put_rule<'a>(
     alloc: Global,
+    found: &mut IndexSet<PairKey<'a>>,
     item: usize,
     rule: &'a Rule,
-) -> Result<Vec<Placed<'a>>, AllocError>
-    ensures { IfOk result (λ found. found.items ≡ order.pairs_of item (kinds.Rule rule.now)) }
+) -> Result<(), AllocError>
+    ensures { OnOk result (PutsPairs found.old.keys (order.pairs_of item (kinds.Rule rule.now)) found.new.keys) }
 {
-    let mut found = Vec::new(alloc);
-    push_selectors(&mut found, item, &rule.selectors, &rule.decls)?;
-    Ok(found)
+    let selectors = first_selectors(alloc, &rule.selectors)?;
+    let decls = last_decls(alloc, &rule.decls)?;
+    // That the selectors are distinct is at hand where they are counted.
+    let _count = selectors.len();
+    put_products(found, item, selectors, decls.as_slice())
 }
 
-/// The pairs of an item, each once.
-fn pairs_of<'a>(alloc: Global, number: usize, item: &'a Item) -> Result<Vec<Placed<'a>>, AllocError>
-    ensures { IfOk result (λ found. found.items ≡ order.pairs_of number item.now) }
+/// Puts the pairs of an item behind the others, the last one first, unless they are there.
+fn put_item<'a>(
+    alloc: Global,
+    found: &mut IndexSet<PairKey<'a>>,
+    number: usize,
+    item: &'a Item,
+) -> Result<(), AllocError>
+    ensures { OnOk result (PutsPairs found.old.keys (order.pairs_of number item.now) found.new.keys) }
 {
     match item {
-        Item::Rule(rule) => pairs_of_rule(alloc, number, rule),
-        _ => Ok(Vec::new(alloc)),
+        Item::Rule(rule) => put_rule(alloc, found, number, rule),
+        _ => Ok(()),
     }
-}
-
-/// Puts a pair behind the others, unless it is among the later ones.
-fn push_if_new<'a>(
-    found: &mut Vec<Placed<'a>>,
-    pair: &Placed<'a>,
-    later: &[Placed<'a>],
-) -> Result<(), AllocError>
-    ensures { OnOk result (found.new.items ≡ found.old.items ++ filter (not_among later.now) (pair.now ∷ [])) }
-{
-    if !has_pair(later, pair) {
-        found.push(pair.copy())?;
-    }
-    Ok(())
-}
-
-/// Those of the pairs that are not among the later ones.
-#[tactic(auto, using(crate::proofs::Lists::filter_append))]
-fn new_pairs<'a>(
-    alloc: Global,
-    pairs: &[Placed<'a>],
-    later: &[Placed<'a>],
-) -> Result<Vec<Placed<'a>>, AllocError>
-    ensures { IfOk result (λ found. found.items ≡ filter (not_among later.now) pairs.now) }
-{
-    let mut found = Vec::new(alloc);
-    for pair in pairs {
-        push_if_new(&mut found, pair, later)?;
-    }
-    Ok(found)
 }
 
 /// Whether the item of this number counts: all do, or these.
@@ -199,29 +190,55 @@ fn is_counted(counts: Option<&[u32]>, number: usize) -> bool
     }
 }
 
-/// The last pairs of an item and those behind it, from the ones behind it.
-fn with_item<'a>(
+/// Puts the pairs of an item that counts behind those of the items behind it, the last one first, unless they are
+/// there.
+fn put_counted<'a>(
     alloc: Global,
     counts: Option<&[u32]>,
+    found: &mut IndexSet<PairKey<'a>>,
     number: usize,
     item: &'a Item,
-    later: Vec<Placed<'a>>,
-) -> Result<Vec<Placed<'a>>, AllocError>
-    ensures { IfOk result (λ found. found.items ≡ last_with (counted counts.entry) number item.now later.entry.items) }
+) -> Result<(), AllocError>
+    ensures { OnOk result (reverse found.new.keys ≡ last_with (counted counts.entry) number item.now (reverse found.old.keys)) }
 {
     if is_counted(counts, number) {
-        let pairs = pairs_of(alloc, number, item)?;
-        let mut behind = later;
-        let mut found = new_pairs(alloc, &pairs, &behind)?;
-        found.append(&mut behind)?;
-        Ok(found)
-    } else {
-        Ok(later)
+        put_item(alloc, found, number, item)?;
     }
+    Ok(())
+}
+
+/// The last pairs of the items that count, the last one first.
+#[tactic(auto, using(crate::proofs::LastItems::last_next))]
+fn last_pairs_back<'a>(
+    alloc: Global,
+    counts: Option<&[u32]>,
+    items: &'a [Item],
+) -> Result<IndexSet<PairKey<'a>>, AllocError>
+    ensures { IfOk result (λ found. reverse found.keys ≡ order.last_pairs_from (counted counts.entry) 0 items.now) }
+{
+    let mut found = IndexSet::new(alloc);
+    let mut rest = items;
+    'rest: while let Some((last, before)) = rest.split_last() {
+        put_counted(alloc, counts, &mut found, before.len(), last)?;
+        rest = before;
+    }
+    Ok(found)
+}
+
+/// These pairs from the last one to the first.
+#[tactic(auto, using(crate::proofs::Lists::reverse_push))]
+fn turned<'a>(alloc: Global, pairs: IndexSet<PairKey<'a>>) -> Result<Vec<Placed<'a>>, AllocError>
+    ensures { IfOk result (λ list. list.items ≡ reverse pairs.entry.keys) }
+{
+    let mut left = pairs;
+    let mut list = Vec::with_capacity(alloc, left.len())?;
+    'left: while let Some(last) = left.pop() {
+        list.push(last.placed)?;
+    }
+    Ok(list)
 }
 
 /// The pairs of the items that count, each once: where it stands last in these.
-#[tactic(auto, using(crate::proofs::LastItems::last_next))]
 pub fn last_pairs<'a>(
     alloc: Global,
     counts: Option<&[u32]>,
@@ -229,11 +246,6 @@ pub fn last_pairs<'a>(
 ) -> Result<Vec<Placed<'a>>, AllocError>
     ensures { IfOk result (λ found. found.items ≡ order.last_pairs_from (counted counts.entry) 0 items.now) }
 {
-    let mut later = Vec::new(alloc);
-    let mut rest = items;
-    'rest: while let Some((last, before)) = rest.split_last() {
-        later = with_item(alloc, counts, before.len(), last, later)?;
-        rest = before;
-    }
-    Ok(later)
+    let found = last_pairs_back(alloc, counts, items)?;
+    turned(alloc, found)
 }

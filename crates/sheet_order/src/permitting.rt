@@ -33,7 +33,7 @@ pub enum Allowed {
 }
 
 /// The pairs that a step moves.
-fn moved_of(step: &Step) -> Moved
+pub fn moved_of(step: &Step) -> Moved
     ensures { result ≡ taking.moved_of step.now }
 {
     match *step {
@@ -103,7 +103,7 @@ fn hindrance(pairs: &mut Pairs, entry: &Reversal<'_>) -> Result<Option<BlockCaus
 /// Whether all entries are pairs whose selectors are answered to be apart, or the cause by the first that is
 /// not.
 #[tactic(auto, using(crate::proofs::Held::stays_itself))]
-fn judged(pairs: &mut Pairs, entries: &[Reversal<'_>]) -> Result<Allowed, AllocError>
+pub fn judged(pairs: &mut Pairs, entries: &[Reversal<'_>]) -> Result<Allowed, AllocError>
     requires { AllByRecursion allowing.IsAskable entries.now }
     ensures stays { allowing.Stays pairs.old pairs.new }
     ensures allowed { IfOk result (λ allowed. allowing.IsAllowed pairs.new.answers entries.now allowed) }

@@ -81,7 +81,7 @@ fn narrow(entry: &Reversal<'_>) -> Reversed
 }
 
 /// The entries by their places.
-fn narrow_all(alloc: Global, found: &[Reversal<'_>]) -> Result<Vec<Reversed>, AllocError>
+pub fn narrow_all(alloc: Global, found: &[Reversal<'_>]) -> Result<Vec<Reversed>, AllocError>
     requires { AllByRecursion IsNarrow found.now }
     ensures { IfOk result (λ list. list.items ≡ map entry_of found.now) }
 {

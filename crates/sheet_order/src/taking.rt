@@ -155,7 +155,7 @@ fn moved_common<'a>(
 }
 
 /// The pairs that are moved, each at its last place in what it is moved out of.
-pub(crate) fn moved_pairs<'a>(
+pub fn moved_pairs<'a>(
     alloc: Global,
     items: &'a [Item],
     moved: &Moved,

@@ -4,14 +4,15 @@ ghost use Rattle.std.specs.Prelude.{IfOk};
 ghost use Rattle.sheet_order.specs.Narrow.{CanBePlanned};
 
 use crate::{
-    Allowed, BlockCause, Moved, Other, PairPlace, Reversed, move_rule, permitted, reversed,
+    Allowed, BlockCause, Moved, Other, PairIndex, PairPlace, Placed, Reversed, last_pairs,
+    move_rule, permitted, reversed,
 };
 use css_model::Sheet;
 use merge_laws::read_is_plannable;
 use merge_steps::{Step, is_step};
 use overlap::Pairs;
 use sheet_read::{SheetError, read_sheet};
-use std::alloc::Global;
+use std::alloc::{AllocError, Global};
 use std::process::Abort;
 use std::test::Fail;
 
@@ -21,6 +22,80 @@ fn sheet(alloc: Global, source: &[u8]) -> Result<Sheet, SheetError>
 {
     read_is_plannable();
     read_sheet(alloc, source)
+}
+
+/// The numbers of a pair's item, selector and declaration.
+fn numbers(p: &Placed<'_>) -> [usize; 3] {
+    [p.item, p.selector_number, p.decl_number]
+}
+
+/// A source, and its pairs by their numbers.
+const LISTS: [(&str, &[[usize; 3]]); 6] = [
+    // the last occurrence counts
+    (".a{top:0}.b{top:1px}.a{top:0}", &[[1, 0, 0], [2, 0, 0]]),
+    // the first of equal selectors of a rule, the last of equal declarations
+    (".a,.b,.a{top:0}", &[[0, 0, 0], [0, 1, 0]]),
+    (".a{top:0;left:0;top:0}", &[[0, 0, 1], [0, 0, 2]]),
+    (
+        ".a,.b,.a{top:0;left:0;top:0}.b{left:0}",
+        &[[0, 0, 1], [0, 0, 2], [0, 1, 2], [1, 0, 0]],
+    ),
+    // importance tells declarations apart
+    (".a{top:0!important}.a{top:0}", &[[0, 0, 0], [1, 0, 0]]),
+    // kept items have no pairs
+    ("@x;.a{top:0}a::x{top:0}", &[[1, 0, 0]]),
+];
+
+#[test]
+fn pairs_stand_last(rt: HostRuntime) -> Result<(), Fail> {
+    let alloc = rt.alloc();
+    for (source, want) in &LISTS {
+        let sheet = sheet(alloc, source.as_bytes()).expect(&rt, "a sheet");
+        let list = last_pairs(alloc, None, &sheet.items)?;
+        let mut places = Vec::new(alloc);
+        for p in &list {
+            places.push(numbers(p))?;
+        }
+        assert!(rt; places.as_slice() == *want, "{source}");
+    }
+    Ok(())
+}
+
+/// Whether the last pair of a sheet is in another one, and where it stands there.
+fn found(
+    alloc: Global,
+    old: &Sheet,
+    new: &Sheet,
+) -> Result<(bool, Option<[usize; 3]>), AllocError> {
+    let pairs = last_pairs(alloc, None, &old.items)?;
+    let list = last_pairs(alloc, None, &new.items)?;
+    let index = PairIndex::new(alloc, &pairs)?;
+    match list.last() {
+        Some(p) => Ok((index.has(p), index.find(p).map(|q| numbers(q)))),
+        None => Ok((false, None)),
+    }
+}
+
+/// A source, and where its last pair stands in the sheet of `.a{top:0}.b,.a{top:1px}`.
+const FOUND: [(&str, Option<[usize; 3]>); 5] = [
+    (".b{top:1px}", Some([1, 0, 0])),
+    ("@x;.c,.a{top:1px}", Some([1, 1, 0])),
+    (".b{top:0}", None),
+    (".a{left:0}", None),
+    (".a{top:0!important}", None),
+];
+
+#[test]
+fn pairs_are_found(rt: HostRuntime) -> Result<(), Fail> {
+    let alloc = rt.alloc();
+    let old = sheet(alloc, b".a{top:0}.b,.a{top:1px}").expect(&rt, "a sheet");
+    for (source, want) in &FOUND {
+        let new = sheet(alloc, source.as_bytes()).expect(&rt, "a sheet");
+        let (is, place) = found(alloc, &old, &new)?;
+        assert!(rt; is == want.is_some(), "{source}");
+        assert!(rt; place == *want, "{source}");
+    }
+    Ok(())
 }
 
 /// The first pair of a sheet.

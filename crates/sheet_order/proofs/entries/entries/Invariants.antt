@@ -1,5 +1,5 @@
-use Rattle.std.proofs.Common.{◌≡◌, ◌++◌, ◌≤◌, length, map, take, drop, ℕ, ◌+◌}
-use Rattle.std.specs.List.{filter, flat_map}
+use Rattle.std.proofs.Common.{◌≡◌, take}
+use Rattle.std.specs.List.{flat_map}
 use Rattle.order_laws.specs.Reversed as order
 use Rattle.sheet_order.proofs.entries.entries.Given as goal
 

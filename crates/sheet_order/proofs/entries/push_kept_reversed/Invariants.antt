@@ -1,5 +1,5 @@
-use Rattle.std.proofs.Common.{◌≡◌, ◌++◌, ◌≤◌, length, map, take, drop, ℕ, ◌+◌}
-use Rattle.std.specs.List.{filter, flat_map}
+use Rattle.std.proofs.Common.{◌≡◌, ◌++◌, length, map, ◌+◌}
+use Rattle.std.specs.List.{filter}
 use Rattle.order_laws.specs.Reversed as order
 use Rattle.sheet_order.proofs.entries.push_kept_reversed.Given as goal
 

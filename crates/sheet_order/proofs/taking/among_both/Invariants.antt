@@ -1,5 +1,5 @@
-use Rattle.std.proofs.Common.{◌≡◌, ◌++◌, ◌≤◌, length, map, take, drop, ℕ, ◌+◌}
-use Rattle.std.specs.List.{filter, flat_map}
+use Rattle.std.proofs.Common.{◌≡◌, take}
+use Rattle.std.specs.List.{filter}
 use Rattle.order_laws.specs.Edits as edits
 use Rattle.sheet_order.specs.Taking as taking
 use Rattle.sheet_order.proofs.taking.among_both.Given as goal
