@@ -1,7 +1,7 @@
 -- The members of a sheet that is read may be asked for.
-use Rattle.std.proofs.Common.{◌≡◌, ◌⊎◌, ℕ, zero, suc, ◌+◌, ◌<◌, Bool, true, false, List, [], ◌∷◌, ◌++◌, length, map, Some, None, refl, sym, ap, ◌∙◌, subst, inl, inr, arith}
-use Rattle.std.specs.Prelude.{Ok, ◌^◌, if◌then◌else◌, slice_get}
-use Rattle.std.specs.List.{AllByRecursion, Contains, filter}
+use Rattle.std.proofs.Common.{◌≡◌, ◌⊎◌, ℕ, suc, ◌+◌, ◌<◌, Bool, true, false, List, [], ◌∷◌, ◌++◌, length, map, subst, inl, inr, arith}
+use Rattle.std.specs.Prelude.{Ok, ◌^◌, if◌then◌else◌}
+use Rattle.std.specs.List.{AllByRecursion, Contains}
 use Rattle.css_model.specs.declared.sheet.Item.{Item}
 use Rattle.css_model.specs.declared.sheet.Item.TheVariants.{Rule, KeptRule, KeptBlock}
 use Rattle.css_model.specs.Sheets.Sheet.{sheet_of}
@@ -12,7 +12,6 @@ use Rattle.order_laws.specs.Reversed.{kept_from}
 use Rattle.plan_laws.specs.Plannable.{IsPlannable}
 use Rattle.print_laws.specs.Profile.{HasSelectorsInProfile, SelectorsAreInProfile}
 use Rattle.selector_laws.specs.Limits.{KeepsLimits, ReadSelectorsKeepTheLimits}
-use Rattle.sheet_order.specs.Narrow.{CanBePlanned}
 use Rattle.sheet_order.proofs.ForCallers.{all_members, pair_in_profile, planned_limited, last_limited, narrow_place}
 use Rattle.step_laws.specs.Left.{PartsAreFew}
 use Rattle.sheet_same.specs.Judging.{IsAskable, IsAskablePair}
@@ -29,7 +28,7 @@ pub all_map : {X Y : Type 0} (P : Y → Type 0) (f : X → Y) (xs : List X) → 
 all_map P f [] h = tt
 all_map P f (x ∷ xs) h = (h.0, all_map P f xs h.1)
 
-put_all : (P : Member → Type 0) (m : Member) (xs : List Member) → P m → AllByRecursion P xs → AllByRecursion P (put_in m xs)
+pub put_all : (P : Member → Type 0) (m : Member) (xs : List Member) → P m → AllByRecursion P xs → AllByRecursion P (put_in m xs)
 put_all P m [] h g = (h, tt)
 put_all P m (x ∷ xs) h g = which (is_behind m x) (put_all P m xs h g.1)
   where

@@ -1,5 +1,5 @@
 -- The first lacking pair, member by member.
-use Rattle.std.proofs.Common.{◌≡◌, ℕ, ◌+◌, ◌<◌, List, ◌∷◌, drop, get_or, length, Option, Some, None, sym, ap, ◌∙◌}
+use Rattle.std.proofs.Common.{◌≡◌, ℕ, ◌+◌, ◌<◌, List, drop, get_or, length, Option, Some, None, sym, ap, ◌∙◌}
 use Rattle.order_laws.specs.Places.{PlacedPair}
 use Rattle.sheet_order.specs.declared.places.PairPlace.{PairPlace}
 use Rattle.sheet_same.specs.Lacking.{lacking, first_found, first_lacking}

@@ -1,16 +1,15 @@
 -- What is found in couples, one after the other, while answers are given.
 use Rattle.std.proofs.Common.{◌≡◌, ℕ, ◌+◌, ◌-◌, ◌<◌, Bool, true, false, List, [], ◌∷◌, ◌++◌, length, map, take, drop, get_or, Option, Some, None, refl, sym, ap, ◌∙◌, subst}
 use Rattle.std.specs.Prelude.{if◌then◌else◌}
-use Rattle.std.specs.List.{AllByRecursion, filter}
+use Rattle.std.specs.List.{filter}
 use Rattle.std.proofs.lemmas.List.{append_assoc, take_rest}
 use Rattle.css_model.specs.declared.sheet.Item.{Item}
 use Rattle.overlap.specs.PairsParts.{Answered, PairsParts}
 use Rattle.sheet_order.specs.Allowing.{Stays}
 use Rattle.sheet_same.specs.declared.compared.Compared.{Compared}
-use Rattle.sheet_same.specs.declared.standing.Standing.{Standing}
-use Rattle.sheet_same.specs.Judging.{JudgesMembers, Judges, AreApart, IsFirst, IsJudged}
+use Rattle.sheet_same.specs.Judging.{JudgesMembers, Judges, AreApart, IsJudged}
 use Rattle.sheet_same.specs.Members.{Member, Paired, KeptAt}
-use Rattle.sheet_same.specs.Standing.{are_turned, couples_with, couples_of}
+use Rattle.sheet_same.specs.Standing.{Standing, are_turned, couples_with, couples_of}
 use Rattle.sheet_same.specs.Turned.{Couple, couple}
 use Rattle.sheet_same.proofs.Lists.{next_left}
 

@@ -4,8 +4,12 @@ mod FirstLacking
 pub mod ForCallers
 mod Judged
 mod KeptNumbers
+mod KeptTwins
+mod LeastPlaces
 mod Lists
 mod NoneLacking
-mod PuttingIn
+mod Sorted
+mod Spots
 mod Standings
 mod Weighing
+mod Weights

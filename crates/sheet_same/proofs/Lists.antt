@@ -1,5 +1,5 @@
 -- Mapped and filtered lists, and kept items one by one.
-use Rattle.std.proofs.Common.{◌≡◌, ℕ, zero, suc, ◌+◌, ◌<◌, Bool, List, [], ◌∷◌, ◌++◌, drop, get_or, length, map, refl, sym, ap, ◌∙◌}
+use Rattle.std.proofs.Common.{◌≡◌, ℕ, zero, suc, ◌+◌, ◌<◌, Bool, List, [], ◌∷◌, ◌++◌, take, drop, get_or, length, map, refl, sym, ap, ◌∙◌}
 use Rattle.std.specs.List.{AllByRecursion, filter}
 use Rattle.std.proofs.lemmas.List.{map-append, append_assoc, drop_more}
 use Rattle.std.proofs.lemmas.List.Elements.{filter-append}
@@ -29,3 +29,8 @@ pub all_drop : {X : Type 0} (P : X → Type 0) (n : ℕ) (xs : List X) → AllBy
 all_drop P zero xs h = h
 all_drop P (suc n) [] h = h
 all_drop P (suc n) (x ∷ xs) h = all_drop P n xs h.1
+
+pub all_take : {X : Type 0} (P : X → Type 0) (n : ℕ) (xs : List X) → AllByRecursion P xs → AllByRecursion P (take n xs)
+all_take P zero xs h = tt
+all_take P (suc n) [] h = tt
+all_take P (suc n) (x ∷ xs) h = (h.0, all_take P n xs h.1)

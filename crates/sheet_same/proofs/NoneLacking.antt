@@ -6,7 +6,6 @@ use Rattle.cascade_laws.proofs.ForCallers.{some-same}
 use Rattle.list_facts.proofs.Members.{Contains-here, Contains-there}
 use Rattle.order_laws.specs.Places.{PlacedPair, has_pair}
 use Rattle.sheet_order.specs.declared.places.PairPlace.{PairPlace}
-use Rattle.sheet_same.specs.declared.compared.Compared.{Compared}
 use Rattle.sheet_same.specs.declared.compared.Compared.TheVariants.{Missing, Extra, KeptItem}
 use Rattle.sheet_same.specs.Compared.{first_of}
 use Rattle.sheet_same.specs.Lacking.{lacking, first_found, first_lacking}

@@ -1,10 +1,10 @@
 -- The couples of members by their places are those whose order differs.
-use Rattle.std.proofs.Common.{◌≡◌, ◌↔◌, ◌⊎◌, ℕ, zero, suc, ◌+◌, ◌<◌, ◌≤◌, ◌==◌, Bool, true, false, not, List, [], ◌∷◌, ◌++◌, length, map, Option, Some, None, refl, sym, ap, ap₂, ◌∙◌, subst, inl, inr, arith}
+use Rattle.std.proofs.Common.{◌≡◌, ℕ, zero, suc, ◌+◌, ◌<◌, ◌≤◌, Bool, true, false, not, List, [], ◌∷◌, ◌++◌, length, map, Option, Some, None, refl, sym, ap, ap₂, ◌∙◌, subst, inl, inr, arith}
 use Rattle.std.specs.Bool.{beq}
 use Rattle.std.specs.Prelude.{◌&&◌, ◌||◌, nat_lt, if◌then◌else◌, slice_get}
-use Rattle.std.specs.List.{AllByRecursion, Contains, filter}
-use Rattle.std.proofs.lemmas.Bool.{false≢true, and_from, and_parts, or_cases}
-use Rattle.std.proofs.lemmas.Bool.Decides.{nat_tests, Decides-eqb}
+use Rattle.std.specs.List.{AllByRecursion, Contains, filter, find}
+use Rattle.std.proofs.lemmas.Bool.{false≢true}
+use Rattle.std.proofs.lemmas.Bool.Decides.{nat_tests}
 use Rattle.list_facts.proofs.Members.{Contains-here, Contains-there}
 use Rattle.cascade_laws.proofs.ForCallers.{some-same, weigh_back}
 use Rattle.css_model.specs.declared.sheet.Item.{Item}
@@ -16,11 +16,10 @@ use Rattle.css_model.specs.Sheets.StyleRule.{selectors_of}
 use Rattle.media_groups.specs.declared.media.Media.{Media}
 use Rattle.order_laws.specs.Comparing.{OrderIsDecided, WeighingIsDecided, weigh, weighs_kept, comes_before, comes_before_kept}
 use Rattle.order_laws.specs.Members.{same_pair}
-use Rattle.order_laws.specs.Places.{PairPlace, PlacedPair, StandsLast, last_pairs, has_pair, place_of, ListedStandsLast}
+use Rattle.order_laws.specs.Places.{PlacedPair, StandsLast, last_pairs, has_pair, place_of, ListedStandsLast}
 use Rattle.order_laws.specs.Reversed.{kept_from}
 use Rattle.sheet_order.proofs.ForCallers.{all_members, pair_is}
 use Rattle.sheet_same.specs.declared.standing.Spot.{Spot}
-use Rattle.sheet_same.specs.declared.standing.Standing.{Standing}
 use Rattle.overlap.specs.PairsParts.{Answered}
 use Rattle.sheet_same.specs.declared.compared.Compared.{Compared}
 use Rattle.sheet_same.specs.Compared.{found_in_parts, FoundBehind, IsFound}
@@ -28,30 +27,14 @@ use Rattle.sheet_same.specs.Judging.{IsJudged}
 use Rattle.sheet_same.specs.Kept.{same_item, block_of, blocks_behind, unlike, differing_from, first_differing}
 use Rattle.sheet_same.specs.Lacking.{lacking, first_lacking}
 use Rattle.sheet_same.specs.Members.{Member, Paired, KeptAt, kept_member, members}
-use Rattle.sheet_same.specs.Standing.{spot_of, spot_in, kept_at, standing_of, is_later, spots_differ, members_weigh, are_turned, couples_with, couples_of}
+use Rattle.sheet_same.specs.Standing.{Standing, spot_of, spot_in, kept_at, standing_of, is_later, spots_differ, are_turned, couples_with, couples_of}
 use Rattle.sheet_same.specs.Turned.{Couple, couple, is_turned, turned_from, turned}
 use Rattle.sheet_same.proofs.Askable.{all_append, all_map, order_all}
 use Rattle.sheet_same.proofs.NoneLacking.{at_has, not_lacking, none_lacking_each, AllNone, all_none}
+use Rattle.sheet_same.proofs.Spots.{later_is, is_later_of}
 use Rattle.sheet_same.proofs.Weighing.{both_test}
 
 -- ---- Places
-
-abbrev spot_place : Spot → Place
-spot_place x = record { item = x.item; position = x.decl }
-
-later_is : (x y : Spot) → is_later x y ≡ true → IsLater (spot_place x) (spot_place y)
-later_is x y h = which (or_cases (nat_lt y.item x.item) (x.item == y.item && nat_lt y.decl x.decl) h)
-  where
-    which : (nat_lt y.item x.item ≡ true) ⊎ ((x.item == y.item && nat_lt y.decl x.decl) ≡ true) → IsLater (spot_place x) (spot_place y)
-    which (inl g) = inl (grind (arith, nat_tests))
-    which (inr g) =
-        let parts : ((x.item == y.item) ≡ true) × (nat_lt y.decl x.decl ≡ true) = and_parts (x.item == y.item) (nat_lt y.decl x.decl) g in
-        let less : y.decl < x.decl = let l = parts.1 in grind (arith, nat_tests) in
-        inr ((Decides-eqb x.item y.item).0 parts.0, less)
-
-is_later_of : (x y : Spot) → IsLater (spot_place x) (spot_place y) → is_later x y ≡ true
-is_later_of x y (inl less) = let l = less in grind (arith, nat_tests)
-is_later_of x y (inr both) = let e = both.0 in let l = both.1 in grind (arith, nat_tests)
 
 one_place : (items : List Item) (p : Pair) (a b : Place) → IsLast items p a → IsLast items p b → a ≡ b
 one_place items p a b h g = ap₂ (λ (n m : ℕ). record { item = n; position = m }) item position
@@ -213,6 +196,25 @@ record IsTwin (t : List Item) (p : Pair) (spot : Spot) : Type 0 where
   listed : Contains (last_pairs t) twin
   same : twin.pair ≡ p
   is : spot ≡ spot_of twin.place
+
+pub found_spot : (xs : List PlacedPair) (p : Pair) (x : PlacedPair) → Some x ≡ find (λ q. same_pair q.pair p) xs → spot_of x.place ≡ spot_in xs p
+found_spot [] p x h = absurd (let e : Some x ≡ None = h in cc)
+found_spot (y ∷ xs) p x h = which (same_pair y.pair p) h (λ g. found_spot xs p x g)
+  where
+    which : (b : Bool) → Some x ≡ (if b then Some y else find (λ q. same_pair q.pair p) xs) → (Some x ≡ find (λ q. same_pair q.pair p) xs → spot_of x.place ≡ spot_in xs p) → spot_of x.place ≡ (if b then spot_of y.place else spot_in xs p)
+    which true g ih = ap (λ (z : PlacedPair). spot_of z.place) (some-same g)
+    which false g ih = ih g
+
+pub no_spot : (xs : List PlacedPair) (p : Pair) → None ≡ find (λ q. same_pair q.pair p) xs → record { item = 0; decl = 0 } ≡ spot_in xs p
+no_spot [] p h = refl
+no_spot (y ∷ xs) p h = which (same_pair y.pair p) h (λ g. no_spot xs p g)
+  where
+    nowhere : Spot
+    nowhere = record { item = 0; decl = 0 }
+
+    which : (b : Bool) → None ≡ (if b then Some y else find (λ q. same_pair q.pair p) xs) → (None ≡ find (λ q. same_pair q.pair p) xs → nowhere ≡ spot_in xs p) → nowhere ≡ (if b then spot_of y.place else spot_in xs p)
+    which true g ih = absurd (let e : None ≡ Some y = g in cc)
+    which false g ih = ih g
 
 twin_in : (xs : List PlacedPair) (p : Pair) → has_pair xs p ≡ true → (x : PlacedPair) × Contains xs x × (x.pair ≡ p) × (spot_in xs p ≡ spot_of x.place)
 twin_in [] p h = absurd (false≢true h)
@@ -484,8 +486,16 @@ couples_turned listed order weighing source media s other media' t none =
     both (KeptAt n item) of there = (of.0, of.1, let below : kept_before n s < length (kept_items s) = below_all s n item of.0 of.1 in omega (arith, below, many))
 
 -- what is found in these couples is found
-pub found_behind_parts : ListedStandsLast → OrderIsDecided → WeighingIsDecided → (held : List Answered) (source : List ℕ) (media : List Media) (s : List Item) (other : List ℕ) (media' : List Media) (t : List Item) (ms : List Standing) (found : Option Compared) →
+found_behind_parts : ListedStandsLast → OrderIsDecided → WeighingIsDecided → (held : List Answered) (source : List ℕ) (media : List Media) (s : List Item) (other : List ℕ) (media' : List Media) (t : List Item) (ms : List Standing) (found : Option Compared) →
     found_in_parts source media s other media' t ≡ None → ms ≡ map (standing_of s t) (members s) → IsJudged held s (couples_of ms) found → IsFound held source media s other media' t found
 found_behind_parts listed order weighing held source media s other media' t ms found none are h =
     subst (λ (o : Option Compared). FoundBehind held s t o found) (sym none)
     (subst (λ (cs : List Couple). IsJudged held s cs found) (ap couples_of are ∙ couples_turned listed order weighing source media s other media' t none) h)
+
+-- so it is in sheets and members that are these
+pub found_behind_twins : ListedStandsLast → OrderIsDecided → WeighingIsDecided → (held : List Answered) (source : List ℕ) (media : List Media) (s : List Item) (other : List ℕ) (media' : List Media) (t s' t' : List Item) (ms : List Member) (found : Option Compared) →
+    found_in_parts source media s other media' t ≡ None → s' ≡ s → t' ≡ t → ms ≡ members s → IsJudged held s' (couples_of (map (standing_of s' t') ms)) found → IsFound held source media s other media' t found
+found_behind_twins listed order weighing held source media s other media' t s' t' ms found none first second are h =
+    found_behind_parts listed order weighing held source media s other media' t (map (standing_of s t) ms) found none (ap (map (standing_of s t)) are)
+    (subst (λ (xs : List Item). IsJudged held xs (couples_of (map (standing_of xs t) ms)) found) first
+    (subst (λ (ys : List Item). IsJudged held s' (couples_of (map (standing_of s' ys) ms)) found) second h))

@@ -1,4 +1,5 @@
 pub mod Compared
+pub mod Ends
 pub mod Judging
 pub mod Kept
 pub mod Lacking
@@ -6,3 +7,5 @@ pub mod Members
 pub mod Seen
 pub mod Standing
 pub mod Turned
+pub mod Twins
+pub mod Weight

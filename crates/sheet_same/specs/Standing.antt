@@ -9,7 +9,6 @@ use Rattle.order_laws.specs.Comparing.{weigh, weighs_kept}
 use Rattle.order_laws.specs.Members.{same_pair}
 use Rattle.order_laws.specs.Places.{PairPlace, PlacedPair, last_pairs}
 use Rattle.sheet_same.specs.declared.standing.Spot.{Spot}
-use Rattle.sheet_same.specs.declared.standing.Standing.{Standing}
 use Rattle.sheet_same.specs.Members.{Member, Paired, KeptAt}
 use Rattle.sheet_same.specs.Turned.{Couple, couple}
 
@@ -29,6 +28,12 @@ abbrev pub kept_at : (first number : ℕ) → List Item → ℕ
 kept_at first number [] = first
 kept_at first zero (x ∷ xs) = if is_kept x then first else kept_at (suc first) zero xs
 kept_at first (suc number) (x ∷ xs) = if is_kept x then kept_at (suc first) number xs else kept_at (suc first) (suc number) xs
+
+-- a member of a sheet, with its places in it and in another one
+pub record Standing : Type 0 where
+  pub member : Member
+  pub here : Spot
+  pub there : Spot
 
 -- a member of the first of two sheets, with its places in both (own)
 abbrev pub standing_of : List Item → List Item → Member → Standing

@@ -1,5 +1,5 @@
 -- The couples of members that weigh and whose order differs in two sheets.
-use Rattle.std.specs.Prelude.{ℕ, Bool, false, ◌||◌, List, [], ◌∷◌, ◌++◌, map}
+use Rattle.std.specs.Prelude.{Bool, false, ◌||◌, List, [], ◌∷◌, ◌++◌, map}
 use Rattle.std.specs.List.{filter}
 use Rattle.css_model.specs.declared.sheet.Item.{Item}
 use Rattle.order_laws.specs.Reversed.{is_reversed, is_reversed_kept}

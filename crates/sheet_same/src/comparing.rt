@@ -1,14 +1,15 @@
 //! Two sheets compared by five tests.
 
-ghost use Rattle.std.specs.Prelude.{◌≡◌, ◌<◌, ◌^◌, [], Ok, IfOk, length};
+ghost use Rattle.std.specs.Prelude.{◌≡◌, ◌<◌, ◌^◌, [], Ok, IfOk, length, map};
 ghost use Rattle.std.specs.List.{AllByRecursion};
 ghost use Rattle.css_model.specs.Sheets.Sheet.{sheet_of};
 ghost use Rattle.css_model.specs.Text.Source.{text_at};
 ghost use Rattle.media_groups.specs.Laws.{IsBlockOf};
 ghost use Rattle.sheet_order.specs.Allowing.{Stays};
 ghost use Rattle.sheet_same.specs.Compared as spec;
-ghost use Rattle.sheet_same.specs.Judging.{IsAskable};
+ghost use Rattle.sheet_same.specs.Judging.{IsAskable, IsJudged};
 ghost use Rattle.sheet_same.specs.Members as order;
+ghost use Rattle.sheet_same.specs.Standing.{couples_of, standing_of};
 
 use crate::compared::{Compared, Difference};
 use crate::judging::judged;
@@ -16,6 +17,7 @@ use crate::kept::first_differing;
 use crate::lacking::first_lacking;
 use crate::members::{Member, members};
 use crate::standing::standings;
+use crate::twins::Twins;
 use css_model::Sheet;
 use media_groups::{Media, Reading, open_media, opened_blocks_are_sheets, reading_of};
 use merge_laws::read_is_plannable;
@@ -23,7 +25,7 @@ use order_laws::{listed_stands_last, order_is_decided, weighing_is_decided};
 use overlap::Pairs;
 use print_laws::selectors_are_in_the_profile;
 use selector_laws::read_selectors_keep_the_limits;
-use sheet_order::{Ordered, ordered};
+use sheet_order::{Ordered, PairIndex, ordered};
 use std::alloc::{AllocError, Global};
 use step_laws::parts_are_few;
 
@@ -68,23 +70,27 @@ fn side_of<'a>(
     })
 }
 
-/// What the first three tests find.
+/// What the first three tests find, by the indexes of both sheets.
 fn found_in_parts(
     alloc: Global,
     side: &Side<'_>,
+    index: &PairIndex<'_>,
     there: &Side<'_>,
+    other: &PairIndex<'_>,
 ) -> Result<Option<Compared>, AllocError>
     requires few { length side.now.sheet.items.now < 2 ^ 32 }
     requires first { AllByRecursion IsAskable side.now.members.items }
     requires second { AllByRecursion IsAskable there.now.members.items }
+    requires index { index.now ≡ side.now.sheet.pairs.items }
+    requires other { other.now ≡ there.now.sheet.pairs.items }
     ensures { IfOk result (λ found. found
         ≡ spec.found_in_parts side.now.reading.source.now side.now.media.now side.now.sheet.items.now
         there.now.reading.source.now there.now.media.now there.now.sheet.items.now) }
 {
-    if let Some(place) = first_lacking(&there.sheet.pairs, &side.members) {
+    if let Some(place) = first_lacking(other, &side.members) {
         return Ok(Some(Compared::Missing(place)));
     }
-    if let Some(place) = first_lacking(&side.sheet.pairs, &there.members) {
+    if let Some(place) = first_lacking(index, &there.members) {
         return Ok(Some(Compared::Extra(place)));
     }
     match first_differing(
@@ -101,8 +107,25 @@ fn found_in_parts(
     }
 }
 
+/// What is found in the couples of these members of the first of two sheets.
+#[tactic(auto, using(sheet_order::proofs::ForCallers::stays_itself))]
+fn found_in_couples(
+    alloc: Global,
+    pairs: &mut Pairs,
+    twins: &Twins<'_>,
+    members: &[Member<'_>],
+) -> Result<Option<Compared>, AllocError>
+    requires { AllByRecursion IsAskable members.now }
+    ensures stays { Stays pairs.old pairs.new }
+    ensures judged { IfOk result (λ found. IsJudged pairs.new.answers twins.now.sheet.now.items.now
+        (couples_of (map (standing_of twins.now.sheet.now.items.now twins.now.other.now.items.now) members.now)) found) }
+{
+    let members = standings(alloc, twins, members)?;
+    judged(alloc, pairs, twins.sheet.items, &members)
+}
+
 /// What is found in two sheets by four tests.
-#[tactic(auto, using(sheet_order::proofs::ForCallers::stays_itself, crate::proofs::Askable::standings_askable))]
+#[tactic(auto, using(sheet_order::proofs::ForCallers::stays_itself))]
 fn found_in_sides(
     alloc: Global,
     pairs: &mut Pairs,
@@ -117,14 +140,15 @@ fn found_in_sides(
         side.now.reading.source.now side.now.media.now side.now.sheet.items.now
         there.now.reading.source.now there.now.media.now there.now.sheet.items.now found) }
 {
-    if let Some(found) = found_in_parts(alloc, side, there)? {
-        return Ok(Some(found));
-    }
     listed_stands_last();
     order_is_decided();
     weighing_is_decided();
-    let members = standings(alloc, &side.sheet, &there.sheet, &side.members)?;
-    judged(pairs, side.sheet.items, &members)
+    let index = PairIndex::new(alloc, &side.sheet.pairs)?;
+    let twins = Twins::new(alloc, &side.sheet, &there.sheet)?;
+    if let Some(found) = found_in_parts(alloc, side, &index, there, &twins.index)? {
+        return Ok(Some(found));
+    }
+    found_in_couples(alloc, pairs, &twins, &side.members)
 }
 
 /// A sheet that is read from a source, and those of its blocks that count as opened.

@@ -7,18 +7,20 @@ ghost use Rattle.overlap.specs.Remembered.{IsHeld};
 ghost use Rattle.sheet_order.specs.Allowing.{Stays};
 ghost use Rattle.sheet_order.specs.Narrow.{IsNarrowPlace};
 ghost use Rattle.sheet_same.specs.declared.compared.Compared.TheVariants as found;
+ghost use Rattle.sheet_same.specs.Ends as ends;
 ghost use Rattle.sheet_same.specs.Judging as spec;
 ghost use Rattle.sheet_same.specs.Members as members;
 ghost use Rattle.sheet_same.specs.Seen.{member_seen};
 ghost use Rattle.sheet_same.specs.Standing as standing;
 
 use crate::compared::Compared;
+use crate::ends::{Least, end_of, leasts};
 use crate::members::{Kind, Member};
 use crate::standing::{Standing, are_turned};
 use css_model::Item;
 use overlap::{Answer, Pairs};
 use sheet_order::{PairPlace, Placed, kept_before, narrow_place};
-use std::alloc::AllocError;
+use std::alloc::{AllocError, Global};
 
 /// What an answer for the selectors of two pairs at these places says of the sheets.
 fn found_by(
@@ -164,9 +166,29 @@ fn found_behind(
     Ok(None)
 }
 
+/// What is found in the couples of a member and later ones, whose least places these are.
+#[tactic(auto, using(crate::proofs::Lists::all_take))]
+fn found_with(
+    pairs: &mut Pairs,
+    items: &[Item],
+    m: &Standing<'_>,
+    later: &[Standing<'_>],
+    leasts: &[Least],
+) -> Result<Option<Compared>, AllocError>
+    requires first { spec.IsAskable m.now.member }
+    requires all { AllByRecursion (λ x. spec.IsAskable x.member) later.now }
+    requires leasts { leasts.now ≡ ends.leasts later.now }
+    ensures stays { Stays pairs.old pairs.new }
+    ensures judged { IfOk result (λ found. spec.IsJudged pairs.new.answers items.now (standing.couples_with m.now later.now) found) }
+{
+    let end = end_of(leasts, m, later);
+    found_behind(pairs, items, m, &later[..end])
+}
+
 /// What is found in the couples of members of a sheet that are turned, by the earlier one and then by the later one.
 #[tactic(auto, using(sheet_order::proofs::ForCallers::stays_itself, crate::proofs::Lists::all_drop))]
 pub(crate) fn judged(
+    alloc: Global,
     pairs: &mut Pairs,
     items: &[Item],
     members: &[Standing<'_>],
@@ -175,10 +197,12 @@ pub(crate) fn judged(
     ensures stays { Stays pairs.old pairs.new }
     ensures judged { IfOk result (λ found. spec.IsJudged pairs.new.answers items.now (standing.couples_of members.now) found) }
 {
+    let leasts = leasts(alloc, members)?;
     let mut behind = 0;
     for m in members {
         behind += 1;
-        if let Some(found) = found_behind(pairs, items, m, &members[behind..])? {
+        let (later, ends) = (&members[behind..], &leasts[behind..]);
+        if let Some(found) = found_with(pairs, items, m, later, ends)? {
             return Ok(Some(found));
         }
     }

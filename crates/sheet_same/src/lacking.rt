@@ -6,15 +6,15 @@ ghost use Rattle.sheet_same.specs.Judging.{IsAskable};
 ghost use Rattle.sheet_same.specs.Lacking as spec;
 
 use crate::members::{Kind, Member};
-use sheet_order::{PairPlace, Placed, has_pair, narrow_place};
+use sheet_order::{PairIndex, PairPlace, narrow_place};
 
 /// The place of a member, if it is a pair that is not among these.
-fn lacking(pairs: &[Placed<'_>], member: &Member<'_>) -> Option<PairPlace>
+fn lacking(pairs: &PairIndex<'_>, member: &Member<'_>) -> Option<PairPlace>
     requires { IsAskable member.now }
     ensures { result ≡ spec.lacking pairs.now member.now }
 {
     match &member.kind {
-        Kind::Pair(pair) => if has_pair(pairs, pair) {
+        Kind::Pair(pair) => if pairs.has(pair) {
             None
         } else {
             Some(narrow_place(pair))
@@ -24,7 +24,7 @@ fn lacking(pairs: &[Placed<'_>], member: &Member<'_>) -> Option<PairPlace>
 }
 
 /// The place of the first member that is a pair and is not among these.
-pub(crate) fn first_lacking(pairs: &[Placed<'_>], members: &[Member<'_>]) -> Option<PairPlace>
+pub(crate) fn first_lacking(pairs: &PairIndex<'_>, members: &[Member<'_>]) -> Option<PairPlace>
     requires { AllByRecursion IsAskable members.now }
     ensures { result ≡ spec.first_lacking pairs.now members.now }
 {

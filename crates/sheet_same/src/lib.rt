@@ -3,11 +3,14 @@
 
 mod compared;
 mod comparing;
+mod ends;
 mod judging;
 mod kept;
 mod lacking;
 mod members;
 mod standing;
+mod twins;
+mod weight;
 
 pub use compared::{Compared, Difference};
 pub use comparing::compare;

@@ -1,14 +1,12 @@
 //! The pairs and the kept items of a sheet, in one order.
 
-ghost use Rattle.std.specs.Prelude.{◌≡◌, ◌≤◌, ◌++◌, [], ◌∷◌, IfOk, OnOk, length, map};
-ghost use Rattle.std.specs.List.{prefix_len};
-ghost use Rattle.css_model.specs.Cascade.Winner as winner;
+ghost use Rattle.std.specs.Prelude.{◌≡◌, ◌++◌, [], ◌∷◌, IfOk, OnOk, map};
 ghost use Rattle.order_laws.specs.Reversed.{kept_from};
 ghost use Rattle.sheet_same.specs.Members as spec;
 ghost use Rattle.sheet_same.specs.Seen.{member_seen};
 
 use css_model::Item;
-use sheet_order::{Ordered, Placed, exceeds, is_kept};
+use sheet_order::{Ordered, Placed, is_kept};
 use std::alloc::{AllocError, Global};
 use std::marker::Model;
 
@@ -66,40 +64,16 @@ fn member_key(member: &Member<'_>) -> [usize; 3]
     }
 }
 
-/// Whether the first member stands behind the second one.
-fn is_behind(m: &Member<'_>, x: &Member<'_>) -> bool
-    ensures { result ≡ spec.is_behind m.now x.now }
-{
-    exceeds(&member_key(m), &member_key(x))
-}
-
-/// How many members stand before another one.
-fn count_before(sorted: &[Member<'_>], member: &Member<'_>) -> usize
-    ensures exact { result ≡ prefix_len (spec.is_behind member.now) sorted.now }
-    ensures within { result ≤ length sorted.now }
-{
-    sorted.iter().take_while(|x| is_behind(member, x)).count()
-}
-
-/// Puts a member where it belongs.
-fn put_in<'a>(sorted: &mut Vec<Member<'a>>, member: &Member<'a>) -> Result<(), AllocError>
-    ensures { OnOk result (sorted.new.items ≡ spec.put_in member.now sorted.old.items) }
-{
-    let at = count_before(sorted, member);
-    sorted.insert(at, member.copy())?;
-    Ok(())
-}
-
 /// The members in their order.
-#[tactic(auto, using(crate::proofs::PuttingIn::put_last, crate::proofs::PuttingIn::put_first))]
-fn in_order<'a>(alloc: Global, members: Vec<Member<'a>>) -> Result<Vec<Member<'a>>, AllocError>
+fn in_order(members: Vec<Member<'_>>) -> Result<Vec<Member<'_>>, AllocError>
     ensures { IfOk result (λ sorted. sorted.items ≡ spec.in_order members.entry.items) }
 {
-    let mut left = members;
-    let mut sorted = Vec::with_capacity(alloc, left.len())?;
-    'left: while let Some(member) = left.pop() {
-        put_in(&mut sorted, &member)?;
-    }
+    let mut sorted = members;
+    sorted.sort_by_key(
+        |member|
+            ensures { result ≡ spec.member_key member.now }
+        { member_key(member) },
+    )?;
     Ok(sorted)
 }
 
@@ -154,5 +128,5 @@ pub(crate) fn members<'a>(alloc: Global, sheet: &Ordered<'a>) -> Result<Vec<Memb
     let mut found = Vec::with_capacity(alloc, sheet.pairs.len())?;
     push_pairs(&mut found, &sheet.pairs)?;
     push_kept(&mut found, sheet.items)?;
-    in_order(alloc, found)
+    in_order(found)
 }

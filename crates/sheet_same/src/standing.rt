@@ -1,15 +1,19 @@
 //! Where the members of a sheet stand in it and in another one.
 
 ghost use Rattle.std.specs.Prelude.{◌≡◌, IfOk, map};
+ghost use Rattle.std.specs.List.{AllByRecursion};
 ghost use Rattle.order_laws.specs.Comparing as order;
 ghost use Rattle.sheet_same.specs.Judging.{IsAskable, IsAskablePair};
 ghost use Rattle.sheet_same.specs.Standing as spec;
 
 use crate::members::{Kind, Member};
+use crate::twins::Twins;
+use crate::weight::{Weight, may_weigh, weight_of};
 use css_model::Item;
 use order_laws::weighing_is_decided;
-use sheet_order::{Ordered, Placed, is_kept, kept_before};
+use sheet_order::Placed;
 use std::alloc::{AllocError, Global};
+use std::marker::Model;
 use window_order::{decls_weigh, same_specificity};
 
 /// A place of a sheet by which the order goes: an item, and a declaration in it.
@@ -19,12 +23,25 @@ pub(crate) struct Spot {
     pub(crate) decl: usize,
 }
 
-/// A member of a sheet, with its places in it and in another one.
+/// A member of a sheet, with its places in it and in another one, and its weight.
 #[derive(Drop)]
 pub(crate) struct Standing<'a> {
     pub(crate) member: Member<'a>,
     pub(crate) here: Spot,
     pub(crate) there: Spot,
+    weight: Weight,
+}
+
+impl<'a> Model for Standing<'a> {
+    ghost use Rattle.sheet_same.specs.Standing as spec;
+    ghost use Rattle.sheet_same.specs.Weight.{weight_of};
+    ghost use Rattle.std.specs.Prelude.{◌≡◌};
+
+    ghost Value = { spec.Standing };
+
+    ghost view = { λ x. record { member = x.member; here = x.here; there = x.there } };
+
+    ghost invariant = { λ x. x.weight ≡ weight_of x.member };
 }
 
 /// The place of a pair.
@@ -37,36 +54,14 @@ fn spot_of(pair: &Placed<'_>) -> Spot
     }
 }
 
-/// That of the first of these pairs that is this one, wherever it stands.
-fn spot_in(pairs: &[Placed<'_>], pair: &Placed<'_>) -> Spot
-    ensures { result ≡ spec.spot_in pairs.now pair.now.pair }
+/// The place of a pair in the second of two sheets.
+fn spot_in(twins: &Twins<'_>, pair: &Placed<'_>) -> Spot
+    ensures { result ≡ spec.spot_in twins.now.other.now.pairs.items pair.now.pair }
 {
-    for other in pairs {
-        if other.is_same(pair) {
-            return spot_of(other);
-        }
+    match twins.index.find(pair) {
+        Some(twin) => spot_of(twin),
+        None => Spot { item: 0, decl: 0 },
     }
-    Spot { item: 0, decl: 0 }
-}
-
-/// The number among all items of the kept one of this number.
-fn kept_at(items: &[Item], number: usize) -> usize
-    ensures { result ≡ spec.kept_at 0 number items.now }
-{
-    let mut first = 0;
-    let mut left = number;
-    let mut rest = items;
-    'rest: while let Some((item, behind)) = rest.split_first() {
-        if is_kept(item) {
-            if left == 0 {
-                return first;
-            }
-            left -= 1;
-        }
-        first += 1;
-        rest = behind;
-    }
-    first
 }
 
 /// The place of a kept item of this number.
@@ -80,17 +75,16 @@ fn kept_spot(number: usize) -> Spot
 }
 
 /// A member of the first of two sheets, with its places in both.
-fn standing_of<'a>(sheet: &Ordered<'_>, other: &Ordered<'_>, member: &Member<'a>) -> Standing<'a>
-    ensures { result ≡ spec.standing_of sheet.now.items.now other.now.items.now member.now }
+fn standing_of<'a>(twins: &Twins<'_>, member: &Member<'a>) -> Standing<'a>
+    requires { IsAskable member.now }
+    ensures { result ≡ spec.standing_of twins.now.sheet.now.items.now twins.now.other.now.items.now member.now }
 {
     let (here, there) = match &member.kind {
-        Kind::Pair(pair) => (spot_of(pair), spot_in(&other.pairs, pair)),
-        Kind::Kept(number, _) => {
-            let place = kept_at(other.items, kept_before(*number, sheet.items));
-            (kept_spot(*number), kept_spot(place))
-        }
+        Kind::Pair(pair) => (spot_of(pair), spot_in(twins, pair)),
+        Kind::Kept(number, _) => (kept_spot(*number), kept_spot(twins.kept_twin(*number))),
     };
     Standing {
+        weight: weight_of(member),
         member: member.copy(),
         here,
         there,
@@ -101,21 +95,22 @@ fn standing_of<'a>(sheet: &Ordered<'_>, other: &Ordered<'_>, member: &Member<'a>
 #[tactic(auto, using(crate::proofs::Lists::map_append))]
 pub(crate) fn standings<'a>(
     alloc: Global,
-    sheet: &Ordered<'_>,
-    other: &Ordered<'_>,
+    twins: &Twins<'_>,
     members: &[Member<'a>],
 ) -> Result<Vec<Standing<'a>>, AllocError>
-    ensures { IfOk result (λ found. found.items ≡ map (spec.standing_of sheet.now.items.now other.now.items.now) members.now) }
+    requires { AllByRecursion IsAskable members.now }
+    ensures { IfOk result (λ found. found.items
+        ≡ map (spec.standing_of twins.now.sheet.now.items.now twins.now.other.now.items.now) members.now) }
 {
     let mut found = Vec::with_capacity(alloc, members.len())?;
     for member in members {
-        found.push(standing_of(sheet, other, member))?;
+        found.push(standing_of(twins, member))?;
     }
     Ok(found)
 }
 
 /// Whether the first place is later.
-fn is_later(x: Spot, y: Spot) -> bool
+pub(crate) fn is_later(x: Spot, y: Spot) -> bool
     ensures { result ≡ spec.is_later x y }
 {
     y.item < x.item || x.item == y.item && y.decl < x.decl
@@ -161,11 +156,21 @@ fn members_weigh(m: &Member<'_>, x: &Member<'_>) -> bool
     }
 }
 
+/// Whether two members weigh. Their weights are looked at first: most that does not weigh has other ones.
+fn both_weigh(m: &Standing<'_>, x: &Standing<'_>) -> bool
+    requires first { IsAskable m.now.member }
+    requires second { IsAskable x.now.member }
+    ensures { result ≡ spec.members_weigh m.now.member x.now.member }
+{
+    weighing_is_decided();
+    may_weigh(&m.weight, &x.weight) && members_weigh(&m.member, &x.member)
+}
+
 /// Whether two members weigh and come in another order in the other sheet.
 pub(crate) fn are_turned(m: &Standing<'_>, x: &Standing<'_>) -> bool
     requires first { IsAskable m.now.member }
     requires second { IsAskable x.now.member }
     ensures { result ≡ spec.are_turned m.now x.now }
 {
-    spots_differ(m, x) && members_weigh(&m.member, &x.member)
+    spots_differ(m, x) && both_weigh(m, x)
 }

@@ -1,13 +1,12 @@
-use Rattle.std.proofs.Common.{◌≡◌, ◌+◌, List, [], ◌∷◌, length, Option, Some, None, ap, subst, arith}
+use Rattle.std.proofs.Common.{◌≡◌, List, [], ◌∷◌, length, Option, ap, subst, arith}
 use Rattle.std.specs.List.{AllByRecursion}
-use Rattle.std.proofs.lemmas.List.{nil_from_length}
 use Rattle.css_model.specs.Text.Source.{text_at}
 use Rattle.media_groups.specs.declared.media.Media.{Media}
 use Rattle.media_groups.specs.Laws.{IsBlockOf}
 use Rattle.sheet_order.proofs.ForCallers.{stays_on}
 use Rattle.sheet_same.specs.declared.compared.Compared.{Compared}
-use Rattle.sheet_same.specs.Compared.{IsFound, nothing}
-use Rattle.sheet_same.proofs.Bodies.{next_rest, this_rest, none_first, none_second}
+use Rattle.sheet_same.specs.Compared.{IsFound}
+use Rattle.sheet_same.proofs.Bodies.{next_rest}
 use Rattle.sheet_same.proofs.comparing.compare_bodies.Goals as goal
 
 pub bodies-preserved : goal.bodies-preserved

@@ -1,4 +1,4 @@
-use Rattle.std.proofs.Common.{refl, sym, ap}
+use Rattle.std.proofs.Common.{sym, ap}
 use Rattle.order_laws.specs.Places.{PlacedPair}
 use Rattle.sheet_same.proofs.Weighing.{kept_weighs}
 use Rattle.sheet_same.proofs.standing.kept_weighs.Goals as goal

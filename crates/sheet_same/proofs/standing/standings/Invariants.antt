@@ -4,4 +4,4 @@ use Rattle.sheet_same.proofs.standing.standings.Given as goal
 
 -- the first ones are there
 abbrev pub invariant-loop-member : goal.invariant-loop-member
-invariant-loop-member l = l.found.items ≡ map (spec.standing_of l.sheet.items.now l.other.items.now) (take l.member-index l.members)
+invariant-loop-member l = l.found.items ≡ map (spec.standing_of l.twins.sheet.now.items.now l.twins.other.now.items.now) (take l.member-index l.members)
