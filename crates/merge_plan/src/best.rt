@@ -1,10 +1,11 @@
 //! The next step of a sheet, by a look at each of its steps.
 
-ghost use Rattle.std.specs.Prelude.{◌≡◌, ◌↔◌, ℕ, ◌+◌, ◌<◌, ◌≤◌, List, Option, true, false, IfOk, length};
+ghost use Rattle.std.specs.Prelude.{◌≡◌, ◌↔◌, ℕ, ◌+◌, ◌<◌, ◌≤◌, List, Option, true, false, IfOk, length, map};
 ghost use Rattle.std.specs.List.{AllPairs, Contains};
 ghost use Rattle.merge_plan.specs.Best.{IsBestOf, IsNextFound, saved_by};
 ghost use Rattle.plan_laws.specs.Plannable.{IsPlannable};
 ghost use Rattle.order_laws.specs.Edits.{Edit};
+ghost use Rattle.related_props.specs.Masks.{item_mask};
 ghost use Rattle.step_laws.specs.Free.{AreAmong, IsBlocked, IsFree};
 ghost use Rattle.step_laws.specs.Steps.{HasStep, IsStep, StandsBefore};
 ghost use Rattle.step_laws.specs.declared.step.Step as declared;
@@ -15,6 +16,7 @@ use css_model::Sheet;
 use merge_laws::read_keeps_the_limits;
 use merge_steps::steps;
 use obstacles::Obstacles;
+use related_props::item_masks;
 use std::alloc::{AllocError, Global};
 use step_laws::{Step, parts_are_few};
 use wall_laws::hindered_is_blocked;
@@ -37,8 +39,14 @@ fn saved_by(best: &Option<Found>) -> u32
 }
 
 /// Whether a step of a sheet is free. It is blocked where it is not.
-fn is_free<O: Obstacles>(obstacles: &mut O, sheet: &Sheet, step: &Step) -> Result<bool, AllocError>
+fn is_free<O: Obstacles>(
+    obstacles: &mut O,
+    sheet: &Sheet,
+    masks: &[u64],
+    step: &Step,
+) -> Result<bool, AllocError>
     requires is_step { HasStep sheet.now.items step.now }
+    requires masks { masks.now ≡ map item_mask sheet.now.items }
     requires plannable { (source : List ℕ) × IsPlannable source sheet.now.items }
     ensures asked { AreAmong (O.answers obstacles.old) (O.answers obstacles.new) }
     ensures same_budget { O.budget obstacles.new ≡ O.budget obstacles.old }
@@ -46,7 +54,7 @@ fn is_free<O: Obstacles>(obstacles: &mut O, sheet: &Sheet, step: &Step) -> Resul
     ensures blocked { IfOk result (λ b. b ≡ false → (e : Edit) → IsStep sheet.now.items step.now e → IsBlocked (O.answers obstacles.new) sheet.now.items e) }
 {
     hindered_is_blocked();
-    match obstacles.obstacle(sheet, step)? {
+    match obstacles.obstacle(sheet, masks, step)? {
         None => Ok(true),
         Some(_) => Ok(false),
     }
@@ -57,11 +65,13 @@ fn look<O: Obstacles>(
     obstacles: &mut O,
     source: &KnownLengths<'_>,
     sheet: &Sheet,
+    masks: &[u64],
     list: &[Step],
     number: usize,
     best: Option<Found>,
 ) -> Result<Option<Found>, AllocError>
     requires plannable { IsPlannable source.now sheet.now.items }
+    requires masks { masks.now ≡ map item_mask sheet.now.items }
     requires steps { (k : declared.Step) → Contains list.now k → HasStep sheet.now.items k }
     requires ascends { AllPairs StandsBefore list.now }
     requires here { number < length list.now }
@@ -75,7 +85,7 @@ fn look<O: Obstacles>(
     if saved <= saved_by(&best) {
         return Ok(best);
     }
-    if is_free(obstacles, sheet, &step)? {
+    if is_free(obstacles, sheet, masks, &step)? {
         Ok(Some(Found { step, saved }))
     } else {
         Ok(best)
@@ -88,9 +98,11 @@ fn best_of<O: Obstacles>(
     obstacles: &mut O,
     source: &KnownLengths<'_>,
     sheet: &Sheet,
+    masks: &[u64],
     list: &[Step],
 ) -> Result<Option<Found>, AllocError>
     requires plannable { IsPlannable source.now sheet.now.items }
+    requires masks { masks.now ≡ map item_mask sheet.now.items }
     requires steps { (k : declared.Step) → Contains list.now k → HasStep sheet.now.items k }
     requires ascends { AllPairs StandsBefore list.now }
     ensures asked { AreAmong (O.answers obstacles.old) (O.answers obstacles.new) }
@@ -99,7 +111,7 @@ fn best_of<O: Obstacles>(
 {
     let mut best = None;
     for number in 0..list.len() {
-        best = look(obstacles, source, sheet, list, number, best)?;
+        best = look(obstacles, source, sheet, masks, list, number, best)?;
     }
     Ok(best)
 }
@@ -120,6 +132,7 @@ pub(crate) fn next_step<O: Obstacles>(
     parts_are_few();
     read_keeps_the_limits();
     let list = steps(alloc, sheet)?;
+    let masks = item_masks(alloc, &sheet.items)?;
     let lengths = KnownLengths::none(alloc, source);
-    best_of(obstacles, &lengths, sheet, list.as_slice())
+    best_of(obstacles, &lengths, sheet, &masks, list.as_slice())
 }

@@ -1,9 +1,10 @@
 //! What is asked of a step while a sheet is planned.
 
-ghost use Rattle.std.specs.Prelude.{◌≡◌, ℕ, List, IfNone, IfOk, IfSome};
+ghost use Rattle.std.specs.Prelude.{◌≡◌, ℕ, List, IfNone, IfOk, IfSome, map};
 ghost use Rattle.obstacles.specs.Blocking.{IsBlockedBy};
 ghost use Rattle.order_laws.specs.Edits.{Edit};
 ghost use Rattle.plan_laws.specs.Plannable.{IsPlannable};
+ghost use Rattle.related_props.specs.Masks.{item_mask};
 ghost use Rattle.step_laws.specs.Free.{Answered, AreAmong, AreTrue, IsFree};
 ghost use Rattle.step_laws.specs.Steps.{HasStep, IsStep};
 
@@ -24,10 +25,16 @@ pub trait Obstacles {
     fn answers_are_true(&self)
         ensures { AreTrue (answers self.now) };
 
-    /// What blocks a step of a sheet, and `None` exactly where it is free. All that was answered stays, and the
-    /// budget, also after `AllocError`.
-    fn obstacle(&mut self, sheet: &Sheet, step: &Step) -> Result<Option<Obstacle>, AllocError>
+    /// What blocks a step of a sheet, of whose items the masks are these, and `None` exactly where it is free. All
+    /// that was answered stays, and the budget, also after `AllocError`.
+    fn obstacle(
+        &mut self,
+        sheet: &Sheet,
+        masks: &[u64],
+        step: &Step,
+    ) -> Result<Option<Obstacle>, AllocError>
         requires is_step { HasStep sheet.now.items step.now }
+        requires masks { masks.now ≡ map item_mask sheet.now.items }
         requires plannable { (source : List ℕ) × IsPlannable source sheet.now.items }
         ensures asked { AreAmong (answers self.old) (answers self.new) }
         ensures same_budget { budget self.new ≡ budget self.old }

@@ -1,7 +1,7 @@
 -- A list with others in the place of one of its elements.
-use Rattle.std.proofs.Common.{◌≡◌, ℕ, zero, suc, ◌+◌, ◌<◌, ◌≤◌, List, [], ◌∷◌, ◌++◌, length, set, take, drop, refl, sym, ap, ap₂, ◌∙◌, arith}
+use Rattle.std.proofs.Common.{◌≡◌, ℕ, zero, suc, ◌+◌, ◌<◌, ◌≤◌, List, [], ◌∷◌, ◌++◌, length, map, set, take, drop, refl, sym, ap, ap₂, ◌∙◌, arith}
 use Rattle.std.specs.List.{insert, remove}
-use Rattle.std.proofs.lemmas.List.{length-append}
+use Rattle.std.proofs.lemmas.List.{length-append, map-append}
 use Rattle.plan_board.specs.Putting.{put_at}
 
 pub put_none : {X : Type 0} (n : ℕ) (xs : List X) → remove xs n ≡ put_at n [] xs
@@ -32,6 +32,12 @@ put_length zero by made (x ∷ xs) (y ∷ ys) many same =
 put_length (suc n) by made (x ∷ xs) (y ∷ ys) many same =
     let e : suc (length ys) ≡ suc (length xs) = same in
     ap suc (put_length n by made xs ys many (omega (arith, e)))
+
+-- what is said of each element is said of those put in
+pub put_map : {X Y : Type 0} (f : X → Y) (n : ℕ) (by xs : List X) → put_at n (map f by) (map f xs) ≡ map f (put_at n by xs)
+put_map f n by [] = refl
+put_map f zero by (x ∷ xs) = sym (map-append f by xs)
+put_map {X} {Y} f (suc n) by (x ∷ xs) = ap (λ (ys : List Y). f x ∷ ys) (put_map f n by xs)
 
 -- what stood in the place does not count
 pub put_over : {X : Type 0} (n : ℕ) (by : List X) (p : X) (xs : List X) → put_at n by (set xs n p) ≡ put_at n by xs

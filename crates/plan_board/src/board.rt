@@ -1,30 +1,34 @@
 //! A sheet with the marks of its items.
 
-ghost use Rattle.std.specs.Prelude.{◌≡◌, ◌≤◌, ◌<◌, IfOk, IfSome, IfNone, OnErr, Some, length, slice_get};
+ghost use Rattle.std.specs.Prelude.{◌≡◌, ◌≤◌, ◌<◌, IfOk, IfSome, IfNone, OnErr, Some, length, map, slice_get};
 ghost use Rattle.css_model.specs.Sheets.Limits.{max_items};
 ghost use Rattle.plan_board.specs.MarkList.{AreMarks, Ascends, IsLabelAt, LacksLabel};
+ghost use Rattle.related_props.specs.Masks.{item_mask};
 
 use crate::marks::{Mark, Marks};
 use css_model::Sheet;
+use related_props::item_masks;
 use std::alloc::{AllocError, Global};
 use std::marker::Model;
 
-/// A sheet while it is planned, with a mark of each item.
+/// A sheet while it is planned, with a mark and the mask of each item.
 #[derive(Debug, Drop)]
 pub struct Board {
     pub(crate) sheet: Sheet,
     pub(crate) marks: Marks,
+    pub(crate) masks: Vec<u64>,
 }
 
 impl Model for Board {
-    ghost use Rattle.std.specs.Prelude.{◌≡◌, length};
+    ghost use Rattle.std.specs.Prelude.{◌≡◌, length, map};
     ghost use Rattle.plan_board.specs.BoardParts.{BoardParts};
+    ghost use Rattle.related_props.specs.Masks.{item_mask};
 
     ghost Value = { BoardParts };
 
     ghost view = { λ b. record { items = b.sheet.items; marks = b.marks.list; next = b.marks.next } };
 
-    ghost invariant = { λ b. length b.marks.list ≡ length b.sheet.items };
+    ghost invariant = { λ b. (length b.marks.list ≡ length b.sheet.items) × (b.masks.items ≡ map item_mask b.sheet.items) };
 }
 
 /// The number of the mark with this label, if there is one.
@@ -45,7 +49,12 @@ impl Board {
         ensures next { IfOk result (λ b. b.next ≡ length sheet.items) }
     {
         let marks = Marks::new(alloc, sheet.items.len() as u32)?;
-        Ok(Board { sheet, marks })
+        let masks = item_masks(alloc, &sheet.items)?;
+        Ok(Board {
+            sheet,
+            marks,
+            masks,
+        })
     }
 
     /// The sheet.
@@ -55,12 +64,24 @@ impl Board {
         &self.sheet
     }
 
+    /// The masks of its items, in their order.
+    pub fn masks(&self) -> &[u64]
+        ensures { result.now ≡ map item_mask self.now.items }
+    {
+        &self.masks
+    }
+
     /// The sheet, without its marks.
     pub fn into_sheet(self) -> Sheet
         ensures { result.items ≡ self.items }
     {
-        let Board { sheet, marks } = self;
+        let Board {
+            sheet,
+            marks,
+            masks,
+        } = self;
         drop(marks);
+        drop(masks);
         sheet
     }
 

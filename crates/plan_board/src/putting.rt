@@ -1,14 +1,16 @@
 //! An item taken out of a board, and what is put in its place.
 
-ghost use Rattle.std.specs.Prelude.{◌≡◌, ◌<◌, ◌+◌, ◌^◌, IfOk, Some, length, slice_get, slice_set};
+ghost use Rattle.std.specs.Prelude.{◌≡◌, ◌<◌, ◌+◌, ◌^◌, IfOk, Some, length, map, slice_get, slice_set};
 ghost use Rattle.css_model.specs.declared.sheet.Item.TheVariants as item;
 ghost use Rattle.css_model.specs.Sheets.RuleParts.{RuleParts};
 ghost use Rattle.plan_board.specs.Marking.{AreRenewed, HasLabelBefore};
 ghost use Rattle.plan_board.specs.Putting.{put_at, items_in, placeholder};
+ghost use Rattle.related_props.specs.Masks.{item_mask};
 
 use crate::board::Board;
 use crate::parts::Left;
 use css_model::{Item, Piece, Rule, Sheet};
+use related_props::mask_of_items;
 use std::alloc::AllocError;
 use std::mem;
 
@@ -22,6 +24,44 @@ fn lift_rule(items: &mut Vec<Item>, number: u32) -> Rule
     match mem::replace(&mut items[number as usize], empty) {
         Item::Rule(rule) => rule,
         _ => unreachable!(),
+    }
+}
+
+/// The mask of a rule as an item.
+fn rule_mask(rule: &Rule) -> u64
+    ensures { result ≡ item_mask (item.Rule rule.now) }
+{
+    mask_of_items(&rule.decls)
+}
+
+/// Puts the mask of an empty piece in the place of the one of this number.
+fn lift_mask(masks: &mut Vec<u64>, number: u32)
+    requires { number < length masks.old.items }
+    ensures { masks.new.items ≡ slice_set masks.old.items number (item_mask placeholder) }
+{
+    masks[number as usize] = u64::MAX;
+}
+
+/// Puts the masks of what a step leaves in the place of the one of this number.
+fn put_masks(mut masks: Vec<u64>, number: u32, left: &Left) -> Result<Vec<u64>, AllocError>
+    requires { number < length masks.items }
+    ensures { IfOk result (λ new. new.items ≡ put_at number (map item_mask (items_in left.now)) masks.items) }
+{
+    let number = number as usize;
+    match left {
+        Left::Nothing => {
+            masks.remove(number);
+            Ok(masks)
+        }
+        Left::One(rule) => {
+            masks[number] = rule_mask(rule);
+            Ok(masks)
+        }
+        Left::Two(above, below) => {
+            masks[number] = rule_mask(below);
+            masks.insert(number, rule_mask(above))?;
+            Ok(masks)
+        }
     }
 }
 
@@ -58,11 +98,21 @@ impl Board {
         ensures next { result.0.next ≡ self.next }
         ensures as_many { length self.marks ≡ length self.items }
     {
-        let Board { sheet, marks } = self;
+        let Board {
+            sheet,
+            marks,
+            mut masks,
+        } = self;
         let Sheet { mut items } = sheet;
         let rule = lift_rule(&mut items, number);
+        lift_mask(&mut masks, number);
         let sheet = Sheet { items };
-        (Board { sheet, marks }, rule)
+        let board = Board {
+            sheet,
+            marks,
+            masks,
+        };
+        (board, rule)
     }
 
     /// The board with what a step leaves in the place of the item of this number.
@@ -74,11 +124,20 @@ impl Board {
         ensures marks { IfOk result (λ b. AreRenewed self.marks b.marks self.next number (length (items_in left))) }
         ensures next { IfOk result (λ b. b.next ≡ self.next + length (items_in left)) }
     {
-        let Board { sheet, marks } = self;
+        let Board {
+            sheet,
+            marks,
+            masks,
+        } = self;
         let Sheet { items } = sheet;
         let marks = marks.put(number, &left)?;
+        let masks = put_masks(masks, number, &left)?;
         let items = put_items(items, number, left)?;
         let sheet = Sheet { items };
-        Ok(Board { sheet, marks })
+        Ok(Board {
+            sheet,
+            marks,
+            masks,
+        })
     }
 }

@@ -11,7 +11,7 @@ use Rattle.list_facts.proofs.SliceRange.{slice_range_parts}
 
 -- ---- Elements of parts
 
-get_drop : {X : Type 0} (xs : List X) (n i : ℕ) → slice_get (drop n xs) i ≡ slice_get xs (n + i)
+pub get_drop : {X : Type 0} (xs : List X) (n i : ℕ) → slice_get (drop n xs) i ≡ slice_get xs (n + i)
 get_drop {X} [] zero i = let e : 0 + i ≡ i = omega arith in ap (slice_get []) (sym e)
 get_drop {X} [] (suc n) i = refl
 get_drop {X} (x ∷ xs) zero i = let e : 0 + i ≡ i = omega arith in ap (slice_get (x ∷ xs)) (sym e)

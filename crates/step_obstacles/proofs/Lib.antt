@@ -1,8 +1,10 @@
 mod Askable
 mod Deciding
+pub mod ForCallers
 mod HeldAnswers
 mod KeptPlaces
 mod Looking
+mod Masked
 mod Moving
 mod Named
 mod PairAnswers

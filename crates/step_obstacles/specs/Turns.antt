@@ -15,6 +15,7 @@ use Rattle.obstacles.specs.Blocking.{IsAt}
 use Rattle.obstacles.specs.declared.obstacle.Other.{Other}
 use Rattle.obstacles.specs.declared.obstacle.Other.TheVariants as others
 use Rattle.order_laws.specs.Members.{has_decl}
+use Rattle.related_props.specs.Masks.{IsWithin, decl_mask}
 use Rattle.step_obstacles.specs.Among.{Among}
 use Rattle.step_obstacles.specs.Blocked.{IsKeptIn}
 use Rattle.step_obstacles.specs.declared.facing.DeclAt.{DeclAt}
@@ -40,6 +41,7 @@ pub record IsDeclAt (items : List Item) (d : DeclAt) : Type 0 where
   pub rule_at : slice_get items d.item ≡ Some (kinds.Rule d.rule.now)
   pub decl_at : slice_get d.rule.now.decls d.number ≡ Some item
   pub is : item.decl ≡ d.decl.now
+  pub masked : d.mask ≡ decl_mask d.decl.now
 
 -- so does a rule
 abbrev pub IsRuleAt : List Item → ℕ → RuleParts → Type 0
@@ -82,6 +84,13 @@ pair_of s d = record { selector = s.selector; decl = d }
 abbrev pub is_common : Option (Bor RuleParts) → Decl → Bool
 is_common None d = true
 is_common (Some r) d = has_decl r.now.decls d
+
+-- a rule's mask has the bits of each declaration whose pairs are moved
+abbrev pub IsMasked : Source → Type 0
+IsMasked s = (x : DeclItem) → Contains s.rule.now.decls x → is_common s.with x.decl ≡ true → IsWithin (decl_mask x.decl) s.mask
+
+abbrev pub AreMasked : List Source → Type 0
+AreMasked sources = (s : Source) → Contains sources s → IsMasked s
 
 -- the pairs of a declaration of a rule, if it is common, with something
 abbrev pub OfSelectors : RuleParts → Option (Bor RuleParts) → Decl → (Pair → Hindrance) → Hindrance → Type 0

@@ -18,6 +18,8 @@ pub(crate) struct DeclAt<'a> {
     pub(crate) number: u32,
     /// The declaration.
     pub(crate) decl: &'a Decl,
+    /// Its mask.
+    pub(crate) mask: u64,
 }
 
 /// A rule of a sheet whose pairs are moved: all, or those of the declarations that stand in another rule too.
@@ -29,6 +31,8 @@ pub(crate) struct Source<'a> {
     pub(crate) rule: &'a Rule,
     /// The other rule, if only common declarations count.
     pub(crate) with: Option<&'a Rule>,
+    /// The bits of the declarations that count, and maybe others.
+    pub(crate) mask: u64,
 }
 
 /// Another pair with its place, or the kept item of this number.

@@ -11,6 +11,7 @@ mod step_search;
 mod window_search;
 
 pub use pair_obstacles::PairObstacles;
+pub use step_search::window_of;
 
 #[cfg(test)]
 mod tests;

@@ -54,7 +54,12 @@ impl Obstacles for PairObstacles {
         answers_are_true(&self.pairs);
     }
 
-    fn obstacle(&mut self, sheet: &Sheet, step: &Step) -> Result<Option<Obstacle>, AllocError> {
-        step_obstacle(self.alloc, &mut self.pairs, sheet, step)
+    fn obstacle(
+        &mut self,
+        sheet: &Sheet,
+        masks: &[u64],
+        step: &Step,
+    ) -> Result<Option<Obstacle>, AllocError> {
+        step_obstacle(self.alloc, &mut self.pairs, sheet, masks, step)
     }
 }

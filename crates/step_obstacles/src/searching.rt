@@ -1,8 +1,9 @@
 //! The first that blocks of what moved pairs face, looked at one after the other.
 
-ghost use Rattle.std.specs.Prelude.{◌≡◌, IfOk, Some, slice_get};
+ghost use Rattle.std.specs.Prelude.{◌≡◌, ◌↔◌, IfOk, IsTrue, Some, slice_get};
 ghost use Rattle.css_model.specs.declared.sheet.DeclItem as declared_decl;
 ghost use Rattle.css_model.specs.declared.sheet.SelItem as declared_selector;
+ghost use Rattle.related_props.specs.Masks.{decl_mask, item_mask};
 ghost use Rattle.sheet_order.specs.Allowing.{Stays};
 ghost use Rattle.step_obstacles.specs.Blocked.{IsToldOf};
 ghost use Rattle.step_obstacles.specs.Among.{Among};
@@ -16,6 +17,7 @@ use crate::rule_parts::{decl_count, decl_of, selector_count, selector_of};
 use css_model::{Decl, Item, Rule};
 use obstacles::{Obstacle, PairPlace};
 use overlap::Pairs;
+use related_props::decl_mask;
 use std::alloc::AllocError;
 use step_savings::has_decl;
 use window_order::{PairRef, Window, decls_weigh, weighs_kept};
@@ -171,6 +173,19 @@ fn with_decl(
     Ok(None)
 }
 
+/// Whether two declarations weigh. By their masks most that do not are told.
+#[tactic(auto, using(crate::proofs::Masked::weigh_shows))]
+fn weigh(moved: &DeclAt<'_>, other: &DeclAt<'_>) -> bool
+    requires first { moved.now.mask ≡ decl_mask moved.now.decl.now }
+    requires second { other.now.mask ≡ decl_mask other.now.decl.now }
+    ensures { IsTrue result ↔ DeclsWeigh moved.now.decl.now other.now.decl.now }
+{
+    if moved.mask & other.mask == 0 {
+        return false;
+    }
+    decls_weigh(moved.decl, other.decl)
+}
+
 /// With the pairs of another declaration, if it weighs.
 fn with_other(
     pairs: &mut Pairs,
@@ -186,7 +201,7 @@ fn with_other(
     ensures told { IfOk result (λ found. IsToldOf pairs.new.answers window.now
         (turns.OfOther moved.now.rule.now with.entry moved.now.decl.now other.now.rule.now other.now.decl.now) found) }
 {
-    if decls_weigh(moved.decl, other.decl) {
+    if weigh(moved, other) {
         with_decl(pairs, window, moved, with, other)
     } else {
         Ok(None)
@@ -211,11 +226,13 @@ fn with_number(
     ensures told { IfOk result (λ found. (g : declared_decl.DeclItem) → slice_get rule.now.decls number ≡ Some g →
         IsToldOf pairs.new.answers window.now (turns.OfOther moved.now.rule.now with.entry moved.now.decl.now rule.now g.decl) found) }
 {
+    let decl = decl_of(rule, number);
     let other = DeclAt {
         item,
         rule,
         number,
-        decl: decl_of(rule, number),
+        decl,
+        mask: decl_mask(decl),
     };
     with_other(pairs, window, moved, with, &other)
 }
@@ -292,51 +309,85 @@ fn with_item(
     }
 }
 
-/// Of the declaration of this number of a rule.
+/// Of the declaration of this number of a rule with an item of this mask.
+#[tactic(auto, using(crate::proofs::Masked::decl_passed, crate::proofs::HeldAnswers::stays_itself))]
 fn of_decl(
     pairs: &mut Pairs,
     window: &Window<'_>,
     source: &Source<'_>,
     item: &Item,
     number: u32,
-    decl: u32,
+    mask: u64,
+    part: u32,
 ) -> Result<Option<Obstacle>, AllocError>
     requires askable { turns.IsAskable window.now.items.now }
     requires source { turns.IsRuleAt window.now.items.now source.now.item source.now.rule.now }
     requires item { turns.IsItemOf window.now number item.now }
-    requires decl { (x : declared_decl.DeclItem) × (slice_get source.now.rule.now.decls decl ≡ Some x) }
+    requires mask { mask ≡ item_mask item.now }
+    requires part { (x : declared_decl.DeclItem) × (slice_get source.now.rule.now.decls part ≡ Some x) }
     ensures stays { Stays pairs.old pairs.new }
-    ensures told { IfOk result (λ found. (x : declared_decl.DeclItem) → slice_get source.now.rule.now.decls decl ≡ Some x →
+    ensures told { IfOk result (λ found. (x : declared_decl.DeclItem) → slice_get source.now.rule.now.decls part ≡ Some x →
         IsToldOf pairs.new.answers window.now (turns.OfItem source.now.rule.now source.now.with x.decl window.now.items.now number item.now) found) }
 {
+    let decl = decl_of(source.rule, part);
     let moved = DeclAt {
         item: source.item,
         rule: source.rule,
-        number: decl,
-        decl: decl_of(source.rule, decl),
+        number: part,
+        decl,
+        mask: decl_mask(decl),
     };
+    if moved.mask & mask == 0 {
+        return Ok(None);
+    }
     with_item(pairs, window, &moved, source.with, item, number)
 }
 
-/// Of a rule.
+/// Of each declaration of a rule with an item of this mask.
+fn of_each(
+    pairs: &mut Pairs,
+    window: &Window<'_>,
+    source: &Source<'_>,
+    item: &Item,
+    number: u32,
+    mask: u64,
+) -> Result<Option<Obstacle>, AllocError>
+    requires askable { turns.IsAskable window.now.items.now }
+    requires source { turns.IsRuleAt window.now.items.now source.now.item source.now.rule.now }
+    requires item { turns.IsItemOf window.now number item.now }
+    requires mask { mask ≡ item_mask item.now }
+    ensures stays { Stays pairs.old pairs.new }
+    ensures told { IfOk result (λ found. IsToldOf pairs.new.answers window.now (turns.OfSource window.now.items.now number item.now source.now) found) }
+{
+    let count = decl_count(source.rule);
+    for decl in 0..count {
+        if let Some(found) = of_decl(pairs, window, source, item, number, mask, decl)? {
+            return Ok(Some(found));
+        }
+    }
+    Ok(None)
+}
+
+/// Of a rule with an item of this mask, which is passed over where the masks have no bit in common.
+#[tactic(auto, using(crate::proofs::HeldAnswers::stays_itself))]
 pub(crate) fn of_source(
     pairs: &mut Pairs,
     window: &Window<'_>,
     source: &Source<'_>,
     item: &Item,
     number: u32,
+    mask: u64,
 ) -> Result<Option<Obstacle>, AllocError>
     requires askable { turns.IsAskable window.now.items.now }
     requires source { turns.IsRuleAt window.now.items.now source.now.item source.now.rule.now }
+    requires masked { turns.IsMasked source.now }
     requires item { turns.IsItemOf window.now number item.now }
+    requires mask { mask ≡ item_mask item.now }
     ensures stays { Stays pairs.old pairs.new }
     ensures told { IfOk result (λ found. IsToldOf pairs.new.answers window.now (turns.OfSource window.now.items.now number item.now source.now) found) }
 {
-    let count = decl_count(source.rule);
-    for decl in 0..count {
-        if let Some(found) = of_decl(pairs, window, source, item, number, decl)? {
-            return Ok(Some(found));
-        }
+    if source.mask & mask == 0 {
+        return Ok(None);
     }
-    Ok(None)
+    of_each(pairs, window, source, item, number, mask)
 }

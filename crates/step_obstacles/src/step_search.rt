@@ -1,10 +1,14 @@
 //! What blocks a step, looked for among the items from its first to its last one.
 
-ghost use Rattle.std.specs.Prelude.{◌≡◌, IfNone, IfOk, IfSome, None, Some, map, slice_get};
+ghost use Rattle.std.specs.Prelude.{◌≡◌, true, IfNone, IfOk, IfSome, None, Some, map, slice_get};
+ghost use Rattle.std.specs.List.{Contains};
+ghost use Rattle.css_model.specs.declared.sheet.DeclItem as declared;
 ghost use Rattle.css_model.specs.declared.sheet.Item.TheVariants as kinds;
 ghost use Rattle.css_model.specs.Sheets.RuleParts.{RuleParts};
 ghost use Rattle.obstacles.specs.Blocking.{IsBlockedBy};
 ghost use Rattle.order_laws.specs.Edits.{Edit};
+ghost use Rattle.order_laws.specs.Members.{has_decl};
+ghost use Rattle.related_props.specs.Masks.{IsWithin, decl_mask, item_mask};
 ghost use Rattle.sheet_order.specs.Allowing.{Stays};
 ghost use Rattle.sheet_order.specs.Laws.{answer_seen};
 ghost use Rattle.sheet_order.specs.declared.places.Moved.TheVariants as moved;
@@ -18,11 +22,12 @@ ghost use Rattle.window_laws.specs.StepWindows as windows;
 
 use crate::facing::Source;
 use crate::window_search::in_window;
-use css_model::{Item, Sheet};
+use css_model::{Item, Rule, Sheet};
 use merge_steps::{Change, changes};
 use obstacles::Obstacle;
 use overlap::Pairs;
 use print_laws::selectors_are_in_the_profile;
+use related_props::mask_of_items;
 use sheet_order::Moved;
 use std::alloc::{AllocError, Global};
 use step_laws::{Step, parts_are_few, steps_are_one_edit};
@@ -67,8 +72,14 @@ fn last_left(changes: &[Change]) -> &[Item]
 }
 
 /// The window of a step that makes these changes.
-fn window_of<'a>(items: &'a [Item], step: &Step, changes: &'a [Change]) -> Window<'a>
+pub fn window_of<'a>(
+    items: &'a [Item],
+    masks: &'a [u64],
+    step: &Step,
+    changes: &'a [Change],
+) -> Window<'a>
     requires is_step { HasStep items.now step.now }
+    requires masks { masks.now ≡ map item_mask items.now }
     requires changes { (e : Edit) → IsStep items.now step.now e → changes.now ≡ e.changes }
     ensures { (e : Edit) → IsStep items.now step.now e → IsWindowFor items.now step.now e result }
 {
@@ -78,6 +89,7 @@ fn window_of<'a>(items: &'a [Item], step: &Step, changes: &'a [Change]) -> Windo
     let last_left = last_left(changes);
     Window {
         items,
+        masks,
         start,
         middle,
         last: last as usize,
@@ -86,17 +98,36 @@ fn window_of<'a>(items: &'a [Item], step: &Step, changes: &'a [Change]) -> Windo
     }
 }
 
+/// The bits of the declarations of a rule.
+#[tactic(auto, using(related_props::proofs::ForCallers::decl_is_within))]
+fn decls_mask(rule: &Rule) -> u64
+    ensures { (x : declared.DeclItem) → Contains rule.now.decls x → IsWithin (decl_mask x.decl) result }
+{
+    mask_of_items(&rule.decls)
+}
+
+/// Bits of declarations of a rule, among them those of each one that stands in another rule too.
+#[tactic(auto, using(crate::proofs::Masked::common_within))]
+fn common_mask(rule: &Rule, other: &Rule) -> u64
+    ensures { (x : declared.DeclItem) → Contains rule.now.decls x → has_decl other.now.decls x.decl ≡ true → IsWithin (decl_mask x.decl) result }
+{
+    mask_of_items(&rule.decls) & mask_of_items(&other.decls)
+}
+
 /// All pairs of the rule of this number.
 fn whole(sheet: &Sheet, item: u32) -> Source<'_>
     requires { (r : RuleParts) × (slice_get sheet.now.items item ≡ Some (kinds.Rule r)) }
     ensures item { result.item ≡ item }
     ensures with { result.with ≡ None }
     ensures rule { slice_get sheet.now.items item ≡ Some (kinds.Rule result.rule.now) }
+    ensures masked { turns.IsMasked result }
 {
+    let rule = rule_at(sheet, item);
     Source {
         item,
-        rule: rule_at(sheet, item),
+        rule,
         with: None,
+        mask: decls_mask(rule),
     }
 }
 
@@ -108,11 +139,15 @@ fn common(sheet: &Sheet, item: u32, other: u32) -> Source<'_>
     ensures with { IfSome result.with (λ r. slice_get sheet.now.items other ≡ Some (kinds.Rule r.now)) }
     ensures some { result.with ≡ None → ⊥ }
     ensures rule { slice_get sheet.now.items item ≡ Some (kinds.Rule result.rule.now) }
+    ensures masked { turns.IsMasked result }
 {
+    let rule = rule_at(sheet, item);
+    let with = rule_at(sheet, other);
     Source {
         item,
-        rule: rule_at(sheet, item),
-        with: Some(rule_at(sheet, other)),
+        rule,
+        with: Some(with),
+        mask: common_mask(rule, with),
     }
 }
 
@@ -200,9 +235,11 @@ pub(crate) fn step_obstacle(
     alloc: Global,
     pairs: &mut Pairs,
     sheet: &Sheet,
+    masks: &[u64],
     step: &Step,
 ) -> Result<Option<Obstacle>, AllocError>
     requires is_step { HasStep sheet.now.items step.now }
+    requires masks { masks.now ≡ map item_mask sheet.now.items }
     requires planned { CanBePlanned sheet.now.items }
     ensures stays { Stays pairs.old pairs.new }
     ensures free { IfOk result (λ found. IfNone found ((e : Edit) → IsStep sheet.now.items step.now e → IsFree (map answer_seen pairs.new.answers) sheet.now.items e)) }
@@ -216,7 +253,7 @@ pub(crate) fn step_obstacle(
     windows_tell_kept();
     let changes = changes(alloc, sheet, step)?;
     let items = sheet.items.as_slice();
-    let window = window_of(items, step, &changes);
+    let window = window_of(items, masks, step, &changes);
     let moved = moved_of(step);
     by_moved(pairs, &window, sheet, &moved, begins_below(step))
 }

@@ -9,6 +9,7 @@ use merge_laws::read_is_plannable;
 use merge_steps::{Step, is_step};
 use obstacles::{Obstacle, Obstacles, Other, PairPlace};
 use overlap::Pairs;
+use related_props::item_masks;
 use sheet_read::{SheetError, read_sheet};
 use std::alloc::Global;
 use std::process::Abort;
@@ -70,7 +71,8 @@ fn joins_are_blocked(rt: HostRuntime) -> Result<(), Fail> {
     ] {
         let sheet = sheet(alloc, source.as_bytes()).expect(&rt, "a sheet");
         assert!(rt; is_step(&sheet, &step), "{source}");
-        let found = obstacles.obstacle(&sheet, &step)?;
+        let masks = item_masks(alloc, &sheet.items)?;
+        let found = obstacles.obstacle(&sheet, &masks, &step)?;
         assert!(rt; found == want, "{source}");
     }
     Ok(())
@@ -90,7 +92,8 @@ fn joins_down_are_blocked(rt: HostRuntime) -> Result<(), Fail> {
     ] {
         let sheet = sheet(alloc, source.as_bytes()).expect(&rt, "a sheet");
         assert!(rt; is_step(&sheet, &step), "{source}");
-        let found = obstacles.obstacle(&sheet, &step)?;
+        let masks = item_masks(alloc, &sheet.items)?;
+        let found = obstacles.obstacle(&sheet, &masks, &step)?;
         assert!(rt; found == want, "{source}");
     }
     Ok(())
@@ -110,7 +113,8 @@ fn shares_are_blocked(rt: HostRuntime) -> Result<(), Fail> {
     ] {
         let sheet = sheet(alloc, source.as_bytes()).expect(&rt, "a sheet");
         assert!(rt; is_step(&sheet, &step), "{source}");
-        let found = obstacles.obstacle(&sheet, &step)?;
+        let masks = item_masks(alloc, &sheet.items)?;
+        let found = obstacles.obstacle(&sheet, &masks, &step)?;
         assert!(rt; found == want, "{source}");
     }
     Ok(())
@@ -132,7 +136,8 @@ fn cuts_are_blocked(rt: HostRuntime) -> Result<(), Fail> {
         let step = Step::CutDecl { item, decl: 0 };
         let sheet = sheet(alloc, source.as_bytes()).expect(&rt, "a sheet");
         assert!(rt; is_step(&sheet, &step), "{source}");
-        let found = obstacles.obstacle(&sheet, &step)?;
+        let masks = item_masks(alloc, &sheet.items)?;
+        let found = obstacles.obstacle(&sheet, &masks, &step)?;
         assert!(rt; found == want, "{source}");
     }
     Ok(())

@@ -1,6 +1,8 @@
 //! The first that blocks of what moved pairs face in a window.
 
-ghost use Rattle.std.specs.Prelude.{◌≡◌, ◌≤◌, ◌+◌, ◌-◌, IfOk};
+ghost use Rattle.std.specs.Prelude.{◌≡◌, ◌≤◌, ◌<◌, ◌+◌, ◌-◌, IfOk, Some, length, slice_get};
+ghost use Rattle.css_model.specs.declared.sheet.Item as declared;
+ghost use Rattle.related_props.specs.Masks.{item_mask};
 ghost use Rattle.sheet_order.specs.Allowing.{Stays};
 ghost use Rattle.step_obstacles.specs.Blocked.{IsToldOf};
 ghost use Rattle.step_obstacles.specs.Turns as turns;
@@ -13,26 +15,38 @@ use overlap::Pairs;
 use std::alloc::AllocError;
 use window_order::Window;
 
-/// Of some rules with an item.
+/// Of some rules with an item of this mask.
 fn of_sources(
     pairs: &mut Pairs,
     window: &Window<'_>,
     sources: &[Source<'_>],
     item: &Item,
     number: u32,
+    mask: u64,
 ) -> Result<Option<Obstacle>, AllocError>
     requires askable { turns.IsAskable window.now.items.now }
     requires sources { turns.AreSources window.now.items.now sources.now }
+    requires masked { turns.AreMasked sources.now }
     requires item { turns.IsItemOf window.now number item.now }
+    requires mask { mask ≡ item_mask item.now }
     ensures stays { Stays pairs.old pairs.new }
     ensures told { IfOk result (λ found. IsToldOf pairs.new.answers window.now (turns.OfSources window.now.items.now number item.now sources.now) found) }
 {
     for source in sources {
-        if let Some(found) = of_source(pairs, window, source, item, number)? {
+        if let Some(found) = of_source(pairs, window, source, item, number, mask)? {
             return Ok(Some(found));
         }
     }
     Ok(None)
+}
+
+/// The mask of the item of this number.
+#[tactic(auto, using(crate::proofs::Masked::mask_at))]
+fn mask_of(window: &Window<'_>, number: usize) -> u64
+    requires { number < length window.now.items.now }
+    ensures { (item : declared.Item) → slice_get window.now.items.now number ≡ Some item → result ≡ item_mask item }
+{
+    window.masks[number]
 }
 
 /// Of some rules with the item of this number.
@@ -44,13 +58,15 @@ fn of_number(
 ) -> Result<Option<Obstacle>, AllocError>
     requires askable { turns.IsAskable window.now.items.now }
     requires sources { turns.AreSources window.now.items.now sources.now }
+    requires masked { turns.AreMasked sources.now }
     requires above { window.now.start ≤ number }
     requires below { number ≤ window.now.last }
     ensures stays { Stays pairs.old pairs.new }
     ensures told { IfOk result (λ found. IsToldOf pairs.new.answers window.now (turns.OfNumber window.now.items.now sources.now number) found) }
 {
     let item = &window.items[number];
-    of_sources(pairs, window, sources, item, number as u32)
+    let mask = mask_of(window, number);
+    of_sources(pairs, window, sources, item, number as u32, mask)
 }
 
 /// How many items a window has.
@@ -82,6 +98,7 @@ pub(crate) fn in_window(
 ) -> Result<Option<Obstacle>, AllocError>
     requires askable { turns.IsAskable window.now.items.now }
     requires sources { turns.AreSources window.now.items.now sources.now }
+    requires masked { turns.AreMasked sources.now }
     ensures stays { Stays pairs.old pairs.new }
     ensures told { IfOk result (λ found. IsToldOf pairs.new.answers window.now (turns.OfWindow window.now sources.now) found) }
 {

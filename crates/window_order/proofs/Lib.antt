@@ -1,4 +1,5 @@
 mod KeptOrder
 mod LastFound
+mod MaskedTests
 mod StandingTests
 mod WindowTests

@@ -2,6 +2,7 @@
 #![tactic(auto)]
 
 mod kept;
+mod masked;
 mod members;
 mod order;
 mod pair;

@@ -1,15 +1,16 @@
 //! What is reversed in the part of a sheet that a step changes.
 
-ghost use Rattle.std.specs.Prelude.{◌≡◌, ◌↔◌, ◌≤◌, IsTrue, Some, true, slice_get};
+ghost use Rattle.std.specs.Prelude.{◌≡◌, ◌↔◌, ◌≤◌, IsTrue, Some, true, map, slice_get};
 ghost use Rattle.css_model.specs.declared.sheet.Item as declared;
-ghost use Rattle.css_model.specs.Cascade.Order.{IsBefore, IsBeforeKept};
+ghost use Rattle.css_model.specs.Cascade.Order.{HasPair, IsBefore, IsBeforeKept};
 ghost use Rattle.css_model.specs.Sheets.KeptItems.{is_kept};
+ghost use Rattle.related_props.specs.Masks.{item_mask};
 ghost use Rattle.window_order.specs.Reversed as reversed;
 
 use crate::kept::before_kept_of;
+use crate::masked::stands_by_masks;
 use crate::order::before_in_three;
 use crate::pair::PairRef;
-use crate::standing::stands_in;
 use crate::window::Window;
 use css_model::Item;
 
@@ -42,6 +43,20 @@ impl<'a> Window<'a> {
         &self.items[self.last + 1..]
     }
 
+    /// The masks of what lies behind.
+    fn behind_masks(&self) -> &'a [u64]
+        ensures { result.now ≡ map item_mask (reversed.behind_of self.now) }
+    {
+        &self.masks[self.last + 1..]
+    }
+
+    /// Whether a pair stands behind.
+    fn stands_behind(&self, p: &PairRef<'_>) -> bool
+        ensures { IsTrue result ↔ HasPair (reversed.behind_of self.now) p.now }
+    {
+        stands_by_masks(self.behind(), self.behind_masks(), p)
+    }
+
     /// Whether a pair comes last before another one in the window before the step.
     fn before_in_old(&self, p: &PairRef<'_>, q: &PairRef<'_>) -> bool
         ensures { IsTrue result ↔ IsBefore (reversed.old_of self.now) p.now q.now }
@@ -63,10 +78,10 @@ impl<'a> Window<'a> {
         if self.before_in_old(p, q) == self.before_in_new(p, q) {
             return false;
         }
-        if stands_in(self.behind(), p) {
+        if self.stands_behind(p) {
             return false;
         }
-        !stands_in(self.behind(), q)
+        !self.stands_behind(q)
     }
 
     /// Whether a pair comes last before the kept item of this number in the window before the step.
@@ -102,6 +117,6 @@ impl<'a> Window<'a> {
         if self.before_kept_in_old(p, number) == self.before_kept_in_new(p, number) {
             return false;
         }
-        !stands_in(self.behind(), p)
+        !self.stands_behind(p)
     }
 }

@@ -17,7 +17,7 @@ fn is_in_rule(rule: &Rule, p: &PairRef<'_>) -> bool
 }
 
 /// Whether a pair stands in an item.
-fn is_in_item(item: &Item, p: &PairRef<'_>) -> bool
+pub(crate) fn is_in_item(item: &Item, p: &PairRef<'_>) -> bool
     ensures { result ≡ standing.is_in_item p.now item.now }
 {
     match item {

@@ -1,7 +1,8 @@
 //! The part of a sheet that a step changes.
 
-ghost use Rattle.std.specs.Prelude.{◌≡◌, ◌≤◌, ◌<◌, [], length, slice_range};
+ghost use Rattle.std.specs.Prelude.{◌≡◌, ◌≤◌, ◌<◌, [], length, map, slice_range};
 ghost use Rattle.css_model.specs.Sheets.KeptItems.{kept_items};
+ghost use Rattle.related_props.specs.Masks.{item_mask};
 ghost use Rattle.window_order.specs.Between.{AreBetween};
 
 use css_model::Item;
@@ -13,6 +14,8 @@ use css_model::Item;
 pub struct Window<'a> {
     /// The items of the sheet.
     pub items: &'a [Item],
+    /// Their masks.
+    pub masks: &'a [u64],
     /// Where it begins.
     pub start: usize,
     /// Where the middle part begins.
@@ -23,6 +26,7 @@ pub struct Window<'a> {
     pub first_left: &'a [Item],
     /// What stands in the place of the last item.
     pub last_left: &'a [Item],
+    ghost masked: { masks.now ≡ map item_mask items.now },
     ghost start_first: { start ≤ middle },
     ghost middle_first: { middle ≤ last },
     ghost within: { last < length items.now },

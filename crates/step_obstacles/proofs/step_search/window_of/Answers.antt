@@ -10,4 +10,4 @@ invariant_of-result c =
     let a : WindowAt c.args.items.now c.starts_of-start.result.0 c.starts_of-start.result.1 c.items_of-last.result.1 c.first_left-first_left.result.now =
     window_at c.args.items.now c.args.step.now is.0 is.1 c.starts_of-start.result.0 c.starts_of-start.result.1 c.items_of-last.result.1 c.first_left-first_left.result.now
     c.starts_of-start.ensures.start c.starts_of-start.ensures.middle last (c.first_left-first_left.ensures ∙ ap first_left (c.requires.changes is.0 is.1)) in
-    record { start_first = a.start_first; middle_first = a.middle_first; within = a.within; between = a.between; first_plain = a.first_plain; left_plain = a.left_plain }
+    record { masked = c.requires.masks; start_first = a.start_first; middle_first = a.middle_first; within = a.within; between = a.between; first_plain = a.first_plain; left_plain = a.left_plain }

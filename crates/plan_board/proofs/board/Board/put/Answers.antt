@@ -1,12 +1,13 @@
-use Rattle.std.proofs.Common.{◌≡◌, ◌<◌, List, length, ap, sym, subst, ◌∙◌}
+use Rattle.std.proofs.Common.{◌≡◌, ◌<◌, ℕ, List, length, map, ap, sym, subst, ◌∙◌}
 use Rattle.css_model.specs.declared.sheet.Item.{Item}
 use Rattle.css_model.specs.Sheets.SheetParts.{SheetParts}
 use Rattle.plan_board.specs.declared.marks.Mark.{Mark}
 use Rattle.plan_board.specs.BoardParts.{BoardParts}
 use Rattle.plan_board.specs.Marking.{HasLabelBefore}
-use Rattle.plan_board.specs.Putting.{items_in}
-use Rattle.plan_board.proofs.Puts.{put_length}
+use Rattle.plan_board.specs.Putting.{items_in, put_at}
+use Rattle.plan_board.proofs.Puts.{put_length, put_map}
 use Rattle.plan_board.proofs.board.Board.put.Goals as goal
+use Rattle.related_props.specs.Masks.{item_mask}
 
 pub put-requires-clause-room : goal.put-requires-clause-room
 put-requires-clause-room c = λ more.
@@ -14,7 +15,13 @@ put-requires-clause-room c = λ more.
 
 pub invariant_of-result : goal.invariant_of-result
 invariant_of-result c =
-    let same : length c.self.inside.marks.list ≡ length c.sheet.inside.items.items = c.self.invariant ∙ ap (λ (s : SheetParts). length s.items) (sym c.sheet.view_is) in
-    ap (λ (marks : List Mark). length marks) c.in_ok-marks.ensures.marks.is
-    ∙ put_length c.args.number (items_in c.args.left) c.in_ok-marks.ensures.marks.made c.sheet.inside.items.items c.self.inside.marks.list c.in_ok-marks.ensures.marks.count_is same
-    ∙ sym (ap (λ (items : List Item). length items) c.in_ok-items.ensures)
+    let same : length c.self.inside.marks.list ≡ length c.sheet.inside.items.items = c.self.invariant.0 ∙ ap (λ (s : SheetParts). length s.items) (sym c.sheet.view_is) in
+    let masked : c.self.inside.masks.items ≡ map item_mask c.sheet.inside.items.items = c.self.invariant.1 ∙ ap (λ (s : SheetParts). map item_mask s.items) (sym c.sheet.view_is) in (
+      ap (λ (marks : List Mark). length marks) c.in_ok-marks.ensures.marks.is
+          ∙ put_length c.args.number (items_in c.args.left) c.in_ok-marks.ensures.marks.made c.sheet.inside.items.items c.self.inside.marks.list c.in_ok-marks.ensures.marks.count_is same
+          ∙ sym (ap (λ (items : List Item). length items) c.in_ok-items.ensures),
+      c.in_ok-masks.ensures
+          ∙ ap (λ (masks : List ℕ). put_at c.args.number (map item_mask (items_in c.args.left)) masks) masked
+          ∙ put_map item_mask c.args.number (items_in c.args.left) c.sheet.inside.items.items
+          ∙ sym (ap (λ (items : List Item). map item_mask items) c.in_ok-items.ensures),
+    )

@@ -3,5 +3,5 @@ use Rattle.window_order.proofs.window.Window.is_reversed.Goals as goal
 
 pub returns : goal.returns
 returns c =
-    reversed_told c.args.self.now c.args.p.now c.args.q.now c.before_in_old.result c.before_in_new.result c.stands_in.result c.stands_in-2.result c.behind.result.now c.behind-2.result.now
-    c.if-before_in_old-before_in_new.false c.before_in_old.ensures c.before_in_new.ensures c.behind.ensures c.if-stands_in.false c.stands_in.ensures c.behind-2.ensures c.stands_in-2.ensures
+    reversed_told c.args.self.now c.args.p.now c.args.q.now c.before_in_old.result c.before_in_new.result c.stands_behind.result c.stands_behind-2.result c.if-before_in_old-before_in_new.false c.before_in_old.ensures
+    c.before_in_new.ensures c.if-stands_behind.false c.stands_behind.ensures c.stands_behind-2.ensures
