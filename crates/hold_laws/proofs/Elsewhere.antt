@@ -92,7 +92,7 @@ replaced items n by m x p at =
 -- ---- Behind any fair edit
 
 -- an item that is left
-left_alone : (changes : List Change) (n : ℕ) (x : Item) → AllByRecursion (λ (c : Change). c.at ≢ n) changes → instead changes n x ≡ x ∷ []
+pub left_alone : (changes : List Change) (n : ℕ) (x : Item) → AllByRecursion (λ (c : Change). c.at ≢ n) changes → instead changes n x ≡ x ∷ []
 left_alone [] n x apart = refl
 left_alone (c ∷ changes) n x apart = instead_there c changes n x apart.0 ∙ left_alone changes n x apart.1
 
@@ -139,3 +139,42 @@ module _ (moved : Pair → Bool) (p : Pair) (still : moved p ≡ false) where
           (HasPair (remove (new_items (slots_from (m + 1) changes items)) (length (new_items (slots_from (m + 1) changes (take n items))))) p → HasPair (remove items n) p) → HasPair (y ∷ remove items n) p
       which (inl g) ih = (has_append (y ∷ []) (remove items n) p).1 (inl ((here.pairs p still).1 g))
       which (inr g) ih = (has_append (y ∷ []) (remove items n) p).1 (inr (ih g))
+
+  -- and what stood still stands
+  pub still_there : (changes : List Change) (m : ℕ) (items : List Item) → All (IsFair moved) (slots_from m changes items) → HasPair items p → HasPair (new_items (slots_from m changes items)) p
+  still_there changes m [] fair h = h
+  still_there changes m (x ∷ items) fair h = which ((has_append (x ∷ []) items p).0 h) (still_there changes (m + 1) items (All-tail (IsFair moved) (record { old = x; new = instead changes m x }) (slots_from (m + 1) changes items) fair))
+    where
+      here : IsFair moved (record { old = x; new = instead changes m x })
+      here = All-head (IsFair moved) (record { old = x; new = instead changes m x }) (slots_from (m + 1) changes items) fair
+
+      which : HasPair (x ∷ []) p ⊎ HasPair items p → (HasPair items p → HasPair (new_items (slots_from (m + 1) changes items)) p) → HasPair (instead changes m x ++ new_items (slots_from (m + 1) changes items)) p
+      which (inl g) rest = (has_append (instead changes m x) (new_items (slots_from (m + 1) changes items)) p).1 (inl ((here.pairs p still).0 g))
+      which (inr g) rest = (has_append (instead changes m x) (new_items (slots_from (m + 1) changes items)) p).1 (inr (rest g))
+
+  pub still_elsewhere : (changes : List Change) (m n : ℕ) (items : List Item) (x : Item) → All (IsFair moved) (slots_from m changes items) → AllByRecursion (λ (c : Change). c.at ≢ m + n) changes → slice_get items n ≡ Some x →
+      HasPair (remove items n) p → HasPair (remove (new_items (slots_from m changes items)) (length (new_items (slots_from m changes (take n items))))) p
+  still_elsewhere changes m n [] x fair left at h = absurd (let e : None ≡ Some x = at in cc)
+  still_elsewhere changes m zero (y ∷ items) x fair left at h =
+      subst (λ (xs : List Item). HasPair (remove (xs ++ new_items (slots_from (m + 1) changes items)) 0) p) (sym (left_alone changes m y (let e : m + 0 ≡ m = omega arith in subst (λ (k : ℕ). AllByRecursion (λ (c : Change). c.at ≢ k) changes) e left)))
+      (still_there changes (m + 1) items (All-tail (IsFair moved) (record { old = y; new = instead changes m y }) (slots_from (m + 1) changes items) fair) h)
+  still_elsewhere changes m (suc n) (y ∷ items) x fair left at h = subst (λ (xs : List Item). HasPair xs p) (sym is) ((has_append (instead changes m y) (remove rest (length front)) p).1 (which ((has_append (y ∷ []) (remove items n) p).0 h)
+      (still_elsewhere changes (m + 1) n items x (All-tail (IsFair moved) (record { old = y; new = instead changes m y }) (slots_from (m + 1) changes items) fair) (let e : m + suc n ≡ (m + 1) + n = omega arith in subst (λ (k : ℕ). AllByRecursion (λ (c : Change). c.at ≢ k) changes) e left) at)))
+    where
+      rest : List Item
+      rest = new_items (slots_from (m + 1) changes items)
+
+      front : List Item
+      front = new_items (slots_from (m + 1) changes (take n items))
+
+      is : remove (instead changes m y ++ new_items (slots_from (m + 1) changes items)) (length (instead changes m y ++ new_items (slots_from (m + 1) changes (take n items)))) ≡ instead changes m y ++ remove (new_items (slots_from (m + 1) changes items)) (length (new_items (slots_from (m + 1) changes (take n items))))
+      is = ap (remove (instead changes m y ++ new_items (slots_from (m + 1) changes items))) (length-append (instead changes m y) (new_items (slots_from (m + 1) changes (take n items))))
+          ∙ remove_behind (instead changes m y) (new_items (slots_from (m + 1) changes items)) (length (new_items (slots_from (m + 1) changes (take n items))))
+
+      here : IsFair moved (record { old = y; new = instead changes m y })
+      here = All-head (IsFair moved) (record { old = y; new = instead changes m y }) (slots_from (m + 1) changes items) fair
+
+      which : HasPair (y ∷ []) p ⊎ HasPair (remove items n) p → (HasPair (remove items n) p → HasPair (remove (new_items (slots_from (m + 1) changes items)) (length (new_items (slots_from (m + 1) changes (take n items))))) p) →
+          HasPair (instead changes m y) p ⊎ HasPair (remove (new_items (slots_from (m + 1) changes items)) (length (new_items (slots_from (m + 1) changes (take n items))))) p
+      which (inl g) ih = inl ((here.pairs p still).0 g)
+      which (inr g) ih = inr (ih g)

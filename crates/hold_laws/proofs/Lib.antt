@@ -2,9 +2,13 @@ mod Been
 mod Beside
 mod Born
 mod Elsewhere
+mod FlooredJoins
 mod HeldSteps
 mod HoldExamples
 mod Led
 mod Names
 mod Ordered
 mod Rooms
+mod WalledJoins
+mod WalledTurns
+mod Walling

@@ -1,5 +1,5 @@
--- What a plan holds in code: one turn for all steps of an owner, and what is set aside.
-use Rattle.std.specs.Prelude.{◌≡◌, ◌⊎◌, ℕ, ◌<◌, ◌≤◌, Bool, false, List, [], Some, slice_get, slice_index}
+-- What a plan holds in code: one turn for many steps, and what is set aside.
+use Rattle.std.specs.Prelude.{◌≡◌, ◌⊎◌, ℕ, ◌<◌, ◌≤◌, List, [], Some, slice_get, slice_index}
 use Rattle.std.specs.List.{Contains}
 use Rattle.css_model.specs.declared.sheet.Item.{Item}
 use Rattle.css_model.specs.Sheets.Sound.{IsSound}
@@ -11,17 +11,18 @@ use Rattle.step_laws.specs.Leading.{Takes, IsDone}
 use Rattle.step_laws.specs.Sizes.{size, Saves}
 use Rattle.step_laws.specs.Steps.{IsStep, first_item, last_item}
 use Rattle.wall_laws.specs.Holding.{Hindrance, Hinders, HasRoom, IsUntouched, Aside}
-use Rattle.wall_laws.specs.Renumbering.{Leaves, new_number, renumbered}
+use Rattle.wall_laws.specs.Renumbering.{Leaves, new_number, renumbered, IsOfOthers}
 use Rattle.hold_laws.specs.Behind.{GoesOn}
 use Rattle.hold_laws.specs.Births.{AreBirths, AreBornBehind, owner}
+use Rattle.hold_laws.specs.Scopes.{Scope, Owned, IsInScope}
 use Rattle.hold_laws.specs.Turns.{named, AreLabels, first_turn}
 
--- A turn that leads the steps of an owner, told by its birth: of those that wait none comes before it. Or it is
--- the turn of one step, alone. It names items by labels.
+-- A turn that leads its own step, and those in a scope, of an item told by its birth: of these that wait none
+-- comes before it. It names items by labels.
 pub record Lead : Type 0 where
   pub turn : Turn
   pub owner : ℕ
-  pub alone : Bool
+  pub scope : Scope
 
 -- Beside each item its label and its birth; the birth of the next item; the turns that lead; and the turns that
 -- are set aside, which name items by births.
@@ -32,9 +33,9 @@ pub record Holding : Type 0 where
   pub leads : List Lead
   pub aside : List Aside
 
--- a turn leads a step: it is the step's own, or it is one of the step's owner that does not come later
+-- a turn leads a step: it is the step's own, or the step is in its scope and does not come before it
 abbrev pub IsLeadOf : Holding → Lead → ℕ → Step → Type 0
-IsLeadOf h l n k = (l.turn ≡ named h.labels n k) ⊎ ((l.alone ≡ false) × (l.owner ≡ slice_index h.births (owner h.births k)) × (IsSooner (named h.labels n k) l.turn → ⊥))
+IsLeadOf h l n k = (l.turn ≡ named h.labels n k) ⊎ (IsInScope h.births l.scope l.owner k × (IsSooner (named h.labels n k) l.turn → ⊥))
 
 abbrev pub IsLed : Holding → ℕ → Step → Type 0
 IsLed h n k = (l : Lead) × Contains h.leads l × IsLeadOf h l n k
@@ -54,7 +55,11 @@ pub record IsHeld (answers : List Answered) (source : List ℕ) (items : List It
 -- Where nothing is set aside, and each owner has a turn before which no step comes, all is held.
 abbrev pub StartIsHeld : Type 0
 StartIsHeld = (answers : List Answered) (source : List ℕ) (items : List Item) (h : Holding) (bound : ℕ) → AreBirths items h.births h.next → AreLabels items h.labels → size source items ≤ bound →
-    h.aside ≡ [] → ((n b : ℕ) → slice_get h.births n ≡ Some b → Contains h.leads (record { turn = first_turn bound; owner = b; alone = false })) → IsHeld answers source items h
+    h.aside ≡ [] → ((n b : ℕ) → slice_get h.births n ≡ Some b → Contains h.leads (record { turn = first_turn bound; owner = b; scope = Owned })) → IsHeld answers source items h
+
+-- the items that an edit left keep their labels
+abbrev pub LabelsStay : List Item → Edit → List ℕ → List ℕ → Type 0
+LabelsStay items d labels labels' = (n l : ℕ) → Leaves d n → slice_get labels n ≡ Some l → slice_get labels' (new_number d items n) ≡ Some l
 
 -- What is held of a sheet, and what of the one behind an edit. The items that the edit left keep their labels
 -- and births, and all turns that led lead. Of what was set aside that stays which the edit does not
@@ -63,7 +68,7 @@ pub record GoesOver (source : List ℕ) (items : List Item) (d : Edit) (h h' : H
   pub births : AreBirths (edited d items) h'.births h'.next
   pub labels : AreLabels (edited d items) h'.labels
   pub born : AreBornBehind items d h.births h'.births h.next
-  pub labels_stay : (n l : ℕ) → Leaves d n → slice_get h.labels n ≡ Some l → slice_get h'.labels (new_number d items n) ≡ Some l
+  pub labels_stay : LabelsStay items d h.labels h'.labels
   pub later : h.next ≤ h'.next
   pub leads : (l : Lead) → Contains h.leads l → Contains h'.leads l
   pub made : (k' : Step) (e' : Edit) (n : ℕ) → IsStep (edited d items) k' e' → Saves source (edited d items) e' n → 0 < n →
@@ -71,6 +76,11 @@ pub record GoesOver (source : List ℕ) (items : List Item) (d : Edit) (h h' : H
   pub aside : (k : Step) (e : Edit) (n : ℕ) (by : Hindrance) → GoesOn items d k e → Saves source items e n → 0 < n → IsSetAside h n k by →
       Contains h'.aside (record { turn = named h.births n k; by = by }) ⊎ IsLed h' n (renumbered (new_number d items) k)
   pub untouched : (a : Aside) → Contains h'.aside a → Contains h.aside a × IsUntouched d a.by
+
+-- A turn that leads a step leads it behind an edit of other items, too.
+abbrev pub LeadsGoOn : Type 0
+LeadsGoOn = (items : List Item) (d : Edit) (h h' : Holding) → AreBirths items h.births h.next → AreLabels items h.labels → AreBornBehind items d h.births h'.births h.next →
+    LabelsStay items d h.labels h'.labels → (k : Step) (e : Edit) → IsStep items k e → IsOfOthers d k → (l : Lead) (n : ℕ) → IsLeadOf h l n k → IsLeadOf h' l n (renumbered (new_number d items) k)
 
 -- What is held goes over to the sheet behind a step.
 abbrev pub HeldGoesOver : Type 0

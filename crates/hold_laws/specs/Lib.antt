@@ -4,5 +4,8 @@ pub mod Births
 pub mod Held
 pub mod Leads
 pub mod Room
+pub mod Scopes
 pub mod Taken
 pub mod Turns
+pub mod Walled
+pub mod WalledTurns

@@ -1,6 +1,6 @@
-//! What a plan holds in code: one turn for all steps of an owner, and what is set aside.
+//! What a plan holds in code: one turn for many steps, and what is set aside.
 
-ghost use Rattle.hold_laws.specs.Leads.{FirstLeadIsTaken, HeldGoesOver, HeldMayChange, NoLeadIsDone, StartIsHeld};
+ghost use Rattle.hold_laws.specs.Leads.{FirstLeadIsTaken, HeldGoesOver, HeldMayChange, LeadsGoOn, NoLeadIsDone, StartIsHeld};
 
 use crate::before::steps_have_been;
 use crate::behind::hindered_goes_on;
@@ -14,6 +14,11 @@ pub fn start_is_held()
 {
     first_turn_is_first();
 }
+
+/// A turn that leads a step leads it behind an edit of other items, too.
+pub fn leads_go_on()
+    ensures { LeadsGoOn }
+{}
 
 /// What is held of a sheet goes over to the one behind a step: the items that were left keep their labels,
 /// births and turns, what the step does not touch stays set aside, and the turns of new owners lead.

@@ -10,14 +10,20 @@ mod leads;
 mod room;
 mod taken;
 mod turns;
+mod walled;
 
 pub use before::{cuts_have_been, no_step_adds_pairs, steps_have_been};
 pub use behind::{going_on_is_side_by_side, hindered_goes_on};
 pub use births::{births_tell_items, old_owners_have_come, owners_stay};
 pub use held::{held_steps_are_covered, steps_are_set_aside, steps_held_go_on};
 pub use leads::{
-    first_lead_is_taken, held_goes_over, held_may_change, no_lead_is_done, start_is_held,
+    first_lead_is_taken, held_goes_over, held_may_change, leads_go_on, no_lead_is_done,
+    start_is_held,
 };
 pub use room::{sheets_have_room, steps_add_one_item};
 pub use taken::{free_step_is_taken, no_turn_is_left};
 pub use turns::{first_turn_is_first, labels_tell_order, names_tell_steps, turns_are_ordered};
+pub use walled::{
+    floored_joins_are_hindered, floors_go_on, joins_are_walled, parts_stay,
+    walled_joins_are_hindered, walled_turns_are_blocked, walled_turns_are_ups, walls_go_on,
+};

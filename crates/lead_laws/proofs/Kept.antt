@@ -8,10 +8,10 @@ use Rattle.std.proofs.lemmas.List.Elements.{All-map}
 use Rattle.std.proofs.lemmas.Option.{slice_get-map, slice_get_within}
 use Rattle.css_model.specs.declared.sheet.Item.{Item}
 use Rattle.hold_laws.specs.Births.{AreBirths, AreBornBehind}
-use Rattle.hold_laws.specs.Leads.{Lead}
+use Rattle.hold_laws.specs.Leads.{Lead, LabelsStay}
 use Rattle.hold_laws.specs.Turns.{AreLabels}
 use Rattle.lead_laws.specs.MarkNames.{MarksAreNames, IsMarked, holding_of}
-use Rattle.lead_laws.specs.Mended.{AreRenamed, LabelsStay}
+use Rattle.lead_laws.specs.Mended.{AreRenamed}
 use Rattle.list_facts.proofs.Options.{mapped}
 use Rattle.order_laws.specs.Edits.{Edit, edited}
 use Rattle.plan_board.specs.declared.marks.Mark.{Mark}
@@ -41,7 +41,7 @@ pub to_map : {X Y : Type 0} (f : X → Y) (xs : List X) (n : ℕ) (x : X) → sl
 to_map f xs n x at = slice_get-map f xs n ∙ ap (option_map f) at
 
 -- what stands beside elements that are kept is kept
-map_kept : {X Y : Type 0} (f : X → Y) (xs ys : List X) (to : ℕ → ℕ) (n : ℕ) (y : Y) → ((x : X) → slice_get xs n ≡ Some x → slice_get ys (to n) ≡ Some x) → slice_get (map f xs) n ≡ Some y → slice_get (map f ys) (to n) ≡ Some y
+pub map_kept : {X Y : Type 0} (f : X → Y) (xs ys : List X) (to : ℕ → ℕ) (n : ℕ) (y : Y) → ((x : X) → slice_get xs n ≡ Some x → slice_get ys (to n) ≡ Some x) → slice_get (map f xs) n ≡ Some y → slice_get (map f ys) (to n) ≡ Some y
 map_kept {X} {Y} f xs ys to n y kept at =
     let w : (x : X) × (slice_get xs n ≡ Some x) × (f x ≡ y) = from_map f xs n y at in
     to_map f ys (to n) w.0 (kept w.0 w.1) ∙ ap (λ (z : Y). Some z) w.2

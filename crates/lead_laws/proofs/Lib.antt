@@ -1,3 +1,4 @@
+mod BoardWalls
 mod Covered
 mod Kept
 mod Mending

@@ -1,5 +1,5 @@
 -- What is held, mended behind a step, goes over.
-use Rattle.std.proofs.Common.{◌≡◌, ◌⊎◌, ℕ, ◌<◌, ◌≤◌, false, List, Some, refl, inl, inr, arith}
+use Rattle.std.proofs.Common.{◌≡◌, ◌⊎◌, ℕ, ◌<◌, ◌≤◌, List, Some, refl, inl, inr, arith}
 use Rattle.std.specs.Prelude.{slice_get, slice_index}
 use Rattle.std.specs.List.{Contains}
 use Rattle.std.proofs.lemmas.Option.{slice_get-get_or}
@@ -7,8 +7,9 @@ use Rattle.css_model.specs.declared.sheet.Item.{Item}
 use Rattle.hold_laws.specs.Behind.{GoesOn}
 use Rattle.hold_laws.specs.Births.{owner}
 use Rattle.hold_laws.specs.Leads.{Holding, IsLed, IsSetAside, GoesOver}
+use Rattle.hold_laws.specs.Scopes.{Owned}
 use Rattle.hold_laws.specs.Turns.{named, first_turn, FirstTurnIsFirst}
-use Rattle.lead_laws.specs.Mended.{TurnLeads, IsMended}
+use Rattle.lead_laws.specs.Mended.{IsMended}
 use Rattle.lead_laws.proofs.StepNames.{owner_within}
 use Rattle.order_laws.specs.Edits.{Edit, edited}
 use Rattle.step_laws.specs.declared.step.Step.{Step}
@@ -25,9 +26,9 @@ module _ (first : FirstTurnIsFirst) (source : List ℕ) (items : List Item) (d :
   -- the steps of new items are led
   made : (k' : Step) (e' : Edit) (n : ℕ) → IsStep (edited d items) k' e' → Saves source (edited d items) e' n → 0 < n → h.next ≤ slice_index h'.births (owner h'.births k') → IsLed h' n k'
   made k' e' n is saves some young = (
-    record { turn = first_turn bound; owner = slice_index h'.births (owner h'.births k'); alone = false },
+    record { turn = first_turn bound; owner = slice_index h'.births (owner h'.births k'); scope = Owned },
     m.new (owner h'.births k') (slice_index h'.births (owner h'.births k')) at young,
-    inr (refl, refl, first source (edited d items) bound still_long k' e' n saves h'.labels),
+    inr (refl, first source (edited d items) bound still_long k' e' n saves h'.labels),
   )
     where
       at : slice_get h'.births (owner h'.births k') ≡ Some (slice_index h'.births (owner h'.births k'))
@@ -37,14 +38,11 @@ module _ (first : FirstTurnIsFirst) (source : List ℕ) (items : List Item) (d :
       Contains h'.aside (record { turn = named h.births n k; by = by }) ⊎ IsLed h' n (renumbered (new_number d items) k)
   aside k e n by on saves some among = which (m.woken (record { turn = named h.births n k; by = by }) among)
     where
-      led : TurnLeads h'.leads (named h'.labels n (renumbered (new_number d items) k)) → IsLed h' n (renumbered (new_number d items) k)
-      led (l, leads, same) = (l, leads, inl same)
-
       which : (IsUntouched d by × Contains h'.aside (record { turn = named h.births n k; by = by }))
-          ⊎ ((k' : Step) (e' : Edit) (i : ℕ) → GoesOn items d k' e' → Saves source items e' i → 0 < i → named h.births n k ≡ named h.births i k' → TurnLeads h'.leads (named h'.labels i (renumbered (new_number d items) k'))) →
+          ⊎ ((k' : Step) (e' : Edit) (i : ℕ) → GoesOn items d k' e' → Saves source items e' i → 0 < i → named h.births n k ≡ named h.births i k' → IsLed h' i (renumbered (new_number d items) k')) →
           Contains h'.aside (record { turn = named h.births n k; by = by }) ⊎ IsLed h' n (renumbered (new_number d items) k)
       which (inl stays) = inl stays.1
-      which (inr wakes) = inr (led (wakes k e n on saves some refl))
+      which (inr wakes) = inr (wakes k e n on saves some refl)
 
   pub over : GoesOver source items d h h'
   over = record {

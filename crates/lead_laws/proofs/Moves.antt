@@ -1,18 +1,19 @@
 -- What a plan knows after each of its moves.
-use Rattle.std.proofs.Common.{◌≡◌, ◌⊎◌, ℕ, ◌<◌, ◌≤◌, false, List, [], ◌∷◌, Some, refl, sym, subst, inl, inr}
+use Rattle.std.proofs.Common.{◌≡◌, ◌⊎◌, ℕ, ◌<◌, ◌≤◌, List, [], ◌∷◌, ◌++◌, Some, refl, sym, subst, inl, inr}
 use Rattle.std.specs.Prelude.{slice_get}
 use Rattle.std.specs.List.{Contains}
 use Rattle.css_model.specs.Cascade.Order.{Pair}
 use Rattle.css_model.specs.declared.sheet.Item.{Item}
 use Rattle.css_model.specs.Sheets.Sound.{IsSound}
 use Rattle.hold_laws.specs.Behind.{GoesOn}
-use Rattle.hold_laws.specs.Leads.{Lead, Holding, StartIsHeld, HeldGoesOver, HeldMayChange, IsHeld, ChangesHere}
+use Rattle.hold_laws.specs.Leads.{Lead, Holding, StartIsHeld, HeldGoesOver, HeldMayChange, IsHeld, IsLed, IsSetAside, ChangesHere}
+use Rattle.hold_laws.specs.Scopes.{Owned}
 use Rattle.hold_laws.specs.Turns.{named, first_turn}
 use Rattle.lead_laws.specs.Known.{IsKnown, IsFollowed, IsTaken}
 use Rattle.lead_laws.specs.MarkNames.{MarksAreNames, KeptAreRenamed, holding_of, IsMarked}
-use Rattle.lead_laws.specs.Mended.{AreRenamed, IsMended, TakenGoesOver, TurnLeads}
-use Rattle.lead_laws.specs.Passed.{IsLedOn, PassedIsChange, NoneIsPassed, BlockedIsPassed}
-use Rattle.lead_laws.specs.Remembering.{AreRemembered, HasEntryOf, OneMoreIsRemembered, RememberedGoesOver, RememberedIsWoken, UntouchedIsKept, pairs_of, untouched}
+use Rattle.lead_laws.specs.Mended.{AreRenamed, IsMended, TakenGoesOver}
+use Rattle.lead_laws.specs.Passed.{IsLedOn, IsBlockedHere, PassedIsChange, NoneIsPassed, BlockedIsPassed, MoreIsPassed}
+use Rattle.lead_laws.specs.Remembering.{AreRemembered, AreNowRemembered, HasEntryOf, MoreAreRemembered, OneMoreIsRemembered, RememberedGoesOver, RememberedIsWoken, UntouchedIsKept, pairs_of, untouched}
 use Rattle.lead_plan.specs.declared.aside.Entry.{Entry}
 use Rattle.list_facts.proofs.Members.{Contains-nil}
 use Rattle.order_laws.specs.Edits.{Edit, edited}
@@ -27,7 +28,7 @@ use Rattle.wall_laws.specs.Holding.{Hindrance, Hinders, HasRoom, IsUntouched, As
 use Rattle.wall_laws.specs.Renumbering.{new_number, renumbered}
 
 pub start : MarksAreNames → StartIsHeld → (answers : List Answered) (source : List ℕ) (b : BoardParts) (leads : List Lead) (bound : ℕ) → IsMarked b → size source b.items ≤ bound →
-    ((n birth : ℕ) → slice_get (births_of b.marks) n ≡ Some birth → Contains leads (record { turn = first_turn bound; owner = birth; alone = false })) → IsKnown answers source b leads [] []
+    ((n birth : ℕ) → slice_get (births_of b.marks) n ≡ Some birth → Contains leads (record { turn = first_turn bound; owner = birth; scope = Owned })) → IsKnown answers source b leads [] []
 start names start_held answers source b leads bound marked long led = record {
   held = start_held answers source b.items (holding_of b leads []) bound (names b marked).0 (names b marked).1 long refl led;
   remembered = λ a among k e n is saves some same p pair. absurd (Contains-nil a among);
@@ -43,10 +44,10 @@ more_answers may_change answers answers' source b leads aside entries among know
 
 -- ---- A turn is passed
 
-led_on : (source : List ℕ) (b : BoardParts) (leads leads' : List Lead) (aside aside' : List Aside) (l : Lead) → IsFollowed source b leads leads' l → IsLedOn source b.items (holding_of b leads aside) (holding_of b leads' aside') l
+led_on : (source : List ℕ) (b : BoardParts) (leads leads' : List Lead) (aside aside' : List Aside) (l : Lead) → IsFollowed source b leads leads' aside' l → IsLedOn source b.items (holding_of b leads aside) (holding_of b leads' aside') l
 led_on source b leads leads' aside aside' l f = record { same_labels = refl; same_births = refl; same_next = refl; leads = f.others; later = f.later }
 
-pub none_known : NoneIsPassed → PassedIsChange → HeldMayChange → (answers : List Answered) (source : List ℕ) (b : BoardParts) (leads leads' : List Lead) (aside : List Aside) (entries : List Entry) (l : Lead) → IsFollowed source b leads leads' l →
+pub none_known : NoneIsPassed → PassedIsChange → HeldMayChange → (answers : List Answered) (source : List ℕ) (b : BoardParts) (leads leads' : List Lead) (aside : List Aside) (entries : List Entry) (l : Lead) → IsFollowed source b leads leads' aside l →
     ((k : Step) (e : Edit) (n : ℕ) → IsStep b.items k e → Saves source b.items e n → 0 < n → l.turn ≡ named (labels_of b.marks) n k → ⊥) →
     IsKnown answers source b leads aside entries → IsKnown answers source b leads' aside entries
 none_known none_passed change may_change answers source b leads leads' aside entries l f none known = record {
@@ -57,7 +58,8 @@ none_known none_passed change may_change answers source b leads leads' aside ent
 }
 
 module _ (blocked_passed : BlockedIsPassed) (change : PassedIsChange) (may_change : HeldMayChange) (one_more : OneMoreIsRemembered) (answers : List Answered) (source : List ℕ) (b : BoardParts)
-    (leads leads' : List Lead) (aside : List Aside) (entries entries' : List Entry) (l : Lead) (f : IsFollowed source b leads leads' l) (k : Step) (e : Edit) (n : ℕ) (by : Hindrance) (is : IsStep b.items k e)
+    (leads leads' : List Lead) (aside : List Aside) (entries entries' : List Entry) (l : Lead) (k : Step) (e : Edit) (n : ℕ) (by : Hindrance)
+    (f : IsFollowed source b leads leads' (record { turn = named (births_of b.marks) n k; by = by } ∷ aside) l) (is : IsStep b.items k e)
     (saves : Saves source b.items e n) (some : 0 < n) (turn : l.turn ≡ named (labels_of b.marks) n k) (hinders : Hinders answers b.items e by) (more : (x : Entry) → Contains entries x → Contains entries' x)
     (here : (p : Pair) → Contains (pairs_of by) p → HasEntryOf entries' p l.turn) (known : IsKnown answers source b leads aside entries) where
   abbrev aside' : List Aside
@@ -77,6 +79,22 @@ module _ (blocked_passed : BlockedIsPassed) (change : PassedIsChange) (may_chang
     held = may_change answers answers source b.items before after (λ x among. among) changed known.held;
     remembered = one_more answers source b.items before after entries entries' known.held refl refl k e n by is saves some refl more (λ p pair. subst (λ (t : Turn). HasEntryOf entries' p t) turn (here p pair)) known.remembered;
   }
+
+pub more_known : MoreIsPassed → PassedIsChange → HeldMayChange → MoreAreRemembered → (answers : List Answered) (source : List ℕ) (b : BoardParts) (leads leads' : List Lead) (more aside : List Aside)
+    (entries entries' : List Entry) (l : Lead) → IsFollowed source b leads leads' (more ++ aside) l →
+    ((k : Step) (e : Edit) (n : ℕ) → IsStep b.items k e → Saves source b.items e n → 0 < n → l.turn ≡ named (labels_of b.marks) n k →
+    (by : Hindrance) × IsSetAside (holding_of b leads' (more ++ aside)) n k by) →
+    ((a : Aside) → Contains more a → IsBlockedHere answers source b.items (holding_of b leads aside) a) → AreNowRemembered source b.items (holding_of b leads aside) more entries' →
+    ((x : Entry) → Contains entries x → Contains entries' x) →
+    IsKnown answers source b leads aside entries → IsKnown answers source b leads' (more ++ aside) entries'
+more_known passed change may_change remember answers source b leads leads' more aside entries entries' l f own blocked now further known =
+    let before : Holding = holding_of b leads aside in
+    let after : Holding = holding_of b leads' (more ++ aside) in
+    record {
+      held = may_change answers answers source b.items before after (λ x among. among)
+          (change answers source b.items before after l (passed answers source b.items before after l more (led_on source b leads leads' aside (more ++ aside) l f) own refl blocked)) known.held;
+      remembered = remember source b.items before after more entries entries' refl refl refl further now known.remembered;
+    }
 
 -- ---- A step is taken
 
@@ -103,9 +121,9 @@ module _ (kept_renamed : KeptAreRenamed) (kept : UntouchedIsKept) (woken : Remem
   }
     where
       which : (a : Aside) → Contains (untouched d aside) a
-          ⊎ ((k : Step) (e : Edit) (n : ℕ) → GoesOn b.items d k e → Saves source b.items e n → 0 < n → a.turn ≡ named old.births n k → TurnLeads new.leads (named new.labels n (renumbered (new_number d b.items) k))) →
+          ⊎ ((k : Step) (e : Edit) (n : ℕ) → GoesOn b.items d k e → Saves source b.items e n → 0 < n → a.turn ≡ named old.births n k → IsLed new n (renumbered (new_number d b.items) k)) →
           (IsUntouched d a.by × Contains (untouched d aside) a)
-          ⊎ ((k : Step) (e : Edit) (n : ℕ) → GoesOn b.items d k e → Saves source b.items e n → 0 < n → a.turn ≡ named old.births n k → TurnLeads new.leads (named new.labels n (renumbered (new_number d b.items) k)))
+          ⊎ ((k : Step) (e : Edit) (n : ℕ) → GoesOn b.items d k e → Saves source b.items e n → 0 < n → a.turn ≡ named old.births n k → IsLed new n (renumbered (new_number d b.items) k))
       which a (inl stays) = inl (((kept d aside a).0 stays).1, stays)
       which a (inr wakes) = inr wakes
 

@@ -1,10 +1,11 @@
 -- A turn that led is passed.
-use Rattle.std.proofs.Common.{◌≡◌, ◌⊎◌, ℕ, ◌<◌, false, List, ◌∷◌, length, sym, ap, ◌∙◌, subst, inl, inr, arith}
+use Rattle.std.proofs.Common.{◌≡◌, ◌⊎◌, ℕ, ◌<◌, List, ◌∷◌, ◌++◌, length, sym, ap, ◌∙◌, subst, inl, inr, arith}
 use Rattle.std.specs.Prelude.{slice_index}
 use Rattle.std.specs.List.{Contains}
+use Rattle.std.proofs.lemmas.List.Elements.{Contains-append_right, Contains-append_cases}
 use Rattle.css_model.specs.declared.sheet.Item.{Item}
-use Rattle.hold_laws.specs.Births.{owner}
 use Rattle.hold_laws.specs.Leads.{Lead, Holding, IsLeadOf, IsLed, IsSetAside, IsHeld, ChangesHere}
+use Rattle.hold_laws.specs.Scopes.{IsInScope}
 use Rattle.hold_laws.specs.Turns.{TurnsAreOrdered, NamesTellSteps, named}
 use Rattle.lead_laws.specs.Passed.{IsLedOn, IsBlockedHere, IsPassed}
 use Rattle.lead_laws.proofs.StepNames.{within, new_first, new_last, ascending_differ}
@@ -24,7 +25,7 @@ module _ (order : TurnsAreOrdered) (answers : List Answered) (source : List ℕ)
   Held n k = IsLed h' n k ⊎ ((by : Hindrance) × IsSetAside h' n k by)
 
   abbrev LeadsBy : List ℕ → List ℕ → Lead → ℕ → Step → Type 0
-  LeadsBy labels births other n k = (other.turn ≡ named labels n k) ⊎ ((other.alone ≡ false) × (other.owner ≡ slice_index births (owner births k)) × (IsSooner (named labels n k) other.turn → ⊥))
+  LeadsBy labels births other n k = (other.turn ≡ named labels n k) ⊎ (IsInScope births other.scope other.owner k × (IsSooner (named labels n k) other.turn → ⊥))
 
   -- what leads a step still does
   leads_still : (other : Lead) (n : ℕ) (k : Step) → IsLeadOf h other n k → IsLeadOf h' other n k
@@ -38,10 +39,10 @@ module _ (order : TurnsAreOrdered) (answers : List Answered) (source : List ℕ)
   -- what the turn led is held without it
   led_here : (k : Step) (e : Edit) (n : ℕ) → IsStep items k e → Saves source items e n → 0 < n → IsLeadOf h l n k → Held n k
   led_here k e n is saves some (inl same) = inr (p.own k e n is saves some same)
-  led_here k e n is saves some (inr (chain, own, no_sooner)) = which (order.2 l.turn (named h.labels n k))
+  led_here k e n is saves some (inr (in_it, no_sooner)) = which (order.2 l.turn (named h.labels n k))
     where
       which : IsSooner l.turn (named h.labels n k) ⊎ (l.turn ≡ named h.labels n k) ⊎ IsSooner (named h.labels n k) l.turn → Held n k
-      which (inl sooner) = inl (p.on.later chain k e n is saves some own sooner)
+      which (inl sooner) = p.on.later k e n is saves some in_it sooner
       which (inr (inl same)) = inr (p.own k e n is saves some same)
       which (inr (inr before)) = absurd (no_sooner before)
 
@@ -67,6 +68,20 @@ none_passed answers source items h h' l on none same = record {
   own = λ k e n is saves some turn. absurd (none k e n is saves some turn);
   fresh = λ a among. inl (subst (λ (asides : List Aside). Contains asides a) same among);
 }
+
+pub more_passed : (answers : List Answered) (source : List ℕ) (items : List Item) (h h' : Holding) (l : Lead) (more : List Aside) → IsLedOn source items h h' l →
+    ((k : Step) (e : Edit) (n : ℕ) → IsStep items k e → Saves source items e n → 0 < n → l.turn ≡ named h.labels n k → (by : Hindrance) × IsSetAside h' n k by) →
+    h'.aside ≡ more ++ h.aside → ((a : Aside) → Contains more a → IsBlockedHere answers source items h a) → IsPassed answers source items h h' l
+more_passed answers source items h h' l more on own is blocked = record {
+  on = on;
+  stays = λ a among. subst (λ (asides : List Aside). Contains asides a) (sym is) (Contains-append_right more h.aside a among);
+  own = own;
+  fresh = λ a among. which a (Contains-append_cases more h.aside a (subst (λ (asides : List Aside). Contains asides a) is among));
+}
+  where
+    which : (a : Aside) → Contains more a ⊎ Contains h.aside a → Contains h.aside a ⊎ IsBlockedHere answers source items h a
+    which a (inl new) = inr (blocked a new)
+    which a (inr old) = inl old
 
 module _ (tell : NamesTellSteps) (asked answers : List Answered) (source : List ℕ) (items : List Item) (h h' : Holding) (l : Lead) (held : IsHeld asked source items h) (on : IsLedOn source items h h' l)
     (k : Step) (e : Edit) (n : ℕ) (by : Hindrance) (is : IsStep items k e) (saves : Saves source items e n) (some : 0 < n) (turn : l.turn ≡ named h.labels n k) (hinders : Hinders answers items e by)

@@ -1,4 +1,5 @@
 pub mod Beside
+pub mod BoardWalls
 pub mod Known
 pub mod MarkNames
 pub mod Mended

@@ -1,21 +1,17 @@
 -- What a plan holds in code, mended behind a step that it took (own).
-use Rattle.std.specs.Prelude.{◌≡◌, ◌⊎◌, ℕ, ◌<◌, ◌≤◌, false, List, Some, slice_get}
+use Rattle.std.specs.Prelude.{◌≡◌, ◌⊎◌, ℕ, ◌<◌, ◌≤◌, List, Some, slice_get}
 use Rattle.std.specs.List.{Contains}
 use Rattle.css_model.specs.declared.sheet.Item.{Item}
 use Rattle.hold_laws.specs.Behind.{GoesOn}
 use Rattle.hold_laws.specs.Births.{AreBirths, AreBornBehind}
-use Rattle.hold_laws.specs.Leads.{Lead, Holding, GoesOver}
+use Rattle.hold_laws.specs.Leads.{Lead, Holding, IsLed, GoesOver, LabelsStay}
+use Rattle.hold_laws.specs.Scopes.{Owned}
 use Rattle.hold_laws.specs.Turns.{named, AreLabels, first_turn}
 use Rattle.order_laws.specs.Edits.{Edit, edited}
-use Rattle.plan_laws.specs.Cover.{Turn}
 use Rattle.step_laws.specs.declared.step.Step.{Step}
 use Rattle.step_laws.specs.Sizes.{size, Saves}
 use Rattle.wall_laws.specs.Holding.{IsUntouched, Aside}
 use Rattle.wall_laws.specs.Renumbering.{Leaves, new_number, renumbered}
-
--- the items that an edit left keep their labels
-abbrev pub LabelsStay : List Item → Edit → List ℕ → List ℕ → Type 0
-LabelsStay items d labels labels' = (n l : ℕ) → Leaves d n → slice_get labels n ≡ Some l → slice_get labels' (new_number d items n) ≡ Some l
 
 -- The names of the items behind an edit: those that it left keep theirs, and each other item is born now.
 pub record AreRenamed (items : List Item) (d : Edit) (h h' : Holding) : Type 0 where
@@ -25,19 +21,15 @@ pub record AreRenamed (items : List Item) (d : Edit) (h h' : Holding) : Type 0 w
   pub labels_stay : LabelsStay items d h.labels h'.labels
   pub later : h.next ≤ h'.next
 
--- a turn is among those that lead
-abbrev pub TurnLeads : List Lead → Turn → Type 0
-TurnLeads leads t = (l : Lead) × Contains leads l × (l.turn ≡ t)
-
 -- What is held is mended behind an edit. All turns that led lead, and one before all steps leads for each item that
--- is born now. What is set aside stays so where the edit does not touch it; else the turn of its step leads.
+-- is born now. What is set aside stays so where the edit does not touch it; else its step is led.
 pub record IsMended (source : List ℕ) (items : List Item) (d : Edit) (bound : ℕ) (h h' : Holding) : Type 0 where
   pub names : AreRenamed items d h h'
   pub leads : (l : Lead) → Contains h.leads l → Contains h'.leads l
-  pub new : (m b : ℕ) → slice_get h'.births m ≡ Some b → h.next ≤ b → Contains h'.leads (record { turn = first_turn bound; owner = b; alone = false })
+  pub new : (m b : ℕ) → slice_get h'.births m ≡ Some b → h.next ≤ b → Contains h'.leads (record { turn = first_turn bound; owner = b; scope = Owned })
   pub woken : (a : Aside) → Contains h.aside a → (IsUntouched d a.by × Contains h'.aside a)
       ⊎ ((k : Step) (e : Edit) (n : ℕ) → GoesOn items d k e → Saves source items e n → 0 < n → a.turn ≡ named h.births n k →
-      TurnLeads h'.leads (named h'.labels n (renumbered (new_number d items) k)))
+      IsLed h' n (renumbered (new_number d items) k))
   pub untouched : (a : Aside) → Contains h'.aside a → Contains h.aside a × IsUntouched d a.by
 
 -- Where what is held is mended, it goes over to the sheet behind the edit.

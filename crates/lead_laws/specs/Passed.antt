@@ -1,9 +1,9 @@
 -- A turn that led and is passed: what it led is led by others, or is set aside with what blocks it (own).
-use Rattle.std.specs.Prelude.{◌≡◌, ◌⊎◌, ℕ, ◌<◌, false, List, ◌∷◌, slice_index}
+use Rattle.std.specs.Prelude.{◌≡◌, ◌⊎◌, ℕ, ◌<◌, List, ◌∷◌, ◌++◌}
 use Rattle.std.specs.List.{Contains}
 use Rattle.css_model.specs.declared.sheet.Item.{Item}
-use Rattle.hold_laws.specs.Births.{owner}
 use Rattle.hold_laws.specs.Leads.{Lead, Holding, IsLed, IsSetAside, IsHeld, ChangesHere}
+use Rattle.hold_laws.specs.Scopes.{IsInScope}
 use Rattle.hold_laws.specs.Turns.{named}
 use Rattle.order_laws.specs.Edits.{Edit}
 use Rattle.plan_laws.specs.Cover.{IsSooner}
@@ -13,15 +13,15 @@ use Rattle.step_laws.specs.Sizes.{Saves}
 use Rattle.step_laws.specs.Steps.{IsStep, first_item, last_item}
 use Rattle.wall_laws.specs.Holding.{Hindrance, Hinders, Aside}
 
--- A turn led and leads no more. The others still lead, and the later steps of its owner are led by one of them or
--- by a new one.
+-- A turn led and leads no more. The others still lead, and the later steps in its scope are led by one of them or
+-- by a new one, or they are set aside.
 pub record IsLedOn (source : List ℕ) (items : List Item) (h h' : Holding) (l : Lead) : Type 0 where
   pub same_labels : h'.labels ≡ h.labels
   pub same_births : h'.births ≡ h.births
   pub same_next : h'.next ≡ h.next
   pub leads : (other : Lead) → Contains h.leads other → (l ≡ other) ⊎ Contains h'.leads other
-  pub later : l.alone ≡ false → (k : Step) (e : Edit) (n : ℕ) → IsStep items k e → Saves source items e n → 0 < n → l.owner ≡ slice_index h.births (owner h.births k) →
-      IsSooner l.turn (named h.labels n k) → IsLed h' n k
+  pub later : (k : Step) (e : Edit) (n : ℕ) → IsStep items k e → Saves source items e n → 0 < n → IsInScope h.births l.scope l.owner k →
+      IsSooner l.turn (named h.labels n k) → IsLed h' n k ⊎ ((by : Hindrance) × IsSetAside h' n k by)
 
 -- a turn that is set aside is one of items that were born, and its step is blocked
 abbrev pub IsBlockedHere : List Answered → List ℕ → List Item → Holding → Aside → Type 0
@@ -51,3 +51,9 @@ abbrev pub BlockedIsPassed : Type 0
 BlockedIsPassed = (asked answers : List Answered) (source : List ℕ) (items : List Item) (h h' : Holding) (l : Lead) → IsHeld asked source items h → IsLedOn source items h h' l →
     (k : Step) (e : Edit) (n : ℕ) (by : Hindrance) → IsStep items k e → Saves source items e n → 0 < n → l.turn ≡ named h.labels n k → Hinders answers items e by →
     h'.aside ≡ record { turn = named h.births n k; by = by } ∷ h.aside → IsPassed answers source items h h' l
+
+-- A turn is passed where turns are set aside whose steps are blocked, and the steps that have it are set aside.
+abbrev pub MoreIsPassed : Type 0
+MoreIsPassed = (answers : List Answered) (source : List ℕ) (items : List Item) (h h' : Holding) (l : Lead) (more : List Aside) → IsLedOn source items h h' l →
+    ((k : Step) (e : Edit) (n : ℕ) → IsStep items k e → Saves source items e n → 0 < n → l.turn ≡ named h.labels n k → (by : Hindrance) × IsSetAside h' n k by) →
+    h'.aside ≡ more ++ h.aside → ((a : Aside) → Contains more a → IsBlockedHere answers source items h a) → IsPassed answers source items h h' l

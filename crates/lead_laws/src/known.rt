@@ -1,12 +1,13 @@
 //! What a plan by turns that lead always knows of its board.
 
-ghost use Rattle.lead_laws.specs.Known.{AnswersMayCome, BlockedIsKnown, NoneIsKnown, StartIsKnown, TakenIsKnown};
+ghost use Rattle.lead_laws.specs.Known.{AnswersMayCome, BlockedIsKnown, MoreIsKnown, NoneIsKnown, StartIsKnown, TakenIsKnown};
 
 use crate::mark_names::{kept_are_renamed, marks_are_names};
 use crate::mended::taken_goes_over;
-use crate::passed::{blocked_is_passed, none_is_passed, passed_is_change};
+use crate::passed::{blocked_is_passed, more_is_passed, none_is_passed, passed_is_change};
 use crate::remembering::{
-    one_more_is_remembered, remembered_goes_over, remembered_is_woken, untouched_is_kept,
+    more_are_remembered, one_more_is_remembered, remembered_goes_over, remembered_is_woken,
+    untouched_is_kept,
 };
 use hold_laws::{held_goes_over, held_may_change, start_is_held};
 
@@ -42,6 +43,16 @@ pub fn blocked_is_known()
     passed_is_change();
     held_may_change();
     one_more_is_remembered();
+}
+
+/// It is where turns are set aside whose steps are blocked and remembered, the passed one among what is set aside.
+pub fn more_is_known()
+    ensures { MoreIsKnown }
+{
+    more_is_passed();
+    passed_is_change();
+    held_may_change();
+    more_are_remembered();
 }
 
 /// It is behind a step, where new items are led and entries of moved pairs lead again.

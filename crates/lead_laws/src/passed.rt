@@ -1,6 +1,6 @@
 //! A turn that led and is passed.
 
-ghost use Rattle.lead_laws.specs.Passed.{BlockedIsPassed, NoneIsPassed, PassedIsChange};
+ghost use Rattle.lead_laws.specs.Passed.{BlockedIsPassed, MoreIsPassed, NoneIsPassed, PassedIsChange};
 
 use hold_laws::{names_tell_steps, turns_are_ordered};
 
@@ -22,3 +22,8 @@ pub fn blocked_is_passed()
 {
     names_tell_steps();
 }
+
+/// A turn is passed where turns are set aside whose steps are blocked, and the steps that have it are set aside.
+pub fn more_is_passed()
+    ensures { MoreIsPassed }
+{}

@@ -1,19 +1,22 @@
 -- What comes in the place of a lead that leads no more.
 use Rattle.std.proofs.Common.{◌≡◌, ◌⊎◌, ℕ, ◌+◌, ◌<◌, ◌≤◌, arith, true, false, List, [], ◌∷◌, Option, Some, None, refl, sym, ap, ◌∙◌, subst, inl, inr}
-use Rattle.std.specs.Prelude.{IfSome, slice_get, slice_index}
+use Rattle.std.specs.Prelude.{IfSome, slice_get}
 use Rattle.std.specs.List.{Contains}
 use Rattle.std.specs.Option.{option_map}
 use Rattle.std.proofs.lemmas.Bool.{false≢true}
 use Rattle.std.proofs.lemmas.Option.{slice_get-map}
-use Rattle.hold_laws.specs.Births.{owner}
 use Rattle.hold_laws.specs.Leads as held
 use Rattle.hold_laws.specs.Leads.{IsLed}
+use Rattle.hold_laws.specs.Scopes.{IsInScope}
 use Rattle.hold_laws.specs.Turns.{named}
 use Rattle.lead_laws.specs.Known.{IsFollowed}
 use Rattle.lead_laws.specs.MarkNames.{holding_of}
 use Rattle.lead_merge.specs.Following.{Follows}
 use Rattle.lead_plan.specs.declared.lead.Lead.{Lead}
-use Rattle.lead_plan.specs.Told.{lead_told}
+use Rattle.lead_plan.specs.declared.lead.Scope.{Scope}
+use Rattle.lead_plan.specs.declared.lead.Scope.TheVariants.{Alone, Owned, Ups, Downs}
+use Rattle.lead_plan.specs.Told.{alone, scope_told, lead_told}
+use Rattle.lead_plan.specs.Weights.{is_alone}
 use Rattle.list_facts.proofs.Members.{Contains-cons_cases, Contains-nil}
 use Rattle.list_facts.proofs.Options.{mapped}
 use Rattle.order_laws.specs.Edits.{Edit}
@@ -25,9 +28,9 @@ use Rattle.plan_state.specs.State.{IsBoard}
 use Rattle.step_laws.specs.declared.step.Step.{Step}
 use Rattle.step_laws.specs.Sizes.{Saves}
 use Rattle.step_laws.specs.Steps.{IsStep}
-use Rattle.plan_state.specs.Waking.{alone}
+use Rattle.wall_laws.specs.Holding.{Aside}
 use Rattle.step_turns.specs.Looking.{FoundParts, Reaches}
-use Rattle.step_turns.specs.Named.{IsLaterTurn}
+use Rattle.step_turns.specs.Named.{IsLaterTurn, IsLedBeside}
 
 -- ---- The label of an owner
 
@@ -66,10 +69,10 @@ module _ {X : Type 0} where
 -- ---- What follows
 
 -- the first of the others leads others, and comes later
-pub others_lead : (source : List ℕ) (p : PlanParts) (lead : Lead) (found : FoundParts) → Follows source p lead found → IfSome found.others (λ n. n.alone ≡ false)
-others_lead source p lead found f = at found.others (λ l is. (f.later l (inr is)).all)
+pub others_lead : (source : List ℕ) (p : PlanParts) (lead : Lead) (found : FoundParts) → is_alone (lead_told lead).scope ≡ false → Follows source p lead found → IfSome found.others (λ n. is_alone (lead_told n).scope ≡ false)
+others_lead source p lead found many f = at found.others (λ l is. subst (λ (s : Scope). is_alone (scope_told s) ≡ false) (sym (f.later l (inr is)).scope_is) many)
   where
-    at : (o : Option Lead) → ((l : Lead) → o ≡ Some l → l.alone ≡ false) → IfSome o (λ n. n.alone ≡ false)
+    at : (o : Option Lead) → ((l : Lead) → o ≡ Some l → is_alone (lead_told l).scope ≡ false) → IfSome o (λ n. is_alone (lead_told n).scope ≡ false)
     at None h = tt
     at (Some l) h = h l refl
 
@@ -88,26 +91,34 @@ others_stay lead leads leads' stay other among = which (Contains-cons_cases lead
     which (inr g) = inr (stay other g)
 
 -- a lead of one step alone is followed by nothing
-pub alone_followed : (source : List ℕ) (p : PlanParts) (lead : Lead) (leads : List held.Lead) → lead.alone ≡ true → IsFollowed source p.board (lead_told lead ∷ leads) leads (lead_told lead)
-alone_followed source p lead leads single = record {
+none_in_it : (scope : Scope) (births : List ℕ) (birth : ℕ) (k : Step) → is_alone (scope_told scope) ≡ true → IsInScope births (scope_told scope) birth k → ⊥
+none_in_it Alone births birth k single in_it = in_it
+none_in_it Owned births birth k single in_it = false≢true single
+none_in_it Ups births birth k single in_it = false≢true single
+none_in_it Downs births birth k single in_it = false≢true single
+
+pub alone_followed : (source : List ℕ) (p : PlanParts) (lead : Lead) (leads : List held.Lead) (aside : List Aside) → is_alone (lead_told lead).scope ≡ true → IsFollowed source p.board (lead_told lead ∷ leads) leads aside (lead_told lead)
+alone_followed source p lead leads aside single = record {
   others = others_stay (lead_told lead) leads leads (λ l h. h);
-  later = λ all k e n is saves some owned sooner. absurd (false≢true (sym all ∙ single));
+  later = λ k e n is saves some in_it sooner. absurd (none_in_it lead.scope (births_of p.board.marks) lead.owner k single in_it);
 }
 
 -- where what follows leads, the lead is followed
-pub is_followed : (source : List ℕ) (p : PlanParts) (lead : Lead) (found : FoundParts) (leads leads' : List held.Lead) → Follows source p lead found →
+pub is_followed : (source : List ℕ) (p : PlanParts) (lead : Lead) (found : FoundParts) (leads leads' : List held.Lead) (aside : List Aside) → Follows source p lead found →
     ((l : held.Lead) → Contains leads l → Contains leads' l) → ((l : Lead) → Contains found.leads l → Contains leads' (alone l)) → IfSome found.others (λ n. Contains leads' (lead_told n)) →
-    IsFollowed source p.board (lead_told lead ∷ leads) leads' (lead_told lead)
-is_followed source p lead found leads leads' f stay single there = record {
+    IsFollowed source p.board (lead_told lead ∷ leads) leads' aside (lead_told lead)
+is_followed source p lead found leads leads' aside f stay single there = record {
   others = others_stay (lead_told lead) leads leads' stay;
-  later = λ all k e n is saves some owned sooner. led k n owned (f.covers k (sym owned) e n is saves some sooner);
+  later = λ k e n is saves some in_it sooner. inl (led k n in_it (f.covers k e n is saves some in_it sooner));
 }
   where
-    led : (k : Step) (n : ℕ) → lead.owner ≡ slice_index (births_of p.board.marks) (owner (births_of p.board.marks) k) → Reaches found (named (labels_of p.board.marks) n k) → IsLed (holding_of p.board leads' []) n k
-    led k n owned (inl (l, among, turn)) = (alone l, single l among, inl turn)
-    led k n owned (inr (l, is, not)) =
+    led : (k : Step) (n : ℕ) → IsLedBeside p.board lead k → Reaches found (named (labels_of p.board.marks) n k) → IsLed (holding_of p.board leads' aside) n k
+    led k n in_it (inl (l, among, turn)) = (alone l, single l among, inl turn)
+    led k n in_it (inr (l, is, not)) =
         let turn : IsLaterTurn source p.board lead l = f.later l (inr is) in
-        (lead_told l, subst (λ (o : Option Lead). IfSome o (λ m. Contains leads' (lead_told m))) is there, inr (turn.all, turn.owner_is ∙ owned, not))
+        let beside : IsLedBeside p.board l k = subst (λ (s : Scope). IsInScope (births_of p.board.marks) (scope_told s) l.owner k) (sym turn.scope_is)
+        (subst (λ (b : ℕ). IsInScope (births_of p.board.marks) (scope_told lead.scope) b k) (sym turn.owner_is) in_it) in
+        (lead_told l, subst (λ (o : Option Lead). IfSome o (λ m. Contains leads' (lead_told m))) is there, inr (beside, not))
 
 -- what leads behind a lead weighs less than with it
 pub lighter : (new between old few most weight : ℕ) → new + most < between + weight → between ≤ old + few → few ≤ most → new < old + weight

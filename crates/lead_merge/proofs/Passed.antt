@@ -70,22 +70,23 @@ module _ (source : List ℕ) (p : PlanParts) (lead : Lead) (answers : List Answe
       which l (inr g) = stay l g
 
   -- no step has its turn
-  pub none_state : NoneIsKnown → NamesNone source p.board lead → IsFollowed source p.board (lead_told lead ∷ p.leads) leads' (lead_told lead) → IsState answers source (record p { leads = leads' })
+  pub none_state : NoneIsKnown → NamesNone source p.board lead → ((aside : List Aside) → IsFollowed source p.board (lead_told lead ∷ p.leads) leads' aside (lead_told lead)) → IsState answers source (record p { leads = leads' })
   none_state law none followed = record {
     board = same_board source p leads' p.entries led.board;
     aside = led.aside;
-    known = law answers source p.board (lead_told lead ∷ p.leads) leads' led.aside p.entries (lead_told lead) followed (λ k e n is saves some turn. none k e n is saves some (sym turn)) led.known;
+    known = law answers source p.board (lead_told lead ∷ p.leads) leads' led.aside p.entries (lead_told lead) (followed led.aside) (λ k e n is saves some turn. none k e n is saves some (sym turn)) led.known;
   }
 
   -- the step that has it is blocked
   pub blocked_state : BlockedIsKnown → (k : Step) (o : Obstacle) (entries' : List Entry) → IsStepOf source p.board lead k → IsBlockedBy answers p.board.items k o →
       ((x : Entry) → Contains p.entries x → Contains entries' x) →
       ((by : Hindrance) → Names p.board.items o by → (q : Pair) → Contains (pairs_of by) q → HasEntryOf entries' q (lead_told lead).turn) →
-      IsFollowed source p.board (lead_told lead ∷ p.leads) leads' (lead_told lead) → IsState answers source (record p { leads = leads'; entries = entries' })
+      ((aside : List Aside) → IsFollowed source p.board (lead_told lead ∷ p.leads) leads' aside (lead_told lead)) → IsState answers source (record p { leads = leads'; entries = entries' })
   blocked_state law k o entries' names blocked more put followed = record {
     board = same_board source p leads' entries' led.board;
     aside = record { turn = named (births_of p.board.marks) lead.saving.0 k; by = blocked.by } ∷ led.aside;
-    known = law answers source p.board (lead_told lead ∷ p.leads) leads' led.aside p.entries entries' (lead_told lead) followed k names.has.0 lead.saving.0 blocked.by names.has.1
+    known = law answers source p.board (lead_told lead ∷ p.leads) leads' led.aside p.entries entries' (lead_told lead) k names.has.0 lead.saving.0 blocked.by
+        (followed (record { turn = named (births_of p.board.marks) lead.saving.0 k; by = blocked.by } ∷ led.aside)) names.has.1
         (names.saves names.has.0 names.has.1) names.some (sym names.turn) (blocked.hinders names.has.0 names.has.1) more (put blocked.by blocked.names) led.known;
   }
 
@@ -93,9 +94,10 @@ module _ (source : List ℕ) (p : PlanParts) (lead : Lead) (answers : List Answe
 pub set_aside_state : BlockedIsKnown → (source : List ℕ) (p q r : PlanParts) (lead : Lead) (k : Step) (o : Obstacle) → q ≡ record p { entries = q.entries } → r ≡ record q { leads = r.leads } →
     IsStepOf source p.board lead k → ((x : Entry) → Contains p.entries x → Contains q.entries x) →
     ((by : Hindrance) → Names p.board.items o by → (pair : Pair) → Contains (pairs_of by) pair → HasEntryOf q.entries pair (lead_told lead).turn) →
-    IsFollowed source q.board (lead_told lead ∷ q.leads) r.leads (lead_told lead) →
+    ((aside : List Aside) → IsFollowed source q.board (lead_told lead ∷ q.leads) r.leads aside (lead_told lead)) →
     (answers : List Answered) → IsBlockedBy answers p.board.items k o → IsLedBy answers source p (lead_told lead ∷ p.leads) → IsState answers source r
 set_aside_state law source p q r lead k o first second names more put followed answers blocked led =
-    let behind : IsFollowed source p.board (lead_told lead ∷ p.leads) r.leads (lead_told lead) = subst (λ (x : PlanParts). IsFollowed source x.board (lead_told lead ∷ x.leads) r.leads (lead_told lead)) first followed in
+    let behind : (aside : List Aside) → IsFollowed source p.board (lead_told lead ∷ p.leads) r.leads aside (lead_told lead) =
+    (λ aside. subst (λ (x : PlanParts). IsFollowed source x.board (lead_told lead ∷ x.leads) r.leads aside (lead_told lead)) first (followed aside)) in
     let is : r ≡ record p { leads = r.leads; entries = q.entries } = second ∙ ap (λ (x : PlanParts). record x { leads = r.leads }) first in
     subst (IsState answers source) (sym is) (blocked_state source p lead answers led r.leads law k o q.entries names blocked more put behind)

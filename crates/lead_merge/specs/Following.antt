@@ -10,13 +10,12 @@ use Rattle.step_laws.specs.Free.{Answered}
 use Rattle.step_laws.specs.Leading.{Takes}
 use Rattle.step_laws.specs.Steps.{HasStep, IsStep}
 use Rattle.step_turns.specs.Looking.{AreLater, Covers, FoundParts}
-use Rattle.step_turns.specs.Named.{IsOwnedBy}
 
--- What follows a lead: later turns of its owner, and where there are more, the first of the others, such that none of the
--- owner's turns is passed over. Where nothing follows, the owner has no later turn.
+-- What follows a lead: later turns in its scope, and where there are more, the first of the others, such that none of
+-- them is passed over. Where nothing follows, there is no later turn in its scope.
 pub record Follows (source : List ℕ) (p : PlanParts) (lead : Lead) (found : FoundParts) : Type 0 where
   pub later : AreLater source p.board lead found
-  pub covers : (k : Step) → IsOwnedBy p.board lead.owner k → Covers source p.board lead found k
+  pub covers : (k : Step) → Covers source p.board lead found k
   pub few : length found.leads ≤ room
 
 -- a step of a sheet is the next one: what it leads to is what the next step leads to

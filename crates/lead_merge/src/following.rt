@@ -1,18 +1,18 @@
-//! The next turns of an owner, in the place of a lead that leads no more.
+//! The next turns in the scope of a lead, in its place where it leads no more.
 
-ghost use Rattle.std.specs.Prelude.{◌≡◌, ◌∷◌, ◌+◌, ◌<◌, ◌≤◌, ℕ, IfOk, IfSome, OnOk, Some, false, length, slice_get};
+ghost use Rattle.std.specs.Prelude.{◌≡◌, ◌∷◌, ◌+◌, ◌<◌, ◌≤◌, List, ℕ, IfOk, IfSome, OnOk, Some, false, length, slice_get};
 ghost use Rattle.std.specs.List.{Contains};
 ghost use Rattle.hold_laws.specs.Leads as held;
 ghost use Rattle.lead_laws.specs.Known.{IsFollowed};
 ghost use Rattle.lead_merge.specs.Following.{Follows};
-ghost use Rattle.lead_plan.specs.Told.{lead_told};
+ghost use Rattle.lead_plan.specs.Told.{alone, lead_told};
 ghost use Rattle.lead_plan.specs.declared.lead.Lead as declared;
-ghost use Rattle.lead_plan.specs.Weights.{room, total, weight};
+ghost use Rattle.lead_plan.specs.Weights.{is_alone, room, total, weight};
 ghost use Rattle.plan_laws.specs.Cover.{IsSooner};
 ghost use Rattle.plan_state.specs.State.{IsBoard};
-ghost use Rattle.plan_state.specs.Waking.{alone};
+ghost use Rattle.wall_laws.specs.Holding.{Aside};
 
-use lead_plan::{Lead, Waiting, later_weighs_less};
+use lead_plan::{Lead, Scope, Waiting, later_weighs_less};
 use merge_plan::KnownLengths;
 use plan_state::Plan;
 use std::alloc::{AllocError, Global};
@@ -28,7 +28,7 @@ fn home_of(homes: &[u64], birth: u32) -> u64
     }
 }
 
-/// The next turns of the owner of a lead that leads others.
+/// The next turns in the scope of a lead.
 fn next_of(
     alloc: Global,
     source: &KnownLengths<'_>,
@@ -49,7 +49,7 @@ fn lead_alone(waiting: &mut Waiting, lead: &Lead) -> Result<(), AllocError>
     ensures weighs { OnOk result (total waiting.new ≤ total waiting.old + 1) }
 {
     waiting.add(Lead {
-        alone: true,
+        scope: Scope::Alone,
         ..*lead
     })
 }
@@ -70,8 +70,8 @@ fn lead_all_alone(waiting: &mut Waiting, leads: &[Lead]) -> Result<(), AllocErro
 
 /// Lets the first of the other turns that follow a lead lead them, if there are some.
 fn add_others(waiting: &mut Waiting, lead: &Lead, others: Option<Lead>) -> Result<(), AllocError>
-    requires all { lead.now.alone ≡ false }
-    requires others_all { IfSome others (λ n. n.alone ≡ false) }
+    requires all { is_alone (lead_told lead.now).scope ≡ false }
+    requires others_all { IfSome others (λ n. is_alone (lead_told n).scope ≡ false) }
     requires later { IfSome others (λ n. IsSooner (lead_told lead.now).turn (lead_told n).turn) }
     ensures stay { (l : held.Lead) → Contains waiting.old l → Contains waiting.new l }
     ensures added { OnOk result (IfSome others (λ n. Contains waiting.new (lead_told n))) }
@@ -89,7 +89,7 @@ fn add_others(waiting: &mut Waiting, lead: &Lead, others: Option<Lead>) -> Resul
     }
 }
 
-/// Lets the next turns of its owner lead in the place of a lead that leads no more: some alone, and the first of the others.
+/// Lets the next turns in its scope lead in the place of a lead that leads no more: some alone, and the first of the others.
 /// A lead of one step alone is followed by nothing. All else of the plan stays.
 pub(crate) fn follow(
     alloc: Global,
@@ -99,10 +99,11 @@ pub(crate) fn follow(
 ) -> Result<(), AllocError>
     requires { IsBoard source.now plan.old }
     ensures same { OnOk result (plan.new ≡ record plan.old { leads = plan.new.leads }) }
-    ensures followed { OnOk result (IsFollowed source.now plan.old.board (lead_told lead.now ∷ plan.old.leads) plan.new.leads (lead_told lead.now)) }
+    ensures followed { OnOk result ((aside : List Aside) → IsFollowed source.now plan.old.board (lead_told lead.now ∷ plan.old.leads) plan.new.leads aside
+        (lead_told lead.now)) }
     ensures less { OnOk result (total plan.new.leads < total plan.old.leads + weight (lead_told lead.now)) }
 {
-    if lead.alone {
+    if lead.is_alone() {
         later_weighs_less(lead, lead);
         return Ok(());
     }

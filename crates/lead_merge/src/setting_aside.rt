@@ -14,7 +14,7 @@ ghost use Rattle.obstacles.specs.declared.obstacle.PairPlace as declared_place;
 ghost use Rattle.wall_laws.specs.Holding.{Hindrance};
 
 use css_model::{Decl, Rule, Selector, Sheet};
-use lead_plan::{Aside, Lead};
+use lead_plan::{Aside, Lead, Scope};
 use obstacles::{Obstacle, Other, PairPlace};
 use plan_state::Plan;
 use rule_tables::{decl_digest, selector_digest};
@@ -102,7 +102,17 @@ fn put_named(
     put_other(aside, sheet, &obstacle.other, lead)
 }
 
-/// Sets a lead aside under each pair of what an obstacle names. All else of the plan stays.
+/// The same turn, which leads its step alone.
+fn alone(lead: &Lead) -> Lead
+    ensures { (lead_told result).turn ≡ (lead_told lead.now).turn }
+{
+    Lead {
+        scope: Scope::Alone,
+        ..*lead
+    }
+}
+
+/// Sets a lead aside, alone, under each pair of what an obstacle names. All else of the plan stays.
 pub(crate) fn put_aside(plan: &mut Plan, lead: &Lead, obstacle: &Obstacle) -> Result<(), AllocError>
     requires { (by : Hindrance) × Names plan.old.board.items obstacle.now by }
     ensures same { OnOk result (plan.new ≡ record plan.old { entries = plan.new.entries }) }
@@ -110,5 +120,5 @@ pub(crate) fn put_aside(plan: &mut Plan, lead: &Lead, obstacle: &Obstacle) -> Re
     ensures put { OnOk result ((by : Hindrance) → Names plan.old.board.items obstacle.now by → (p : Pair) → Contains (pairs_of by) p
         → HasEntryOf plan.new.entries p (lead_told lead.now).turn) }
 {
-    put_named(&mut plan.aside, plan.board.sheet(), obstacle, lead)
+    put_named(&mut plan.aside, plan.board.sheet(), obstacle, &alone(lead))
 }

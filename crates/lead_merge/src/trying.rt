@@ -39,7 +39,7 @@ fn obstacle_on<O: Obstacles>(
     ensures free { IfOk result (λ found. IfNone found ((e : Edit) → IsStep board.now.items step.now e → IsFree (O.answers obstacles.new) board.now.items e)) }
     ensures blocked { IfOk result (λ found. IfSome found (λ o. IsBlockedBy (O.answers obstacles.new) board.now.items step.now o)) }
 {
-    obstacles.obstacle(board.sheet(), step)
+    obstacles.obstacle(board.sheet(), board.masks(), step)
 }
 
 /// The step that a lead names, which was taken out as the first of those that lead, if it is free; then it leads again.

@@ -1,11 +1,11 @@
 -- Leads in order, and sets of them.
-use Rattle.std.proofs.Common.{◌≡◌, ◌⊎◌, ℕ, ◌<◌, Bool, true, false, List, [], ◌∷◌, map, Option, Some, None, refl, sym, ap, ap₂, ◌∙◌, subst, inl, inr, arith}
+use Rattle.std.proofs.Common.{◌≡◌, ◌⊎◌, ℕ, ◌<◌, true, false, List, [], ◌∷◌, map, Option, Some, None, refl, sym, ap, ap₂, ◌∙◌, subst, inl, inr, arith}
 use Rattle.std.specs.Prelude.{IfSome}
 use Rattle.std.specs.List.{All, Contains}
 use Rattle.std.specs.BTreeMap.Range.{IsLtBy}
 use Rattle.std.specs.declared.cmp.Ordering.{Ordering}
 use Rattle.std.specs.declared.cmp.Ordering.TheVariants.{Less, Equal, Greater}
-use Rattle.std.specs.Ordering.{nat_cmp, bool_cmp, ordering_then, match_ordering}
+use Rattle.std.specs.Ordering.{nat_cmp, ordering_then, match_ordering}
 use Rattle.std.specs.BTreeSet.{insert_key}
 use Rattle.std.proofs.lemmas.Bool.{false≢true}
 use Rattle.std.proofs.lemmas.Bool.Decides.{nat_tests}
@@ -14,9 +14,12 @@ use Rattle.css_model.specs.Cascade.Winner.{exceeds}
 use Rattle.hold_laws.specs.Leads as held
 use Rattle.lead_plan.specs.contracts.lead.KindOrd.TheImpl as kind_ord
 use Rattle.lead_plan.specs.contracts.lead.LeadOrd.TheImpl as lead_ord
+use Rattle.lead_plan.specs.contracts.lead.ScopeOrd.TheImpl as scope_ord
 use Rattle.lead_plan.specs.declared.lead.Kind.{Kind}
 use Rattle.lead_plan.specs.declared.lead.Kind.TheVariants.{DeclCut, SelCut, SelJoinUp, SelJoinDown, DeclJoinUp, DeclJoinDown, Sharing}
 use Rattle.lead_plan.specs.declared.lead.Lead.{Lead}
+use Rattle.lead_plan.specs.declared.lead.Scope.{Scope}
+use Rattle.lead_plan.specs.declared.lead.Scope.TheVariants.{Alone, Owned, Ups, Downs}
 use Rattle.lead_plan.specs.Told.{step_of_kind, lead_told}
 use Rattle.list_facts.proofs.Members.{Contains-here, Contains-there, Contains-nil, Contains-cons_cases}
 use Rattle.order_laws.proofs.ForCallers.{map_from}
@@ -26,6 +29,9 @@ use Rattle.step_laws.specs.Steps.{rank}
 
 abbrev kind_cmp : Kind → Kind → Ordering
 kind_cmp = (kind_ord.ghosts).cmp
+
+abbrev scope_cmp : Scope → Scope → Ordering
+scope_cmp = (scope_ord.ghosts).cmp
 
 abbrev pub lead_cmp : Lead → Lead → Ordering
 lead_cmp = (lead_ord.ghosts).cmp
@@ -61,6 +67,28 @@ same_kind DeclJoinDown DeclJoinDown e = refl
 same_kind Sharing Sharing e = refl
 same_kind a b e = absurd (omega (arith, e))
 
+-- ---- Scopes
+
+abbrev scope_number : Scope → ℕ
+scope_number Alone = 0
+scope_number Owned = 1
+scope_number Ups = 2
+scope_number Downs = 3
+
+scopes : (a b : Scope) → scope_cmp a b ≡ nat_cmp (scope_number a) (scope_number b)
+scopes Alone Alone = refl
+scopes Owned Owned = refl
+scopes Ups Ups = refl
+scopes Downs Downs = refl
+scopes a b = refl
+
+same_scope : (a b : Scope) → scope_number a ≡ scope_number b → a ≡ b
+same_scope Alone Alone e = refl
+same_scope Owned Owned e = refl
+same_scope Ups Ups e = refl
+same_scope Downs Downs e = refl
+same_scope a b e = absurd (omega (arith, e))
+
 pub rank_of : (k : Kind) (x y : ℕ) → rank (step_of_kind k x y) ≡ kind_number k ∷ x ∷ y ∷ []
 rank_of DeclCut x y = refl
 rank_of SelCut x y = refl
@@ -93,27 +121,27 @@ one_on x y o xs ys less over = which (exceeding x y xs ys over)
 
 -- a lead does not come before a smaller one
 pub not_before : (a b : Lead) → lead_cmp a b ≡ Less → IsSooner (lead_told b).turn (lead_told a).turn → ⊥
-not_before a b less (inl more) = let e : Greater ≡ Less = sym (ap (λ z. ordering_then z (ordering_then (kind_cmp a.kind b.kind) (ordering_then (nat_cmp a.first b.first) (ordering_then (nat_cmp a.second b.second) (ordering_then (nat_cmp a.owner b.owner) (bool_cmp a.alone b.alone)))))) (above b.saving.0 a.saving.0 more)) ∙ less in absurd (cc)
+not_before a b less (inl more) = let e : Greater ≡ Less = sym (ap (λ z. ordering_then z (ordering_then (kind_cmp a.kind b.kind) (ordering_then (nat_cmp a.first b.first) (ordering_then (nat_cmp a.second b.second) (ordering_then (nat_cmp a.owner b.owner) (scope_cmp a.scope b.scope)))))) (above b.saving.0 a.saving.0 more)) ∙ less in absurd (cc)
 not_before a b less (inr (equal, over)) = false≢true last.1
   where
-    by_kind : ordering_then (kind_cmp a.kind b.kind) (ordering_then (nat_cmp a.first b.first) (ordering_then (nat_cmp a.second b.second) (ordering_then (nat_cmp a.owner b.owner) (bool_cmp a.alone b.alone)))) ≡ Less
-    by_kind = sym (ap (λ z. ordering_then z (ordering_then (kind_cmp a.kind b.kind) (ordering_then (nat_cmp a.first b.first) (ordering_then (nat_cmp a.second b.second) (ordering_then (nat_cmp a.owner b.owner) (bool_cmp a.alone b.alone)))))) (same b.saving.0 a.saving.0 equal)) ∙ less
+    by_kind : ordering_then (kind_cmp a.kind b.kind) (ordering_then (nat_cmp a.first b.first) (ordering_then (nat_cmp a.second b.second) (ordering_then (nat_cmp a.owner b.owner) (scope_cmp a.scope b.scope)))) ≡ Less
+    by_kind = sym (ap (λ z. ordering_then z (ordering_then (kind_cmp a.kind b.kind) (ordering_then (nat_cmp a.first b.first) (ordering_then (nat_cmp a.second b.second) (ordering_then (nat_cmp a.owner b.owner) (scope_cmp a.scope b.scope)))))) (same b.saving.0 a.saving.0 equal)) ∙ less
 
-    by_number : ordering_then (nat_cmp (kind_number a.kind) (kind_number b.kind)) (ordering_then (nat_cmp a.first b.first) (ordering_then (nat_cmp a.second b.second) (ordering_then (nat_cmp a.owner b.owner) (bool_cmp a.alone b.alone)))) ≡ Less
-    by_number = subst (λ (z : Ordering). ordering_then z (ordering_then (nat_cmp a.first b.first) (ordering_then (nat_cmp a.second b.second) (ordering_then (nat_cmp a.owner b.owner) (bool_cmp a.alone b.alone)))) ≡ Less) (kinds a.kind b.kind) by_kind
+    by_number : ordering_then (nat_cmp (kind_number a.kind) (kind_number b.kind)) (ordering_then (nat_cmp a.first b.first) (ordering_then (nat_cmp a.second b.second) (ordering_then (nat_cmp a.owner b.owner) (scope_cmp a.scope b.scope)))) ≡ Less
+    by_number = subst (λ (z : Ordering). ordering_then z (ordering_then (nat_cmp a.first b.first) (ordering_then (nat_cmp a.second b.second) (ordering_then (nat_cmp a.owner b.owner) (scope_cmp a.scope b.scope)))) ≡ Less) (kinds a.kind b.kind) by_kind
 
     ranks : exceeds (kind_number a.kind ∷ a.first ∷ a.second ∷ []) (kind_number b.kind ∷ b.first ∷ b.second ∷ []) ≡ true
     ranks = subst (λ (xs : List ℕ). exceeds xs (kind_number b.kind ∷ b.first ∷ b.second ∷ []) ≡ true) (rank_of a.kind a.first a.second)
         (subst (λ (ys : List ℕ). exceeds (rank (step_of_kind a.kind a.first a.second)) ys ≡ true) (rank_of b.kind b.first b.second) over)
 
-    firsts : (ordering_then (nat_cmp a.first b.first) (ordering_then (nat_cmp a.second b.second) (ordering_then (nat_cmp a.owner b.owner) (bool_cmp a.alone b.alone))) ≡ Less) × (exceeds (a.first ∷ a.second ∷ []) (b.first ∷ b.second ∷ []) ≡ true)
-    firsts = one_on (kind_number a.kind) (kind_number b.kind) (ordering_then (nat_cmp a.first b.first) (ordering_then (nat_cmp a.second b.second) (ordering_then (nat_cmp a.owner b.owner) (bool_cmp a.alone b.alone)))) (a.first ∷ a.second ∷ []) (b.first ∷ b.second ∷ []) by_number ranks
+    firsts : (ordering_then (nat_cmp a.first b.first) (ordering_then (nat_cmp a.second b.second) (ordering_then (nat_cmp a.owner b.owner) (scope_cmp a.scope b.scope))) ≡ Less) × (exceeds (a.first ∷ a.second ∷ []) (b.first ∷ b.second ∷ []) ≡ true)
+    firsts = one_on (kind_number a.kind) (kind_number b.kind) (ordering_then (nat_cmp a.first b.first) (ordering_then (nat_cmp a.second b.second) (ordering_then (nat_cmp a.owner b.owner) (scope_cmp a.scope b.scope)))) (a.first ∷ a.second ∷ []) (b.first ∷ b.second ∷ []) by_number ranks
 
-    next : (ordering_then (nat_cmp a.second b.second) (ordering_then (nat_cmp a.owner b.owner) (bool_cmp a.alone b.alone)) ≡ Less) × (exceeds (a.second ∷ []) (b.second ∷ []) ≡ true)
-    next = one_on a.first b.first (ordering_then (nat_cmp a.second b.second) (ordering_then (nat_cmp a.owner b.owner) (bool_cmp a.alone b.alone))) (a.second ∷ []) (b.second ∷ []) firsts.0 firsts.1
+    next : (ordering_then (nat_cmp a.second b.second) (ordering_then (nat_cmp a.owner b.owner) (scope_cmp a.scope b.scope)) ≡ Less) × (exceeds (a.second ∷ []) (b.second ∷ []) ≡ true)
+    next = one_on a.first b.first (ordering_then (nat_cmp a.second b.second) (ordering_then (nat_cmp a.owner b.owner) (scope_cmp a.scope b.scope))) (a.second ∷ []) (b.second ∷ []) firsts.0 firsts.1
 
-    last : (ordering_then (nat_cmp a.owner b.owner) (bool_cmp a.alone b.alone) ≡ Less) × (exceeds [] [] ≡ true)
-    last = one_on a.second b.second (ordering_then (nat_cmp a.owner b.owner) (bool_cmp a.alone b.alone)) [] [] next.0 next.1
+    last : (ordering_then (nat_cmp a.owner b.owner) (scope_cmp a.scope b.scope) ≡ Less) × (exceeds [] [] ≡ true)
+    last = one_on a.second b.second (ordering_then (nat_cmp a.owner b.owner) (scope_cmp a.scope b.scope)) [] [] next.0 next.1
 
 -- ---- Leads that are told apart
 
@@ -122,31 +150,25 @@ then_equal Less p e = absurd (cc)
 then_equal Equal p e = (refl, e)
 then_equal Greater p e = absurd (cc)
 
-same_bool : (a b : Bool) → bool_cmp a b ≡ Equal → a ≡ b
-same_bool false false e = refl
-same_bool false true e = absurd (cc)
-same_bool true false e = absurd (cc)
-same_bool true true e = refl
-
 pub same_lead : (a b : Lead) → lead_cmp a b ≡ Equal → a ≡ b
 same_lead a b e =
-    let s = then_equal (nat_cmp b.saving.0 a.saving.0) (ordering_then (kind_cmp a.kind b.kind) (ordering_then (nat_cmp a.first b.first) (ordering_then (nat_cmp a.second b.second) (ordering_then (nat_cmp a.owner b.owner) (bool_cmp a.alone b.alone))))) e in
-    let k = then_equal (kind_cmp a.kind b.kind) (ordering_then (nat_cmp a.first b.first) (ordering_then (nat_cmp a.second b.second) (ordering_then (nat_cmp a.owner b.owner) (bool_cmp a.alone b.alone)))) s.1 in
-    let f = then_equal (nat_cmp a.first b.first) (ordering_then (nat_cmp a.second b.second) (ordering_then (nat_cmp a.owner b.owner) (bool_cmp a.alone b.alone))) k.1 in
-    let g = then_equal (nat_cmp a.second b.second) (ordering_then (nat_cmp a.owner b.owner) (bool_cmp a.alone b.alone)) f.1 in
-    let o = then_equal (nat_cmp a.owner b.owner) (bool_cmp a.alone b.alone) g.1 in
+    let s = then_equal (nat_cmp b.saving.0 a.saving.0) (ordering_then (kind_cmp a.kind b.kind) (ordering_then (nat_cmp a.first b.first) (ordering_then (nat_cmp a.second b.second) (ordering_then (nat_cmp a.owner b.owner) (scope_cmp a.scope b.scope))))) e in
+    let k = then_equal (kind_cmp a.kind b.kind) (ordering_then (nat_cmp a.first b.first) (ordering_then (nat_cmp a.second b.second) (ordering_then (nat_cmp a.owner b.owner) (scope_cmp a.scope b.scope)))) s.1 in
+    let f = then_equal (nat_cmp a.first b.first) (ordering_then (nat_cmp a.second b.second) (ordering_then (nat_cmp a.owner b.owner) (scope_cmp a.scope b.scope))) k.1 in
+    let g = then_equal (nat_cmp a.second b.second) (ordering_then (nat_cmp a.owner b.owner) (scope_cmp a.scope b.scope)) f.1 in
+    let o = then_equal (nat_cmp a.owner b.owner) (scope_cmp a.scope b.scope) g.1 in
     let saving : a.saving.0 ≡ b.saving.0 = sym (is_same b.saving.0 a.saving.0 s.0) in
     let kind : a.kind ≡ b.kind = same_kind a.kind b.kind (is_same (kind_number a.kind) (kind_number b.kind) (sym (kinds a.kind b.kind) ∙ k.0)) in
     let first : a.first ≡ b.first = is_same a.first b.first f.0 in
     let second : a.second ≡ b.second = is_same a.second b.second g.0 in
     let owner : a.owner ≡ b.owner = is_same a.owner b.owner o.0 in
-    let alone : a.alone ≡ b.alone = same_bool a.alone b.alone o.1 in
-    made saving kind first second owner alone
+    let scope : a.scope ≡ b.scope = same_scope a.scope b.scope (is_same (scope_number a.scope) (scope_number b.scope) (sym (scopes a.scope b.scope) ∙ o.1)) in
+    made saving kind first second owner scope
   where
-    make : ℕ → Kind → (first second owner : ℕ) → Bool → Lead
-    make saving kind first second owner alone = record { saving = record { 0 = saving }; kind = kind; first = first; second = second; owner = owner; alone = alone }
+    make : ℕ → Kind → (first second owner : ℕ) → Scope → Lead
+    make saving kind first second owner scope = record { saving = record { 0 = saving }; kind = kind; first = first; second = second; owner = owner; scope = scope }
 
-    made : {s s' f f' g g' o o' : ℕ} {k k' : Kind} {b b' : Bool} → s ≡ s' → k ≡ k' → f ≡ f' → g ≡ g' → o ≡ o' → b ≡ b' → make s k f g o b ≡ make s' k' f' g' o' b'
+    made : {s s' f f' g g' o o' : ℕ} {k k' : Kind} {b b' : Scope} → s ≡ s' → k ≡ k' → f ≡ f' → g ≡ g' → o ≡ o' → b ≡ b' → make s k f g o b ≡ make s' k' f' g' o' b'
     made {s = s} {s' = s'} {f = f} {f' = f'} {g = g} {g' = g'} {o = o} {o' = o'} {k = k} {k' = k'} {b = b} {b' = b'} hs hk hf hg ho hb =
         ap₂ (λ x y. make x y f g o b) hs hk ∙ ap₂ (λ x y. make s' k' x y o b) hf hg ∙ ap₂ (make s' k' f' g') ho hb
 

@@ -9,8 +9,8 @@ use Rattle.css_model.specs.Cascade.Winner.{exceeds}
 use Rattle.lead_plan.specs.declared.lead.Kind.{Kind}
 use Rattle.lead_plan.specs.declared.lead.Kind.TheVariants.{DeclCut, SelCut, SelJoinUp, SelJoinDown, DeclJoinUp, DeclJoinDown, Sharing}
 use Rattle.lead_plan.specs.declared.lead.Lead.{Lead}
-use Rattle.lead_plan.specs.Told.{step_of_kind, lead_told}
-use Rattle.lead_plan.specs.Weights.{weight_of, weight, room, total}
+use Rattle.lead_plan.specs.Told.{step_of_kind, scope_told, lead_told}
+use Rattle.lead_plan.specs.Weights.{weight_of, is_alone, weight, room, total}
 use Rattle.lead_plan.proofs.Keys.{kind_number, rank_of, exceeding, lead_cmp, told_all}
 use Rattle.plan_laws.specs.Cover.{IsSooner}
 use Rattle.step_laws.specs.Steps.{rank}
@@ -29,8 +29,8 @@ few_kinds Sharing = omega arith
 abbrev number : ℕ → ℕ → ℕ → ℕ → ℕ
 number n k x y = ((n * 7 + (6 - k)) * 2 ^ 64 + (2 ^ 64 - (x + 1))) * 2 ^ 64 + (2 ^ 64 - y)
 
-weight_is : (l : Lead) → l.alone ≡ false → weight (lead_told l) ≡ number l.saving.0 (kind_number l.kind) l.first l.second * (room + 1)
-weight_is l all = cond-false l.alone 1 (weight_of l.saving.0 (rank (step_of_kind l.kind l.first l.second)) * (room + 1)) all
+weight_is : (l : Lead) → is_alone (scope_told l.scope) ≡ false → weight (lead_told l) ≡ number l.saving.0 (kind_number l.kind) l.first l.second * (room + 1)
+weight_is l all = cond-false (is_alone (scope_told l.scope)) 1 (weight_of l.saving.0 (rank (step_of_kind l.kind l.first l.second)) * (room + 1)) all
     ∙ ap (λ n. n * (room + 1)) (ap (weight_of l.saving.0) (rank_of l.kind l.first l.second))
 
 by_saving : (n m k j x y z w : ℕ) → k ≤ 6 → j ≤ 6 → x < 2 ^ 64 → y < 2 ^ 64 → z < 2 ^ 64 → w < 2 ^ 64 → m < n → number m j z w < number n k x y
@@ -88,20 +88,20 @@ some_number n k x y d = omega (arith, d)
 scaled : (m n : ℕ) → m < n → m * (room + 1) + room < n * (room + 1)
 scaled m n less = omega (arith, less)
 
-pub weighs_less : (one other : Lead) → one.first < 2 ^ 64 → one.second < 2 ^ 64 → other.first < 2 ^ 64 → other.second < 2 ^ 64 → one.alone ≡ false → other.alone ≡ false →
+pub weighs_less : (one other : Lead) → one.first < 2 ^ 64 → one.second < 2 ^ 64 → other.first < 2 ^ 64 → other.second < 2 ^ 64 → is_alone (scope_told one.scope) ≡ false → is_alone (scope_told other.scope) ≡ false →
     IsSooner (lead_told one).turn (lead_told other).turn → weight (lead_told other) + room < weight (lead_told one)
 weighs_less one other c d e f all all' sooner = subst (λ n. n + room < weight (lead_told one)) (sym (weight_is other all'))
     (subst (λ n. number other.saving.0 (kind_number other.kind) other.first other.second * (room + 1) + room < n) (sym (weight_is one all))
     (scaled (number other.saving.0 (kind_number other.kind) other.first other.second) (number one.saving.0 (kind_number one.kind) one.first one.second) (numbers_less one other c d e f sooner)))
 
-pub weighs_more : (one : Lead) → one.second < 2 ^ 64 → one.alone ≡ false → room < weight (lead_told one)
+pub weighs_more : (one : Lead) → one.second < 2 ^ 64 → is_alone (scope_told one.scope) ≡ false → room < weight (lead_told one)
 weighs_more one d all = subst (λ n. room < n) (sym (weight_is one all))
     (scaled 0 (number one.saving.0 (kind_number one.kind) one.first one.second) (some_number one.saving.0 (kind_number one.kind) one.first one.second d))
 
 pub weighs_some : (one : Lead) → one.second < 2 ^ 64 → 0 < weight (lead_told one)
-weighs_some one d = cond_both one.alone 1 (weight_of one.saving.0 (rank (step_of_kind one.kind one.first one.second)) * (room + 1)) (λ n. 0 < n)
+weighs_some one d = cond_both (is_alone (scope_told one.scope)) 1 (weight_of one.saving.0 (rank (step_of_kind one.kind one.first one.second)) * (room + 1)) (λ n. 0 < n)
     (λ alone. omega arith)
-    (λ all. (let some : room < weight_of one.saving.0 (rank (step_of_kind one.kind one.first one.second)) * (room + 1) = subst (λ n. room < n) (cond-false one.alone 1 (weight_of one.saving.0 (rank (step_of_kind one.kind one.first one.second)) * (room + 1)) all) (weighs_more one d all) in omega (arith, some)))
+    (λ all. (let some : room < weight_of one.saving.0 (rank (step_of_kind one.kind one.first one.second)) * (room + 1) = subst (λ n. room < n) (cond-false (is_alone (scope_told one.scope)) 1 (weight_of one.saving.0 (rank (step_of_kind one.kind one.first one.second)) * (room + 1)) all) (weighs_more one d all) in omega (arith, some)))
 
 -- ---- A lead more
 

@@ -1,6 +1,7 @@
 -- How much a lead weighs: the more, the more turns may come behind its own (own).
-use Rattle.std.specs.Prelude.{ℕ, ◌+◌, ◌-◌, ◌*◌, ◌^◌, if◌then◌else◌, List, [], ◌∷◌}
+use Rattle.std.specs.Prelude.{ℕ, ◌+◌, ◌-◌, ◌*◌, ◌^◌, Bool, true, false, if◌then◌else◌, List, [], ◌∷◌}
 use Rattle.hold_laws.specs.Leads as held
+use Rattle.hold_laws.specs.Scopes.{Scope, Alone}
 use Rattle.step_laws.specs.Steps.{rank}
 
 -- by how much the turn saves, the number of its kind, and its two numbers, which the code has in 64 bits
@@ -12,8 +13,13 @@ weight_of saving numbers = 0
 abbrev pub room : ℕ
 room = 32
 
+-- whether a lead leads its own step alone
+abbrev pub is_alone : Scope → Bool
+is_alone Alone = true
+is_alone _ = false
+
 abbrev pub weight : held.Lead → ℕ
-weight l = if l.alone then 1 else weight_of l.turn.saving (rank l.turn.step) * (room + 1)
+weight l = if is_alone l.scope then 1 else weight_of l.turn.saving (rank l.turn.step) * (room + 1)
 
 -- all of some leads together
 abbrev pub total : List held.Lead → ℕ

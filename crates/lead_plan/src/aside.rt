@@ -5,7 +5,7 @@ ghost use Rattle.std.specs.List.{Contains};
 ghost use Rattle.lead_plan.specs.Asides as spec;
 ghost use Rattle.lead_plan.specs.declared.aside.Entry as declared;
 
-use crate::lead::{Kind, Lead};
+use crate::lead::{Kind, Lead, Scope};
 use std::alloc::{AllocError, Global};
 use std::cmp::Reverse;
 use std::collections::BTreeSet;
@@ -51,7 +51,7 @@ fn bound(selector: u32, decl: u64) -> Entry
         first: 0,
         second: 0,
         owner: 0,
-        alone: false,
+        scope: Scope::Owned,
     };
     Entry {
         selector,

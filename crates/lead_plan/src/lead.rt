@@ -2,7 +2,8 @@
 
 ghost use Rattle.std.specs.Prelude.{◌≡◌, ◌+◌, ◌<◌, ◌^◌, false};
 ghost use Rattle.lead_plan.specs.Told.{lead_told};
-ghost use Rattle.lead_plan.specs.Weights.{room, weight};
+ghost use Rattle.lead_plan.specs.Weights as weights;
+ghost use Rattle.lead_plan.specs.Weights.{is_alone, room, weight};
 ghost use Rattle.plan_laws.specs.Cover.{IsSooner};
 
 use std::cmp::Reverse;
@@ -26,6 +27,19 @@ pub enum Kind {
     Sharing,
 }
 
+/// Which steps a lead leads beside its own.
+#[derive(Clone, Copy, Debug, PartialEq, Eq, PartialOrd, Ord, Drop)]
+pub enum Scope {
+    /// None: it leads its step alone.
+    Alone,
+    /// The steps that its item owns.
+    Owned,
+    /// The joins in which its item moves up.
+    Ups,
+    /// The joins in which its item moves down.
+    Downs,
+}
+
 /// How many turns lead alone, at most, in the place of one that is passed.
 pub const ROOM: usize = 32;
 
@@ -42,8 +56,20 @@ pub struct Lead {
     pub second: u64,
     /// The birth of the item whose steps it leads.
     pub owner: u32,
-    /// Whether it leads the one step alone.
-    pub alone: bool,
+    /// Which of them it leads.
+    pub scope: Scope,
+}
+
+impl Lead {
+    /// Whether it leads its own step alone.
+    pub fn is_alone(&self) -> bool
+        ensures { result ≡ weights.is_alone (lead_told self.now).scope }
+    {
+        match self.scope {
+            Scope::Alone => true,
+            Scope::Owned | Scope::Ups | Scope::Downs => false,
+        }
+    }
 }
 
 /// A number of the code has 64 bits. It does nothing.
@@ -55,9 +81,9 @@ fn number_fits(number: u64)
 /// lead weighs something. It does nothing but read the numbers of the leads, which have 64 bits.
 #[tactic(auto, using(crate::proofs::Weighing::weighs_less, crate::proofs::Weighing::weighs_more, crate::proofs::Weighing::weighs_some))]
 pub fn later_weighs_less(one: &Lead, other: &Lead)
-    ensures less { one.now.alone ≡ false → other.now.alone ≡ false → IsSooner (lead_told one.now).turn (lead_told other.now).turn
+    ensures less { is_alone (lead_told one.now).scope ≡ false → is_alone (lead_told other.now).scope ≡ false → IsSooner (lead_told one.now).turn (lead_told other.now).turn
         → weight (lead_told other.now) + room < weight (lead_told one.now) }
-    ensures more { one.now.alone ≡ false → room < weight (lead_told one.now) }
+    ensures more { is_alone (lead_told one.now).scope ≡ false → room < weight (lead_told one.now) }
     ensures some { 0 < weight (lead_told one.now) }
 {
     number_fits(one.first);

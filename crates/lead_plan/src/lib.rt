@@ -6,5 +6,5 @@ mod lead;
 mod waiting;
 
 pub use aside::{Aside, Entry};
-pub use lead::{Kind, Lead, ROOM, later_weighs_less};
+pub use lead::{Kind, Lead, ROOM, Scope, later_weighs_less};
 pub use waiting::Waiting;

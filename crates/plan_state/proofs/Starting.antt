@@ -1,5 +1,5 @@
 -- A plan of which nothing is known.
-use Rattle.std.proofs.Common.{◌≡◌, ℕ, ◌+◌, ◌<◌, ◌≤◌, false, List, [], ◌∷◌, Some, length, get_or, sym, refl, ◌∙◌, subst, arith}
+use Rattle.std.proofs.Common.{◌≡◌, ℕ, ◌+◌, ◌<◌, ◌≤◌, List, [], ◌∷◌, Some, length, get_or, sym, refl, ◌∙◌, subst, arith}
 use Rattle.std.specs.Prelude.{slice_get}
 use Rattle.std.specs.List.{Contains}
 use Rattle.std.proofs.lemmas.Option.{slice_get-map, slice_get_within, slice_get-get_or}
@@ -8,6 +8,7 @@ use Rattle.css_model.specs.declared.sheet.Item.TheVariants.{Rule}
 use Rattle.css_model.specs.Sheets.Limits.{max_bytes}
 use Rattle.css_model.specs.Sheets.RuleParts.{RuleParts}
 use Rattle.hold_laws.specs.Leads as held
+use Rattle.hold_laws.specs.Scopes.{Owned}
 use Rattle.hold_laws.specs.Turns.{first_turn}
 use Rattle.lead_laws.specs.Beside.{CoverIsOfEach}
 use Rattle.lead_laws.specs.Known.{IsKnown, StartIsKnown}
@@ -42,7 +43,7 @@ module _ (next : ℕ) (b : BoardParts) (marked : IsMarked b) (tables : TablePart
   pub covered_there : (n : ℕ) (m : Mark) (r : RuleParts) → slice_get b.marks n ≡ Some m → slice_get b.items n ≡ Some (Rule r) → next ≤ m.birth → Cover tables (with_label r m.label ∷ [])
   covered_there n m r at item later = (greeted n m (Rule r) at item later).covered r refl
 
-  pub lead_there : (n birth : ℕ) → slice_get (births_of b.marks) n ≡ Some birth → next ≤ birth → Contains leads (record { turn = first_turn (max_bytes + 1); owner = birth; alone = false })
+  pub lead_there : (n birth : ℕ) → slice_get (births_of b.marks) n ≡ Some birth → next ≤ birth → Contains leads (record { turn = first_turn (max_bytes + 1); owner = birth; scope = Owned })
   lead_there n birth at later =
       let w : (m : Mark) × (slice_get b.marks n ≡ Some m) × (m.birth ≡ birth) = mapped (λ (m : Mark). m.birth) (slice_get b.marks n) birth (sym (slice_get-map (λ (m : Mark). m.birth) b.marks n) ∙ at) in
       subst (λ (k : ℕ). Contains leads (first_lead k)) w.2 ((one n w.0 w.1 (subst (λ (k : ℕ). next ≤ k) (sym w.2) later)).1.lead)

@@ -1,5 +1,5 @@
 -- A plan after a step that is taken in place.
-use Rattle.std.proofs.Common.{◌≡◌, ℕ, ◌+◌, ◌<◌, ◌≤◌, true, List, length, refl, sym, subst, arith}
+use Rattle.std.proofs.Common.{◌≡◌, ℕ, ◌+◌, ◌<◌, ◌≤◌, true, List, length, sym, subst, arith}
 use Rattle.std.specs.List.{Contains}
 use Rattle.css_model.specs.Cascade.Order.{Pair}
 use Rattle.css_model.specs.Sheets.Limits.{max_bytes, max_items}
@@ -10,6 +10,7 @@ use Rattle.lead_laws.specs.Known.{IsTaken, TakenIsKnown}
 use Rattle.lead_laws.specs.MarkNames.{IsMarked}
 use Rattle.lead_laws.specs.Remembering.{untouched}
 use Rattle.lead_plan.specs.declared.aside.Entry.{Entry}
+use Rattle.lead_plan.specs.Told.{lead_told}
 use Rattle.order_laws.specs.Edits.{is_moved, Edit, edited}
 use Rattle.plan_board.specs.Marking.{AreKept}
 use Rattle.plan_laws.specs.Plannable.{IsPlannable}
@@ -22,7 +23,7 @@ use Rattle.step_laws.specs.Steps.{IsStep}
 use Rattle.plan_state.specs.Greeting.{AreGreeted, StayBefore}
 use Rattle.plan_state.specs.PlanParts.{PlanParts}
 use Rattle.plan_state.specs.State.{IsState}
-use Rattle.plan_state.specs.Waking.{IsAwake, alone}
+use Rattle.plan_state.specs.Waking.{IsAwake}
 use Rattle.plan_state.proofs.Plannable.{plannable_after, saved_by}
 use Rattle.plan_state.proofs.Starting.{home_there, covered_there, lead_there}
 
@@ -61,6 +62,6 @@ taken_state taken room cover homes make itself answers source p p' woken k e is 
       later = d.later;
       led = λ l among. d.stay.led l (d.led l among);
       new = lead_there p.board.next p'.board d.marked p'.tables p'.leads p'.homes d.greeted;
-      woken = λ q c moved among. (alone c, d.stay.led (alone c) (d.awake q moved c among), refl);
+      woken = λ q c moved among. d.stay.led (lead_told c) (d.awake q moved c among);
       more = λ x among. subst (λ (xs : List Entry). Contains xs x) (sym d.entries) among;
     }

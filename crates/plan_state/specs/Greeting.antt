@@ -1,18 +1,19 @@
 -- What a plan does for the items that are born.
-use Rattle.std.specs.Prelude.{◌≡◌, ◌≢◌, ℕ, ◌+◌, ◌<◌, ◌≤◌, false, List, [], ◌∷◌, Some, slice_get}
+use Rattle.std.specs.Prelude.{◌≡◌, ◌≢◌, ℕ, ◌+◌, ◌<◌, ◌≤◌, List, [], ◌∷◌, Some, slice_get}
 use Rattle.std.specs.List.{Contains}
 use Rattle.css_model.specs.declared.sheet.Item.{Item}
 use Rattle.css_model.specs.declared.sheet.Item.TheVariants.{Rule}
 use Rattle.css_model.specs.Sheets.Limits.{max_bytes}
 use Rattle.css_model.specs.Sheets.RuleParts.{RuleParts}
 use Rattle.hold_laws.specs.Leads as held
+use Rattle.hold_laws.specs.Scopes.{Owned}
 use Rattle.hold_laws.specs.Turns.{first_turn}
 use Rattle.plan_board.specs.declared.marks.Mark.{Mark}
 use Rattle.rule_tables.specs.Tables.{TableParts, Labelled, Cover, with_label}
 
 -- the turn that comes before all steps of the item of a birth
 abbrev pub first_lead : ℕ → held.Lead
-first_lead birth = record { turn = first_turn (max_bytes + 1); owner = birth; alone = false }
+first_lead birth = record { turn = first_turn (max_bytes + 1); owner = birth; scope = Owned }
 
 -- The steps of an item are led, its label stands under its birth, and the tables cover it, if it is a rule.
 pub record IsGreeted (tables : TableParts) (leads : List held.Lead) (homes : List ℕ) (m : Mark) (x : Item) : Type 0 where

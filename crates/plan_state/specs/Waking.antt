@@ -15,17 +15,13 @@ use Rattle.step_laws.specs.declared.step.Step.{Step}
 use Rattle.step_laws.specs.declared.step.Step.TheVariants.{CutDecl, CutSel, JoinSelUp, JoinSelDown, JoinDeclUp, JoinDeclDown, Share}
 use Rattle.step_laws.specs.Steps.{decls_of}
 
--- a lead of its step alone
-abbrev pub alone : Lead → held.Lead
-alone l = record { turn = (lead_told l).turn; owner = l.owner; alone = true }
-
 -- all leads that are set aside under the digests of a pair are among these
 abbrev pub HasLeadsUnder : List Entry → List Lead → SelectorParts → Decl → Type 0
 HasLeadsUnder entries leads s d = (l : Lead) → Contains entries (entry (selector_digest s) (decl_digest d) l) → Contains leads l
 
--- what is set aside under the digests of a pair leads, alone
+-- what is set aside under the digests of a pair leads again
 abbrev pub IsAwake : List Entry → List held.Lead → SelectorParts → Decl → Type 0
-IsAwake entries leads s d = (l : Lead) → Contains entries (entry (selector_digest s) (decl_digest d) l) → Contains leads (alone l)
+IsAwake entries leads s d = (l : Lead) → Contains entries (entry (selector_digest s) (decl_digest d) l) → Contains leads (lead_told l)
 
 -- so it is with each of these selectors and these declarations
 abbrev pub AreAwake : List Entry → List held.Lead → List SelectorParts → List Decl → Type 0

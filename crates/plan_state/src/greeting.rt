@@ -10,7 +10,7 @@ ghost use Rattle.lead_plan.specs.Told.{lead_told};
 ghost use Rattle.rule_tables.specs.Tables as covering;
 
 use css_model::{Item, MAX_BYTES};
-use lead_plan::{Kind, Lead, Waiting};
+use lead_plan::{Kind, Lead, Scope, Waiting};
 use plan_board::{Board, Mark};
 use rule_tables::Tables;
 use std::alloc::AllocError;
@@ -26,7 +26,7 @@ fn first_lead(owner: u32) -> Lead
         first: 0,
         second: 0,
         owner,
-        alone: false,
+        scope: Scope::Owned,
     }
 }
 

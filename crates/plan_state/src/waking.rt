@@ -7,6 +7,7 @@ ghost use Rattle.css_model.specs.declared.sheet.Item.TheVariants as kinds;
 ghost use Rattle.css_model.specs.Sheets.RuleParts.{RuleParts};
 ghost use Rattle.hold_laws.specs.Leads as held;
 ghost use Rattle.plan_state.specs.Waking as spec;
+ghost use Rattle.lead_plan.specs.Told.{lead_told};
 ghost use Rattle.lead_plan.specs.declared.lead.Lead as declared;
 ghost use Rattle.order_laws.specs.Edits.{Edit, is_moved};
 ghost use Rattle.step_laws.specs.Steps.{HasStep, IsStep};
@@ -18,25 +19,22 @@ use rule_tables::{decl_digest, selector_digest};
 use std::alloc::{AllocError, Global};
 use step_laws::{Step, steps_rearrange};
 
-/// Lets a lead lead again, alone.
-fn lead_alone(waiting: &mut Waiting, lead: &Lead) -> Result<(), AllocError>
+/// Lets a lead lead again.
+fn lead_again(waiting: &mut Waiting, lead: &Lead) -> Result<(), AllocError>
     ensures stay { OnOk result ((l : held.Lead) → Contains waiting.old l → Contains waiting.new l) }
-    ensures awake { OnOk result (Contains waiting.new (spec.alone lead.now)) }
+    ensures awake { OnOk result (Contains waiting.new (lead_told lead.now)) }
 {
-    waiting.add(Lead {
-        alone: true,
-        ..*lead
-    })
+    waiting.add(*lead)
 }
 
-/// Lets leads lead again, each alone.
-fn lead_all_alone(waiting: &mut Waiting, leads: &[Lead]) -> Result<(), AllocError>
+/// Lets leads lead again.
+fn lead_all_again(waiting: &mut Waiting, leads: &[Lead]) -> Result<(), AllocError>
     ensures stay { OnOk result ((l : held.Lead) → Contains waiting.old l → Contains waiting.new l) }
-    ensures awake { OnOk result ((l : declared.Lead) → Contains leads.now l → Contains waiting.new (spec.alone l)) }
+    ensures awake { OnOk result ((l : declared.Lead) → Contains leads.now l → Contains waiting.new (lead_told l)) }
 {
     let mut rest = leads;
     'rest: while let Some((first, behind)) = rest.split_first() {
-        lead_alone(waiting, first)?;
+        lead_again(waiting, first)?;
         rest = behind;
     }
     Ok(())
@@ -56,7 +54,7 @@ fn leads_of(
     aside.under(alloc, selector_digest(selector), decl_digest(decl))
 }
 
-/// Lets those lead again, each alone, that are set aside under the digests of a pair.
+/// Lets those lead again that are set aside under the digests of a pair.
 fn wake_pair(
     alloc: Global,
     aside: &Aside,
@@ -68,7 +66,7 @@ fn wake_pair(
     ensures awake { OnOk result (spec.IsAwake aside.now waiting.new selector.now decl.now) }
 {
     let leads = leads_of(alloc, aside, selector, decl)?;
-    lead_all_alone(waiting, &leads)?;
+    lead_all_again(waiting, &leads)?;
     Ok(())
 }
 
@@ -166,7 +164,7 @@ fn moved_out(step: &Step) -> (u32, u32)
     }
 }
 
-/// Lets those lead again, each alone, that are set aside under the digests of a pair that a step moves.
+/// Lets those lead again that are set aside under the digests of a pair that a step moves.
 pub(crate) fn wake_moved(
     alloc: Global,
     aside: &Aside,

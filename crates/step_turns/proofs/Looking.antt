@@ -18,7 +18,7 @@ use Rattle.step_laws.specs.Sizes.{Saves, size}
 use Rattle.step_laws.specs.Steps.{HasStep, IsStep, first_item, last_item}
 use Rattle.step_turns.specs.Looking.{AreLater, Covers, FoundParts, IsAmong, IsWith, Keeps, KeepsLast, Reaches, ReachesLast}
 use Rattle.plan_board.specs.MarkList.{labels_of}
-use Rattle.step_turns.specs.Named.{IsLaterTurn, IsOwnedBy, IsStepOf}
+use Rattle.step_turns.specs.Named.{IsLaterTurn, IsLedBeside, IsStepOf}
 use Rattle.wall_laws.specs.Renumbering.{IsOfTwo}
 
 -- ---- The sooner of two leads
@@ -51,10 +51,10 @@ keeps_both a b c f g t h = g t (f t h)
 
 module _ (source : List ℕ) (board : BoardParts) (after : Lead) where
   pub no_step : (best : FoundParts) (k : Step) → (HasStep board.items k → ⊥) → Covers source board after best k
-  no_step best k none e n is saves some later = absurd (none (e, is))
+  no_step best k none e n is saves some beside later = absurd (none (e, is))
 
   pub nothing_saved : (best : FoundParts) (k : Step) → IsSaving source board.items k 0 → Covers source board after best k
-  nothing_saved best k saving e n is saves some later = absurd (let most : n ≤ 0 = (saving e is).1 n saves in omega (arith, most, some))
+  nothing_saved best k saving e n is saves some beside later = absurd (let most : n ≤ 0 = (saving e is).1 n saves in omega (arith, most, some))
 
   one_saving : (k : Step) (m : ℕ) → IsSaving source board.items k m → 0 < m → (e : Edit) (n : ℕ) → IsStep board.items k e → Saves source board.items e n → n ≡ m
   one_saving k m saving some e n is saves =
@@ -64,18 +64,18 @@ module _ (source : List ℕ) (board : BoardParts) (after : Lead) where
 
   pub not_later : (best : FoundParts) (k : Step) (m : ℕ) (lead : Lead) → IsSaving source board.items k m → 0 < m → (lead_told lead).turn ≡ named (labels_of board.marks) m k →
       (IsSooner (lead_told after).turn (lead_told lead).turn → ⊥) → Covers source board after best k
-  not_later best k m lead saving some turn late e n is saves more later =
+  not_later best k m lead saving some turn late e n is saves more beside later =
       absurd (late (subst (λ (t : Turn). IsSooner (lead_told after).turn t) (ap (λ (x : ℕ). named (labels_of board.marks) x k) (one_saving k m saving some e n is saves) ∙ sym turn) later))
 
   pub reached_covers : (best : FoundParts) (k : Step) (m : ℕ) (lead : Lead) → IsSaving source board.items k m → 0 < m → (lead_told lead).turn ≡ named (labels_of board.marks) m k →
       Reaches best (lead_told lead).turn → Covers source board after best k
-  reached_covers best k m lead saving some turn reached e n is saves more later =
+  reached_covers best k m lead saving some turn reached e n is saves more beside later =
       subst (Reaches best) (turn ∙ ap (λ (x : ℕ). named (labels_of board.marks) x k) (sym (one_saving k m saving some e n is saves))) reached
 
-  pub later_turn : (k : Step) (m : ℕ) (lead : Lead) → HasStep board.items k → IsOwnedBy board after.owner k → IsSaving source board.items k m → 0 < m →
-      (lead_told lead).turn ≡ named (labels_of board.marks) m k → lead.saving.0 ≡ m → lead.owner ≡ after.owner → lead.alone ≡ false → IsSooner (lead_told after).turn (lead_told lead).turn →
+  pub later_turn : (k : Step) (m : ℕ) (lead : Lead) → HasStep board.items k → IsLedBeside board after k → IsSaving source board.items k m → 0 < m →
+      (lead_told lead).turn ≡ named (labels_of board.marks) m k → lead.saving.0 ≡ m → lead.owner ≡ after.owner → lead.scope ≡ after.scope → IsSooner (lead_told after).turn (lead_told lead).turn →
       IsLaterTurn source board after lead
-  later_turn k m lead has owned saving some turn amount owner all later = record {
+  later_turn k m lead has beside saving some turn amount owner scope later = record {
     step = k;
     names = record {
       has = has;
@@ -83,9 +83,9 @@ module _ (source : List ℕ) (board : BoardParts) (after : Lead) where
       saves = λ e is. subst (λ (x : ℕ). Saves source board.items e x) (sym amount) ((saving e is).0 some);
       turn = ap (λ (x : ℕ). named (labels_of board.marks) x k) amount ∙ sym turn;
     };
-    owned = owned;
+    beside = beside;
     owner_is = owner;
-    all = all;
+    scope_is = scope;
     later = later;
   }
 
@@ -97,7 +97,7 @@ module _ (source : List ℕ) (board : BoardParts) (after : Lead) where
       which (inr e) = subst (IsLaterTurn source board after) (sym e) here
 
   pub kept_covers : (old new : FoundParts) → Keeps old new → (k : Step) → Covers source board after old k → Covers source board after new k
-  kept_covers old new keeps k covers e n is saves some later = keeps (named (labels_of board.marks) n k) (covers e n is saves some later)
+  kept_covers old new keeps k covers e n is saves some beside later = keeps (named (labels_of board.marks) n k) (covers e n is saves some beside later)
 
   -- ---- Cuts of a rule, one after the other
 

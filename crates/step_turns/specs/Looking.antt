@@ -12,7 +12,7 @@ use Rattle.plan_laws.specs.Cover.{Turn, IsSooner}
 use Rattle.step_laws.specs.declared.step.Step.{Step}
 use Rattle.step_laws.specs.Sizes.{Saves}
 use Rattle.step_laws.specs.Steps.{IsStep, first_item, last_item}
-use Rattle.step_turns.specs.Named.{IsLaterTurn}
+use Rattle.step_turns.specs.Named.{IsLaterTurn, IsLedBeside}
 use Rattle.plan_board.specs.MarkList.{labels_of}
 use Rattle.wall_laws.specs.Renumbering.{IsOfTwo}
 
@@ -39,17 +39,17 @@ KeepsLast old new = (t : Turn) → ReachesLast old t → ReachesLast new t
 abbrev pub Keeps : FoundParts → FoundParts → Type 0
 Keeps old new = (t : Turn) → Reaches old t → Reaches new t
 
--- A step, if it is one of the board's sheet and saves something, has a turn that is reached, or does not come later
--- than this lead's.
+-- A step, if it is one of the board's sheet in the scope of this lead and saves something, has a turn that is reached,
+-- or does not come later than the lead's.
 abbrev pub Covers : List ℕ → BoardParts → Lead → FoundParts → Step → Type 0
-Covers source board after found k = (e : Edit) (n : ℕ) → IsStep board.items k e → Saves source board.items e n → 0 < n →
+Covers source board after found k = (e : Edit) (n : ℕ) → IsStep board.items k e → Saves source board.items e n → 0 < n → IsLedBeside board after k →
     IsSooner (lead_told after).turn (named (labels_of board.marks) n k) → Reaches found (named (labels_of board.marks) n k)
 
 -- each lead that was found comes later than this one
 abbrev pub AreLater : List ℕ → BoardParts → Lead → FoundParts → Type 0
 AreLater source board after found = (l : Lead) → IsAmong found l → IsLaterTurn source board after l
 
--- A step of two items: the one of this number, and another one with this label, which was born before it.
+-- A step of two items: the one of this number, and another one with this label.
 pub record IsWith (board : BoardParts) (number label : ℕ) (k : Step) : Type 0 where
   pub other : ℕ
   pub mark : Mark
@@ -57,6 +57,5 @@ pub record IsWith (board : BoardParts) (number label : ℕ) (k : Step) : Type 0 
   pub mark_at : slice_get board.marks other ≡ Some mark
   pub own_at : slice_get board.marks number ≡ Some own
   pub label_is : mark.label ≡ label
-  pub earlier : mark.birth < own.birth
   pub of_two : IsOfTwo k
   pub items_are : ((first_item k ≡ other) × (last_item k ≡ number)) ⊎ ((first_item k ≡ number) × (last_item k ≡ other))

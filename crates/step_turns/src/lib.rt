@@ -1,4 +1,4 @@
-//! Which step a lead names, and the next turns of an owner.
+//! Which step a lead names, and the next turns in its scope.
 #![tactic(auto)]
 
 mod cuts;
@@ -6,6 +6,7 @@ mod found;
 mod naming;
 mod next;
 mod order;
+mod scopes;
 mod trying;
 
 pub use found::Found;

@@ -1,10 +1,10 @@
-//! The next turns of an owner.
+//! The next turns in the scope of a lead.
 
-ghost use Rattle.std.specs.Prelude.{◌≡◌, ℕ, ◌<◌, ◌≤◌, Some, IfOk, OnOk, length, slice_get, slice_index};
+ghost use Rattle.std.specs.Prelude.{◌≡◌, ℕ, ◌<◌, ◌≤◌, Some, IfOk, OnOk, length, slice_get, slice_index, true};
 ghost use Rattle.std.specs.List.{Contains};
 ghost use Rattle.css_model.specs.declared.sheet.Item.TheVariants as item;
-ghost use Rattle.hold_laws.specs.Births.{later_born};
 ghost use Rattle.lead_plan.specs.Weights.{room};
+ghost use Rattle.lead_plan.specs.declared.lead.Scope.TheVariants as scopes;
 ghost use Rattle.plan_laws.specs.Plannable.{IsPlannable};
 ghost use Rattle.rule_tables.specs.Tables.{Cover};
 ghost use Rattle.step_laws.specs.declared.step.Step as declared;
@@ -13,16 +13,15 @@ ghost use Rattle.step_laws.specs.Steps.{first_item, last_item};
 ghost use Rattle.step_turns.specs.Looking.{AreLater, Covers, IsWith, Keeps};
 ghost use Rattle.plan_board.specs.MarkList.{births_of, labels_of};
 ghost use Rattle.step_turns.specs.Marked.{rules_of};
-ghost use Rattle.step_turns.specs.Named.{IsOwnedBy};
 ghost use Rattle.wall_laws.specs.Renumbering.{IsOfTwo};
 
 use crate::cuts::find_rule;
 use crate::found::Found;
 use crate::trying::try_step;
 use css_model::Rule;
-use lead_plan::Lead;
+use lead_plan::{Lead, Scope};
 use merge_plan::KnownLengths;
-use plan_board::Board;
+use plan_board::{Board, Mark};
 use rule_tables::{Tables, rules_are_labelled, steps_have_partners};
 use std::alloc::{AllocError, Global};
 use step_laws::{Step, parts_are_few};
@@ -39,7 +38,6 @@ fn try_decl_cuts(
 ) -> Result<(), AllocError>
     requires plannable { IsPlannable source.now board.now.items }
     requires cover { Cover tables.now (rules_of board.now) }
-    requires owned { slice_index (births_of board.now.marks) number ≡ after.now.owner }
     requires later { AreLater source.now board.now after.now found.old }
     requires few { length found.old.leads ≤ room }
     ensures keeps { OnOk result (Keeps found.old found.new) }
@@ -66,7 +64,6 @@ fn try_selector_cuts(
 ) -> Result<(), AllocError>
     requires plannable { IsPlannable source.now board.now.items }
     requires cover { Cover tables.now (rules_of board.now) }
-    requires owned { slice_index (births_of board.now.marks) number ≡ after.now.owner }
     requires later { AreLater source.now board.now after.now found.old }
     requires few { length found.old.leads ≤ room }
     ensures keeps { OnOk result (Keeps found.old found.new) }
@@ -107,7 +104,6 @@ fn try_cuts(
 ) -> Result<(), AllocError>
     requires plannable { IsPlannable source.now board.now.items }
     requires cover { Cover tables.now (rules_of board.now) }
-    requires owned { slice_index (births_of board.now.marks) number ≡ after.now.owner }
     requires rule { slice_get board.now.items number ≡ Some (item.Rule rule.now) }
     requires later { AreLater source.now board.now after.now found.old }
     requires few { length found.old.leads ≤ room }
@@ -135,7 +131,6 @@ fn try_joins(
 ) -> Result<(), AllocError>
     requires plannable { IsPlannable source.now board.now.items }
     requires cover { Cover tables.now (rules_of board.now) }
-    requires owned { slice_index (births_of board.now.marks) (later_born (births_of board.now.marks) upper lower) ≡ after.now.owner }
     requires later { AreLater source.now board.now after.now found.old }
     requires few { length found.old.leads ≤ room }
     ensures keeps { OnOk result (Keeps found.old found.new) }
@@ -155,8 +150,17 @@ fn try_joins(
     try_step(board, tables, source, after, &step, found)
 }
 
-/// Puts the turns of the steps of an item and another one with this label, if that was born
-/// before it.
+/// Whether an item owns no step with another one, where a lead leads the steps that it owns.
+fn owns_none(after: &Lead, theirs: &Mark, ours: &Mark) -> bool
+    ensures { result ≡ true → (after.now.scope ≡ scopes.Owned) × (ours.now.birth ≤ theirs.now.birth) }
+{
+    match after.scope {
+        Scope::Owned => theirs.birth >= ours.birth,
+        Scope::Alone | Scope::Ups | Scope::Downs => false,
+    }
+}
+
+/// Puts the turns of the steps of an item and another one with this label.
 fn try_partner(
     board: &Board,
     tables: &Tables,
@@ -183,7 +187,7 @@ fn try_partner(
     };
     let theirs = board.mark(other);
     let ours = board.mark(number);
-    if theirs.birth >= ours.birth {
+    if owns_none(after, &theirs, &ours) {
         return Ok(());
     }
     if other < number {
@@ -193,8 +197,7 @@ fn try_partner(
     }
 }
 
-/// Puts the turns of the steps of an item and others with these labels that were born before
-/// it.
+/// Puts the turns of the steps of an item and others with these labels.
 fn try_partners(
     board: &Board,
     tables: &Tables,
@@ -223,11 +226,10 @@ fn try_partners(
     Ok(())
 }
 
-/// The next turns of an owner behind a lead's, if there are some: of the steps that save something and whose later born
-/// item, or whose rule that is cut, has the birth `after.owner`, the first ones whose turns come later than the lead's, and
-/// the first of the others, if there are more. `at` is the label of the item with this birth; where no item has it, there is
-/// no turn. The tables cover the rules of the sheet, with the labels of their items. The error comes where memory is short.
-/// The time is that of the owner's parts and of the rules with one of them.
+/// The next turns in the scope of a lead, if there are some: of the steps that save something and are in it, the first ones
+/// whose turns come later than the lead's, and the first of the others, if there are more. `at` is the label of the item
+/// with the birth `after.owner`; where no item has it, there is no turn. The tables cover the rules of the sheet, with the labels of their items. The error comes where memory is short.
+/// The time is that of the item's parts and of the rules with one of them.
 pub fn next_leads(
     alloc: Global,
     board: &Board,
@@ -240,7 +242,7 @@ pub fn next_leads(
     requires cover { Cover tables.now (rules_of board.now) }
     requires at { (n : ℕ) → slice_get (births_of board.now.marks) n ≡ Some after.now.owner → slice_get (labels_of board.now.marks) n ≡ Some at }
     ensures later { IfOk result (λ found. AreLater source.now board.now after.now found) }
-    ensures covers { IfOk result (λ found. (k : declared.Step) → IsOwnedBy board.now after.now.owner k → Covers source.now board.now after.now found k) }
+    ensures covers { IfOk result (λ found. (k : declared.Step) → Covers source.now board.now after.now found k) }
     ensures few { IfOk result (λ found. length found.leads ≤ room) }
 {
     steps_have_partners();

@@ -1,6 +1,6 @@
 //! The order of leads, and the turn of a step by the labels of its items.
 
-ghost use Rattle.std.specs.Prelude.{◌≡◌, ◌↔◌, ◌∷◌, [], ℕ, ◌<◌, false, IsTrue, length, slice_index};
+ghost use Rattle.std.specs.Prelude.{◌≡◌, ◌↔◌, ◌∷◌, [], ℕ, ◌<◌, IsTrue, length, slice_index};
 ghost use Rattle.css_model.specs.Cascade.Winner.{exceeds};
 ghost use Rattle.hold_laws.specs.Turns.{named};
 ghost use Rattle.lead_plan.specs.Told.{lead_told, step_of_kind};
@@ -92,13 +92,13 @@ fn last_name(board: &Board, kind: Kind, second: u32) -> u64
     }
 }
 
-/// The turn of a step of a board that saves so much, for the owner of this birth.
-pub(crate) fn lead_of(board: &Board, step: &Step, saving: u32, owner: u32) -> Lead
+/// The turn of a step of a board that saves so much, with the scope of another lead.
+pub(crate) fn lead_of(board: &Board, step: &Step, saving: u32, after: &Lead) -> Lead
     requires { HasStep board.now.items step.now }
     ensures turn { (lead_told result).turn ≡ named (labels_of board.now.marks) saving step.now }
     ensures saving { result.saving.0 ≡ saving }
-    ensures owner { result.owner ≡ owner }
-    ensures all { result.alone ≡ false }
+    ensures owner { result.owner ≡ after.now.owner }
+    ensures scope { result.scope ≡ after.now.scope }
 {
     let (kind, first, second) = kind_of(step);
     Lead {
@@ -106,7 +106,7 @@ pub(crate) fn lead_of(board: &Board, step: &Step, saving: u32, owner: u32) -> Le
         kind,
         first: label_of(board, first),
         second: last_name(board, kind, second),
-        owner,
-        alone: false,
+        owner: after.owner,
+        scope: after.scope,
     }
 }

@@ -6,11 +6,11 @@ ghost use Rattle.plan_laws.specs.Plannable.{IsPlannable};
 ghost use Rattle.rule_tables.specs.Tables.{Cover};
 ghost use Rattle.step_turns.specs.Looking.{AreLater, Covers, Keeps};
 ghost use Rattle.step_turns.specs.Marked.{rules_of};
-ghost use Rattle.step_turns.specs.Named.{IsOwnedBy};
 
 use crate::cuts::is_step_of;
 use crate::found::Found;
 use crate::order::{is_sooner, lead_of};
+use crate::scopes::is_beside;
 use lead_plan::Lead;
 use merge_plan::{KnownLengths, saved};
 use plan_board::Board;
@@ -18,8 +18,8 @@ use rule_tables::Tables;
 use std::alloc::AllocError;
 use step_laws::Step;
 
-/// Puts the turn of a step to those that were found, if that is one of the sheet, saves something and comes later than the
-/// lead `after`, whose owner is the step's.
+/// Puts the turn of a step to those that were found, if that is one of the sheet in the scope of the lead `after`, saves
+/// something and comes later than the lead.
 pub(crate) fn try_step(
     board: &Board,
     tables: &Tables,
@@ -30,7 +30,6 @@ pub(crate) fn try_step(
 ) -> Result<(), AllocError>
     requires plannable { IsPlannable source.now board.now.items }
     requires cover { Cover tables.now (rules_of board.now) }
-    requires owned { IsOwnedBy board.now after.now.owner step.now }
     requires later { AreLater source.now board.now after.now found.old }
     requires few { length found.old.leads ≤ room }
     ensures keeps { OnOk result (Keeps found.old found.new) }
@@ -41,11 +40,14 @@ pub(crate) fn try_step(
     if !is_step_of(board, tables, step) {
         return Ok(());
     }
+    if !is_beside(board, after, step) {
+        return Ok(());
+    }
     let saving = saved(source, board.sheet(), step);
     if saving == 0 {
         return Ok(());
     }
-    let lead = lead_of(board, step, saving, after.owner);
+    let lead = lead_of(board, step, saving, after);
     if !is_sooner(after, &lead) {
         return Ok(());
     }

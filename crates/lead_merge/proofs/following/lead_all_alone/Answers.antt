@@ -3,8 +3,8 @@ use Rattle.std.proofs.lemmas.List.{nil_from_length}
 use Rattle.std.specs.List.{Contains}
 use Rattle.lead_merge.proofs.Followed.{one_more, all_done}
 use Rattle.lead_merge.proofs.following.lead_all_alone.Goals as goal
+use Rattle.lead_plan.specs.Told.{alone}
 use Rattle.lead_plan.specs.Weights.{total}
-use Rattle.plan_state.specs.Waking.{alone}
 
 pub rest-preserved : goal.rest-preserved
 rest-preserved c =

@@ -3,8 +3,8 @@ use Rattle.std.specs.List.{Contains}
 use Rattle.hold_laws.specs.Leads as held
 use Rattle.lead_merge.proofs.following.lead_all_alone.Given as goal
 use Rattle.lead_plan.specs.declared.lead.Lead.{Lead}
+use Rattle.lead_plan.specs.Told.{alone}
 use Rattle.lead_plan.specs.Weights.{total}
-use Rattle.plan_state.specs.Waking.{alone}
 
 -- each lead leads alone, or is still to come
 abbrev pub invariant-rest : goal.invariant-rest

@@ -9,7 +9,6 @@ use Rattle.plan_state.specs.PlanParts.{PlanParts}
 use Rattle.plan_state.specs.State.{IsBoard}
 use Rattle.step_laws.specs.declared.step.Step.{Step}
 use Rattle.step_turns.specs.Looking.{AreLater, Covers}
-use Rattle.step_turns.specs.Named.{IsOwnedBy}
 
 pub next_leads-requires-clause-at : goal.next_leads-requires-clause-at
 next_leads-requires-clause-at c = label_of_owner _ c.args.source.now c.args.lead.now.owner c.home_of-at.result (subst (IsBoard c.args.source.now) (sym c.plan.view_is) c.requires)
@@ -18,5 +17,5 @@ next_leads-requires-clause-at c = label_of_owner _ c.args.source.now c.args.lead
 pub returns : goal.returns
 returns c = subst (λ (p : PlanParts). IfOk c.next_leads.result (Follows c.args.source.now p c.args.lead.now)) c.plan.view_is
     (ok_three c.next_leads.result (AreLater c.args.source.now c.plan.inside.board c.args.lead.now)
-    (λ found. (k : Step) → IsOwnedBy c.plan.inside.board c.args.lead.now.owner k → Covers c.args.source.now c.plan.inside.board c.args.lead.now found k) (λ found. length found.leads ≤ room) _
+    (λ found. (k : Step) → Covers c.args.source.now c.plan.inside.board c.args.lead.now found k) (λ found. length found.leads ≤ room) _
     (λ found later covers few. record { later = later; covers = covers; few = few }) c.next_leads.ensures.later c.next_leads.ensures.covers c.next_leads.ensures.few)

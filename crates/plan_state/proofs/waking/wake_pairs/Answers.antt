@@ -2,6 +2,7 @@ use Rattle.std.proofs.Common.{◌≡◌, rules, ap, map, ◌∷◌, []}
 use Rattle.std.proofs.lemmas.List.{nil_from_length}
 use Rattle.css_model.specs.Documents.SelectorParts.{SelectorParts}
 use Rattle.list_facts.proofs.Members.{Contains-here}
+use Rattle.lead_plan.specs.Told.{lead_told}
 use Rattle.plan_state.specs.Waking as spec
 use Rattle.plan_state.proofs.Members.{one_more, all_done}
 use Rattle.plan_state.proofs.waking.wake_pairs.Goals as goal
@@ -11,7 +12,7 @@ rest-preserved c = let is : c.rest.rest.now ≡ c.in-Some.first.now ∷ c.in-Som
   stay = λ h among. c.in_ok-wake_decls.ensures.stay h (c.rest.invariant.stay h among);
   awake = one_more (λ (s : SelectorParts). spec.AreAwake c.args.aside.now c.rest.waiting (s ∷ []) (map (λ d. d.decl) c.args.decls.now)) (λ (s : SelectorParts). spec.AreAwake c.args.aside.now c.wake_decls.new.waiting (s ∷ []) (map (λ d. d.decl) c.args.decls.now))
       (map (λ x. x.selector) c.args.selectors.now) (map (λ x. x.selector) c.rest.rest.now) (map (λ x. x.selector) c.in-Some.behind.now) c.in-Some.first.now.selector (ap (map (λ x. x.selector)) is)
-      (λ s old t d is among l entry. c.in_ok-wake_decls.ensures.stay (spec.alone l) (old t d is among l entry)) c.in_ok-wake_decls.ensures.awake c.rest.invariant.awake;
+      (λ s old t d is among l entry. c.in_ok-wake_decls.ensures.stay (lead_told l) (old t d is among l entry)) c.in_ok-wake_decls.ensures.awake c.rest.invariant.awake;
 }
 
 pub returns-clause-awake : goal.returns-clause-awake

@@ -6,6 +6,7 @@ use Rattle.merge_plan.specs.Planning.{IsSaving}
 use Rattle.plan_laws.specs.Cover.{IsSooner}
 use Rattle.step_laws.specs.Steps.{HasStep}
 use Rattle.step_turns.specs.Looking.{IsAmong}
+use Rattle.step_turns.specs.Named.{IsLedBeside}
 use Rattle.step_turns.proofs.Looking.{later_turn, nothing_saved, still_later}
 use Rattle.step_turns.proofs.Results.{on_ok}
 use Rattle.step_turns.proofs.trying.try_step.Goals as goal
@@ -22,9 +23,10 @@ returns-clause-later c =
     let saving : IsSaving c.args.source.now c.args.board.now.items c.args.step.now c.saved-saving.result =
     subst (λ (xs : List Item). IsSaving c.args.source.now xs c.args.step.now c.saved-saving.result) c.sheet.ensures c.saved-saving.ensures in
     let has : HasStep c.args.board.now.items c.args.step.now = search rules in
+    let beside : IsLedBeside c.args.board.now c.args.after.now c.args.step.now = search rules in
     let some : 0 < c.saved-saving.result = search rules in
     let later : IsSooner (lead_told c.args.after.now).turn (lead_told c.lead_of-lead.result).turn = search rules in
     on_ok c.put.result ((l : Lead) → IsAmong c.put.new.self l → IsAmong c.args.found.now l ⊎ (l ≡ c.lead_of-lead.result)) _
     (still_later c.args.source.now c.args.board.now c.args.after.now c.args.found.now c.put.new.self c.lead_of-lead.result c.requires.later
-    (later_turn c.args.source.now c.args.board.now c.args.after.now c.args.step.now c.saved-saving.result c.lead_of-lead.result has c.requires.owned saving some
-    c.lead_of-lead.ensures.turn c.lead_of-lead.ensures.saving c.lead_of-lead.ensures.owner c.lead_of-lead.ensures.all later)) c.put.ensures.only
+    (later_turn c.args.source.now c.args.board.now c.args.after.now c.args.step.now c.saved-saving.result c.lead_of-lead.result has beside saving some
+    c.lead_of-lead.ensures.turn c.lead_of-lead.ensures.saving c.lead_of-lead.ensures.owner c.lead_of-lead.ensures.scope later)) c.put.ensures.only

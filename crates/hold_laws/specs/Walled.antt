@@ -1,0 +1,51 @@
+-- What walls hinder, and walls and floors behind a step: they stay while no step moves one of their pairs.
+use Rattle.std.specs.Prelude.{◌≡◌, ℕ, ◌+◌, ◌<◌, false, List, ◌++◌, length, take}
+use Rattle.std.specs.List.{Contains}
+use Rattle.css_model.specs.declared.sheet.Item.{Item}
+use Rattle.css_model.specs.Cascade.Order.{Pair}
+use Rattle.css_model.specs.Sheets.RuleParts.{RuleParts}
+use Rattle.css_model.specs.Sheets.StyleRule.{selectors_of}
+use Rattle.order_laws.specs.Edits.{is_moved, slots_from, Edit, edited}
+use Rattle.order_laws.specs.Slots.{new_items}
+use Rattle.step_laws.specs.declared.step.Step.{Step}
+use Rattle.step_laws.specs.Free.{Answered, AreNotApart}
+use Rattle.step_laws.specs.Steps.{IsStep, first_item, last_item, decls_of}
+use Rattle.wall_laws.specs.Holding.{OfPair, Hinders}
+use Rattle.wall_laws.specs.Renumbering.{Leaves, new_number}
+use Rattle.wall_laws.specs.Walls.{IsWall, IsFloor}
+use Rattle.hold_laws.specs.Scopes.{IsDown, IsUp}
+
+-- Of a sheet in two parts what becomes of the upper one behind an edit, and of the first ones of the lower one.
+abbrev pub above_behind : Edit → List Item → List Item
+above_behind d above = new_items (slots_from 0 d.changes above)
+
+abbrev pub below_behind : Edit → List Item → List Item → List Item
+below_behind d above below = new_items (slots_from (length above) d.changes below)
+
+-- The sheet behind the edit is in two parts, too, and an item of the lower one has its new number there.
+abbrev pub PartsStay : Type 0
+PartsStay = (d : Edit) (above below : List Item) → (edited d (above ++ below) ≡ above_behind d above ++ below_behind d above below)
+    × ((y : ℕ) → new_number d (above ++ below) (length above + y) ≡ length (above_behind d above) + length (below_behind d above (take y below)))
+
+-- A wall is one behind a step that leaves its rule and moves none of its two pairs.
+abbrev pub WallsGoOn : Type 0
+WallsGoOn = (above below : List Item) (j : Step) (d : Edit) → IsStep (above ++ below) j d → (y : ℕ) (lower : RuleParts) (p q : Pair) → Leaves d (length above + y) →
+    is_moved d.moved p ≡ false → is_moved d.moved q ≡ false → IsWall above below y lower p q →
+    IsWall (above_behind d above) (below_behind d above below) (length (below_behind d above (take y below))) lower p q
+
+-- And so is a floor.
+abbrev pub FloorsGoOn : Type 0
+FloorsGoOn = (above below : List Item) (j : Step) (d : Edit) → IsStep (above ++ below) j d → (x : ℕ) (upper : RuleParts) (p q : Pair) → Leaves d x →
+    is_moved d.moved p ≡ false → is_moved d.moved q ≡ false → IsFloor above below x upper p q →
+    IsFloor (above_behind d above) (below_behind d above below) (length (above_behind d (take x above))) upper p q
+
+-- What a wall of selectors that may meet hinders: each join up of its rule into one above it.
+abbrev pub WalledJoinsAreHindered : Type 0
+WalledJoinsAreHindered = (answers : List Answered) (above below : List Item) (y : ℕ) (lower : RuleParts) (p q : Pair) → IsWall above below y lower p q → AreNotApart answers p.selector q.selector →
+    (k : Step) (e : Edit) → IsStep (above ++ below) k e → IsUp k → first_item k < length above → last_item k ≡ length above + y → Hinders answers (above ++ below) e (OfPair p q)
+
+-- What a floor hinders, where its rule lacks the other pair: each join down of the rule into one below it.
+abbrev pub FlooredJoinsAreHindered : Type 0
+FlooredJoinsAreHindered = (answers : List Answered) (above below : List Item) (x : ℕ) (upper : RuleParts) (p q : Pair) → IsFloor above below x upper p q → AreNotApart answers p.selector q.selector →
+    (Contains (selectors_of upper) q.selector → Contains (decls_of upper) q.decl → ⊥) →
+    (k : Step) (e : Edit) (y : ℕ) → IsStep (above ++ below) k e → IsDown k → first_item k ≡ x → last_item k ≡ length above + y → Hinders answers (above ++ below) e (OfPair p q)
