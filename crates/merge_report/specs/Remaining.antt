@@ -1,6 +1,6 @@
 -- The steps of a sheet that still save something, with what blocks each of them (own).
-use Rattle.std.specs.Prelude.{◌≡◌, ◌↔◌, ℕ, ◌<◌, List, [], ◌∷◌, ◌++◌, Option, Some, None}
-use Rattle.std.specs.List.{AllPairs, Contains}
+use Rattle.std.specs.Prelude.{◌≡◌, ℕ, List, [], ◌∷◌, ◌++◌, Option, Some, None}
+use Rattle.std.specs.List.{AllZip, Contains}
 use Rattle.css_model.specs.declared.sheet.Item.{Item}
 use Rattle.css_model.specs.Text.Source.{text_at}
 use Rattle.media_groups.specs.declared.media.Media.{Media}
@@ -9,10 +9,11 @@ use Rattle.order_laws.specs.Edits.{Edit, edited}
 use Rattle.order_laws.specs.Reversed.{reversed}
 use Rattle.overlap.specs.PairsParts.{Answered}
 use Rattle.sheet_order.specs.Allowing.{IsFirst}
+use Rattle.step_candidates.specs.Saving.{AreSavingSteps}
+use Rattle.step_laws.specs.Free as steps
 use Rattle.step_laws.specs.declared.cause.BlockCause.{BlockCause}
 use Rattle.step_laws.specs.declared.step.Step.{Step}
-use Rattle.step_laws.specs.Sizes.{Saves}
-use Rattle.step_laws.specs.Steps.{HasStep, IsStep, StandsBefore}
+use Rattle.step_laws.specs.Steps.{HasStep, IsStep}
 
 -- a step, of the sheet itself or of the body of the opened block that is the item of this number, with what blocks it (own)
 abbrev pub Entry : Type 0
@@ -20,42 +21,25 @@ Entry = Option ℕ × Step × BlockCause
 
 -- ---- One step
 
--- a step saves nothing (own)
-abbrev pub SavesNothing : List ℕ → List Item → Step → Type 0
-SavesNothing source items k = (e : Edit) (n : ℕ) → IsStep items k e → Saves source items e n → 0 < n → ⊥
+-- What blocks a step is the first of what it reverses that is no pair whose selectors are answered to be apart (own).
+abbrev pub IsCauseOf : List Answered → List Item → Step → BlockCause → Type 0
+IsCauseOf answers items k cause = (e : Edit) → IsStep items k e → IsFirst answers (reversed items (edited e items) e.moved) cause
 
--- A step saves something, and what blocks it is the first of what it reverses that is no pair whose selectors are
--- answered to be apart (own).
-pub record IsRemaining (answers : List Answered) (source : List ℕ) (items : List Item) (k : Step) (cause : BlockCause) : Type 0 where
-  pub saves : (e : Edit) → IsStep items k e → (n : ℕ) × Saves source items e n × (0 < n)
-  pub blocked : (e : Edit) → IsStep items k e → IsFirst answers (reversed items (edited e items) e.moved) cause
-
--- a step without a cause saves nothing, and one with a cause remains for it (own)
-abbrev pub IsCauseOf : List Answered → List ℕ → List Item → Step → Option BlockCause → Type 0
-IsCauseOf answers source items k None = SavesNothing source items k
-IsCauseOf answers source items k (Some cause) = IsRemaining answers source items k cause
-
--- what is told of a step: nothing, or the step with its cause, and in which block it is (own)
-abbrev pub told : Option ℕ → Step → Option BlockCause → List Entry
-told block k None = []
-told block k (Some cause) = (block, k, cause) ∷ []
+-- an entry tells of this step, and what blocks it (own)
+pub record IsEntryOf (answers : List Answered) (items : List Item) (block : Option ℕ) (k : Step) (entry : Entry) : Type 0 where
+  pub cause : BlockCause
+  pub entry_is : entry ≡ (block, k, cause)
+  pub cause_is : IsCauseOf answers items k cause
 
 -- ---- All steps
 
--- of some steps those that remain, in their order, each with its cause (own)
-abbrev pub AreRemainingOf : List Answered → List ℕ → List Item → Option ℕ → List Step → List Entry → Type 0
-AreRemainingOf answers source items block [] found = found ≡ []
-AreRemainingOf answers source items block (k ∷ ks) found =
-    (cause : Option BlockCause) × (more : List Entry) × (found ≡ told block k cause ++ more) × IsCauseOf answers source items k cause × AreRemainingOf answers source items block ks more
-
--- these are all steps of a sheet, in their order (own)
-pub record AreStepsOf (items : List Item) (all : List Step) : Type 0 where
-  pub exact : (k : Step) → Contains all k ↔ HasStep items k
-  pub ascends : AllPairs StandsBefore all
+-- these are steps of a sheet, each of them blocked (own)
+abbrev pub AreBlocked : List steps.Answered → List Item → List Step → Type 0
+AreBlocked answers items list = (k : Step) → Contains list k → HasStep items k × ((e : Edit) → IsStep items k e → steps.IsBlocked answers items e)
 
 -- Of all steps of a sheet those that still save something, in their order, each with its cause (own).
 abbrev pub AreRemaining : List Answered → List ℕ → List Item → Option ℕ → List Entry → Type 0
-AreRemaining answers source items block found = (all : List Step) × AreStepsOf items all × AreRemainingOf answers source items block all found
+AreRemaining answers source items block found = (list : List Step) × AreSavingSteps source items list × AllZip (IsEntryOf answers items block) list found
 
 -- ---- All steps of a sheet and of its opened blocks
 

@@ -1,110 +1,85 @@
 //! The steps of a sheet that still save something, where nothing is left to do; and those of the bodies of its opened blocks.
 
-ghost use Rattle.std.specs.Prelude.{◌≡◌, ◌++◌, List, IfOk, OnOk, map, None, Ok, Some};
-ghost use Rattle.std.specs.List.{AllByRecursion, Contains};
+ghost use Rattle.std.specs.Prelude.{◌≡◌, ◌++◌, ◌∷◌, [], List, IfOk, OnOk, map, Ok, Some};
+ghost use Rattle.std.specs.List.{AllByRecursion, AllZip};
 ghost use Rattle.css_model.specs.Sheets.Sheet.{sheet_of};
 ghost use Rattle.css_model.specs.Text.Source.{text_at};
 ghost use Rattle.media_groups.specs.Laws.{IsBlockOf};
-ghost use Rattle.merge_report.specs.Remaining.{AreRemaining, AreRemainingInside, AreRemainingOf, AreRemainingOpened, IsCauseOf, told};
+ghost use Rattle.merge_report.specs.Remaining.{AreBlocked, AreRemaining, AreRemainingInside, AreRemainingOpened, IsCauseOf, IsEntryOf};
 ghost use Rattle.opened_merge_laws.specs.Merged.{IsDoneOpened};
+ghost use Rattle.order_laws.specs.Edits.{Edit};
 ghost use Rattle.plan_laws.specs.Plannable.{IsPlannable};
 ghost use Rattle.sheet_order.specs.Allowing.{Stays};
 ghost use Rattle.sheet_order.specs.Laws.{answer_seen};
-ghost use Rattle.step_laws.specs.declared.step.Step as declared;
+ghost use Rattle.sheet_order.specs.Narrow.{CanBePlanned};
+ghost use Rattle.step_laws.specs.Free.{IsBlocked};
 ghost use Rattle.step_laws.specs.Leading.{IsDone};
-ghost use Rattle.step_laws.specs.Steps.{HasStep};
+ghost use Rattle.step_laws.specs.Steps.{HasStep, IsStep};
 
 use css_model::Sheet;
 use media_groups::{Media, open_media, opened_blocks_are_sheets};
 use merge_laws::{read_is_plannable, read_keeps_the_limits};
-use merge_plan::{KnownLengths, saved};
-use merge_steps::steps;
+use order_index::Index;
 use overlap::Pairs;
-use sheet_order::{Allowed, BlockCause, allowed_steps_are_free, permitted};
+use sheet_order::{Allowed, BlockCause, allowed_steps_are_free};
 use std::alloc::{AllocError, Global};
-use step_laws::{Step, parts_are_few};
+use step_candidates::Candidates;
+use step_laws::{Step, steps_are_one_edit};
 
-/// What blocks a step, or none where it saves nothing.
+/// What blocks a step that is blocked.
 fn cause_of(
     alloc: Global,
     pairs: &mut Pairs,
-    source: &KnownLengths<'_>,
-    sheet: &Sheet,
+    index: &Index<'_>,
     step: &Step,
-) -> Result<Option<BlockCause>, AllocError>
-    requires is_step { HasStep sheet.now.items step.now }
-    requires plannable { IsPlannable source.now sheet.now.items }
-    requires done { IsDone (map answer_seen pairs.old.answers) source.now sheet.now.items }
+) -> Result<BlockCause, AllocError>
+    requires is_step { HasStep index.now step.now }
+    requires planned { CanBePlanned index.now }
+    requires blocked { (e : Edit) → IsStep index.now step.now e → IsBlocked (map answer_seen pairs.old.answers) index.now e }
     ensures stays { Stays pairs.old pairs.new }
-    ensures told { IfOk result (λ cause. IsCauseOf pairs.new.answers source.now sheet.now.items step.now cause) }
+    ensures cause { IfOk result (λ cause. IsCauseOf pairs.new.answers index.now step.now cause) }
 {
     allowed_steps_are_free();
-    let saving = saved(source, sheet, step);
-    if saving == 0 {
-        return Ok(None);
-    }
-    let allowed = permitted(alloc, pairs, sheet, step)?;
+    let allowed = index.permitted(alloc, pairs, step)?;
     pairs.are_true();
     match allowed {
-        Allowed::Blocked(cause) => Ok(Some(cause)),
+        Allowed::Blocked(cause) => Ok(cause),
         Allowed::Free => unreachable!(),
     }
 }
 
-/// Appends a step with its cause, if it has one.
+/// Appends a step with its cause.
 fn push_told(
     found: &mut Vec<(Option<u32>, Step, BlockCause)>,
     block: Option<u32>,
     step: &Step,
-    cause: Option<BlockCause>,
+    cause: BlockCause,
 ) -> Result<(), AllocError>
-    ensures { OnOk result (found.new.items ≡ found.old.items ++ told block step.now cause) }
+    ensures { OnOk result (found.new.items ≡ found.old.items ++ (block, step.now, cause) ∷ []) }
 {
-    match cause {
-        Some(cause) => Ok(found.push((block, *step, cause))?),
-        None => Ok(()),
-    }
+    found.push((block, *step, cause))?;
+    Ok(())
 }
 
-/// Of some steps those that still save something, in their order, each with its cause.
+/// Some blocked steps, in their order, each with its cause.
 fn remaining_of(
     alloc: Global,
     pairs: &mut Pairs,
-    source: &KnownLengths<'_>,
-    sheet: &Sheet,
+    index: &Index<'_>,
     block: Option<u32>,
     list: &[Step],
 ) -> Result<Vec<(Option<u32>, Step, BlockCause)>, AllocError>
-    requires steps { (k : declared.Step) → Contains list.now k → HasStep sheet.now.items k }
-    requires plannable { IsPlannable source.now sheet.now.items }
-    requires done { IsDone (map answer_seen pairs.old.answers) source.now sheet.now.items }
+    requires planned { CanBePlanned index.now }
+    requires blocked { AreBlocked (map answer_seen pairs.old.answers) index.now list.now }
     ensures stays { Stays pairs.old pairs.new }
-    ensures are { IfOk result (λ found. AreRemainingOf pairs.new.answers source.now sheet.now.items block list.now found.items) }
+    ensures are { IfOk result (λ found. AllZip (IsEntryOf pairs.new.answers index.now block) list.now found.items) }
 {
     let mut found = Vec::new(alloc);
     for step in list {
-        let cause = cause_of(alloc, pairs, source, sheet, step)?;
+        let cause = cause_of(alloc, pairs, index, step)?;
         push_told(&mut found, block, step, cause)?;
     }
     Ok(found)
-}
-
-/// The same of all steps of a sheet in which nothing is left to do, where the lengths of the source are known.
-fn remaining_among(
-    alloc: Global,
-    pairs: &mut Pairs,
-    source: &KnownLengths<'_>,
-    sheet: &Sheet,
-    block: Option<u32>,
-) -> Result<Vec<(Option<u32>, Step, BlockCause)>, AllocError>
-    requires plannable { IsPlannable source.now sheet.now.items }
-    requires done { IsDone (map answer_seen pairs.old.answers) source.now sheet.now.items }
-    ensures stays { Stays pairs.old pairs.new }
-    ensures are { IfOk result (λ found. AreRemaining pairs.new.answers source.now sheet.now.items block found.items) }
-{
-    parts_are_few();
-    let list = steps(alloc, sheet)?;
-    remaining_of(alloc, pairs, source, sheet, block, list.as_slice())
 }
 
 /// Of all steps of a sheet in which nothing is left to do those that still save something, in their order, each with its
@@ -124,8 +99,10 @@ fn remaining_steps(
     ensures are { IfOk result (λ found. AreRemaining pairs.new.answers source.now sheet.now.items block found.items) }
 {
     read_keeps_the_limits();
-    let lengths = KnownLengths::of(alloc, source, sheet)?;
-    remaining_among(alloc, pairs, &lengths, sheet, block)
+    steps_are_one_edit();
+    let candidates = Candidates::new(alloc, sheet, source)?;
+    let index = Index::new(alloc, sheet)?;
+    remaining_of(alloc, pairs, &index, block, candidates.saving_steps())
 }
 
 /// Those of the body of an opened block.

@@ -65,10 +65,10 @@ module _ (source : List ℕ) (s : List Item) (other : List ℕ) (t : List Item) 
             second = sym (ap (λ (xs : List Media). slice_get xs number) same') ∙ at'.at;
           } in
           let lines_of : IsComparedText (text_at source at.block.body) at.block.sheet.items (text_at other at'.block.body) at'.block.sheet.items compared lines =
-              subst (λ (x : List ℕ). IsComparedText x at.block.sheet.items (text_at other at'.block.body) at'.block.sheet.items compared lines) at.text_is
-              (subst (λ (xs : List Item). IsComparedText text xs (text_at other at'.block.body) at'.block.sheet.items compared lines) at.items_is
-              (subst (λ (x : List ℕ). IsComparedText text items x at'.block.sheet.items compared lines) at'.text_is
-              (subst (λ (xs : List Item). IsComparedText text items text' xs compared lines) at'.items_is h))) in
+          subst (λ (x : List ℕ). IsComparedText x at.block.sheet.items (text_at other at'.block.body) at'.block.sheet.items compared lines) at.text_is
+          (subst (λ (xs : List Item). IsComparedText text xs (text_at other at'.block.body) at'.block.sheet.items compared lines) at.items_is
+          (subst (λ (x : List ℕ). IsComparedText text items x at'.block.sheet.items compared lines) at'.text_is
+          (subst (λ (xs : List Item). IsComparedText text items text' xs compared lines) at'.items_is h))) in
           subst (λ (o : Option ℕ). IsTold source s other t compared o lines) (sym is) (at.block, at'.block, blocks, lines_of)
 
 -- ---- In the sheets themselves

@@ -52,7 +52,7 @@ is_same source s other t (Extra place) text word h = absurd (begins_else 101 115
 is_same source s other t (KeptItem number) text word h = absurd (begins_else 107 115 _ _ refl (sym h ∙ word))
 is_same source s other t (Reversed p q example) text word h =
     let first : h.second ≡ (codes "reversed\n" ++ h.first_is.pair ++ codes "\n") ++ h.second_is.pair ++ codes "\n" =
-        h.second_is.text_is ∙ ap (λ (xs : List ℕ). xs ++ h.second_is.pair ++ codes "\n") h.first_is.text_is in
+    h.second_is.text_is ∙ ap (λ (xs : List ℕ). xs ++ h.second_is.pair ++ codes "\n") h.first_is.text_is in
     let whole : text ≡ ((codes "reversed\n" ++ h.first_is.pair ++ codes "\n") ++ h.second_is.pair ++ codes "\n") ++ doc_text example = h.text_is ∙ ap (λ (xs : List ℕ). xs ++ doc_text example) first in
     absurd (begins_else 114 115 _ _ refl (sym whole ∙ word))
 is_same source s other t (Unsure reason) text word h = which (reason == 0) (sym h ∙ word)

@@ -17,7 +17,8 @@ fn tells(rt: &impl Abort, alloc: Global, row: Row<'_>) -> Result<(), Fail> {
     let mut pairs = Pairs::new(alloc, budget);
     let mut text = first.as_bytes().to_vec(alloc)?;
     text.extend_from_slice(second.as_bytes())?;
-    let lines = same_lines(alloc, &mut pairs, &text, first.len() as u32)?;
+    let split = u32::try_from(first.len()).unwrap_or(0);
+    let lines = same_lines(alloc, &mut pairs, &text, split)?;
     assert_eq!(rt; lines.as_slice(), wanted.as_bytes());
     Ok(())
 }

@@ -1,1 +1,4 @@
-mod Sifted
+mod AddedSteps
+mod PartTests
+mod RankedSteps
+mod RuleNumbers

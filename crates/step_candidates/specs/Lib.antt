@@ -1,1 +1,4 @@
+pub mod Numbered
+pub mod Ranking
 pub mod Saving
+pub mod Walking

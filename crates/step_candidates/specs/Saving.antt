@@ -1,13 +1,12 @@
 -- Which steps of a sheet save something (own).
-use Rattle.std.specs.Prelude.{◌≡◌, ◌↔◌, ℕ, ◌<◌, ◌≤◌, nat_lt, Bool, List, [], Option, Some, slice_get}
+use Rattle.std.specs.Prelude.{◌↔◌, ℕ, ◌<◌, ◌≤◌, List}
 use Rattle.std.specs.List.{AllPairs, Contains}
 use Rattle.css_model.specs.declared.sheet.Item.{Item}
-use Rattle.css_model.specs.declared.sheet.Item.TheVariants.{Rule}
 use Rattle.css_model.specs.Sheets.Limits.{max_bytes}
 use Rattle.order_laws.specs.Edits.{Edit, edited}
 use Rattle.step_laws.specs.declared.step.Step.{Step}
 use Rattle.step_laws.specs.Sizes.{size}
-use Rattle.step_laws.specs.Steps.{IsStep, StandsBefore, edit_of, first_item, last_item}
+use Rattle.step_laws.specs.Steps.{IsStep, StandsBefore}
 
 -- a step of a sheet saves something: the items' texts become shorter
 pub record IsSavingStep (source : List ℕ) (items : List Item) (k : Step) : Type 0 where
@@ -23,17 +22,3 @@ pub record AreSavingSteps (source : List ℕ) (items : List Item) (list : List S
 -- the sheet after a step prints within the limit too
 abbrev pub Fits : List ℕ → List Item → Step → Type 0
 Fits source items k = (e : Edit) → IsStep items k e → size source (edited e items) ≤ max_bytes
-
--- ---- As a test
-
--- the edit of a step, of the items that stand at its numbers; one that changes nothing, where these are no rules
-abbrev pub edit_by : Step → Option Item → Option Item → Edit
-edit_by k (Some (Rule upper)) (Some (Rule lower)) = edit_of k upper lower
-edit_by k _ _ = record { changes = []; moved = record { out_of = []; selectors = []; decls = [] } }
-
-abbrev pub edit_at : List Item → Step → Edit
-edit_at items k = edit_by k (slice_get items (first_item k)) (slice_get items (last_item k))
-
--- whether it makes the items' texts shorter
-abbrev pub saves_some : List ℕ → List Item → Step → Bool
-saves_some source items k = nat_lt (size source (edited (edit_at items k) items)) (size source items)

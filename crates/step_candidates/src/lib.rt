@@ -2,6 +2,11 @@
 #![tactic(auto)]
 
 mod candidates;
+mod cuts;
+mod found;
+mod members;
+mod numbered;
 mod sifting;
+mod trying;
 
 pub use candidates::Candidates;

@@ -1,7 +1,13 @@
-use Rattle.std.proofs.Common.{List, ℕ, map, sym, subst}
+use Rattle.std.proofs.Common.{List, ◌∙◌, sym, map, subst}
+use Rattle.css_model.specs.declared.sheet.Item.{Item}
+use Rattle.merge_report.proofs.Growing.{saving_blocked}
 use Rattle.merge_report.proofs.remaining.remaining_steps.Goals as goal
+use Rattle.merge_report.specs.Remaining.{AreBlocked}
 use Rattle.sheet_order.specs.Laws.{answer_seen}
-use Rattle.step_laws.specs.Leading.{IsDone}
+use Rattle.step_laws.specs.declared.step.Step.{Step}
 
-pub remaining_among-requires-clause-done : goal.remaining_among-requires-clause-done
-remaining_among-requires-clause-done c = subst (λ (source : List ℕ). IsDone (map answer_seen c.args.pairs.now.answers) source c.args.sheet.now.items) (sym c.in_ok-lengths.ensures) c.requires.done
+pub remaining_of-requires-clause-blocked : goal.remaining_of-requires-clause-blocked
+remaining_of-requires-clause-blocked c =
+    subst (λ (items : List Item). AreBlocked (map answer_seen c.args.pairs.now.answers) items c.saving_steps.result.now) (sym c.in_ok-index.ensures)
+    (subst (λ (list : List Step). AreBlocked (map answer_seen c.args.pairs.now.answers) c.args.sheet.now.items list) (sym c.saving_steps.ensures)
+    (saving_blocked c.steps_are_one_edit.ensures (map answer_seen c.args.pairs.now.answers) c.args.source.now c.args.sheet.now.items c.in_ok-candidates.candidates c.in_ok-candidates.ensures c.requires.done))

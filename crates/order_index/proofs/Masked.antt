@@ -1,0 +1,19 @@
+-- What masks without a common bit tell: nothing weighs.
+use Rattle.std.proofs.Common.{◌≡◌, ℕ, true, false, refl, sym, ap₂, ◌∙◌}
+use Rattle.std.specs.Prelude.{bit_and}
+use Rattle.std.proofs.lemmas.Bool.{false_from_ne_true}
+use Rattle.css_model.specs.declared.sheet.Item.{Item}
+use Rattle.css_model.specs.Cascade.Order.{Pair}
+use Rattle.order_laws.specs.Comparing as order
+use Rattle.order_laws.specs.Comparing.{WeighingIsDecided}
+use Rattle.related_props.proofs.ForCallers as related
+use Rattle.related_props.proofs.MaskBits.{common_shows}
+use Rattle.related_props.specs.Masks.{decl_mask, item_mask}
+
+pub weigh_shows : WeighingIsDecided → (p q : Pair) (m n : ℕ) → m ≡ decl_mask p.decl → n ≡ decl_mask q.decl → bit_and m n ≡ 0 → order.weigh p q ≡ false
+weigh_shows weighing p q m n left right none = false_from_ne_true (order.weigh p q) (λ h.
+    common_shows (decl_mask p.decl) (decl_mask q.decl) (related.related_have_common p.decl q.decl ((weighing.0 p q).0 h).names) (ap₂ bit_and (sym left) (sym right) ∙ none))
+
+pub kept_shows : WeighingIsDecided → (p : Pair) (item : Item) (m n : ℕ) → m ≡ decl_mask p.decl → n ≡ item_mask item → bit_and m n ≡ 0 → order.weighs_kept p item ≡ false
+kept_shows weighing p item m n left right none = false_from_ne_true (order.weighs_kept p item) (λ h.
+    related.kept_shows p (decl_mask p.decl) item (λ i e. e) ((weighing.1 p item).0 h) (ap₂ bit_and (sym left) (sym right) ∙ none))

@@ -1,0 +1,154 @@
+//! Steps that were found, in their order.
+
+ghost use Rattle.std.specs.Prelude.{◌≡◌, ◌∷◌, [], IfOk, OnOk, map};
+ghost use Rattle.std.specs.List.{AllPairs};
+ghost use Rattle.rule_tables.specs.Entries.{Puts};
+ghost use Rattle.step_candidates.specs.Ranking as ranking;
+ghost use Rattle.step_laws.specs.Steps.{StandsBefore};
+
+use std::alloc::{AllocError, Global};
+use std::collections::BTreeSet;
+use std::marker::Model;
+use step_laws::Step;
+
+/// The kinds of steps, in their order.
+#[derive(Clone, Copy, Debug, PartialEq, Eq, PartialOrd, Ord)]
+enum Kind {
+    CutDecl,
+    CutSel,
+    JoinSelUp,
+    JoinSelDown,
+    JoinDeclUp,
+    JoinDeclDown,
+    Share,
+}
+
+/// A step by its kind and its two numbers. They are ordered as their steps are.
+#[derive(Clone, Copy, Debug, PartialEq, Eq, PartialOrd, Ord)]
+struct Ranked {
+    kind: Kind,
+    first: u32,
+    second: u32,
+}
+
+/// A step by its kind and its numbers.
+fn rank_of(step: &Step) -> Ranked
+    ensures { ranking.ranked_step result ≡ step.now }
+{
+    let (kind, first, second) = match *step {
+        Step::CutDecl { item, decl } => (Kind::CutDecl, item, decl),
+        Step::CutSel { item, sel } => (Kind::CutSel, item, sel),
+        Step::JoinSelUp { upper, lower } => (Kind::JoinSelUp, upper, lower),
+        Step::JoinSelDown { upper, lower } => (Kind::JoinSelDown, upper, lower),
+        Step::JoinDeclUp { upper, lower } => (Kind::JoinDeclUp, upper, lower),
+        Step::JoinDeclDown { upper, lower } => (Kind::JoinDeclDown, upper, lower),
+        Step::Share { upper, lower } => (Kind::Share, upper, lower),
+    };
+    Ranked {
+        kind,
+        first,
+        second,
+    }
+}
+
+/// The step of a kind and these numbers.
+fn step_of(ranked: &Ranked) -> Step
+    ensures { result ≡ ranking.ranked_step ranked.now }
+{
+    let (first, second) = (ranked.first, ranked.second);
+    match ranked.kind {
+        Kind::CutDecl => Step::CutDecl {
+            item: first,
+            decl: second,
+        },
+        Kind::CutSel => Step::CutSel {
+            item: first,
+            sel: second,
+        },
+        Kind::JoinSelUp => Step::JoinSelUp {
+            upper: first,
+            lower: second,
+        },
+        Kind::JoinSelDown => Step::JoinSelDown {
+            upper: first,
+            lower: second,
+        },
+        Kind::JoinDeclUp => Step::JoinDeclUp {
+            upper: first,
+            lower: second,
+        },
+        Kind::JoinDeclDown => Step::JoinDeclDown {
+            upper: first,
+            lower: second,
+        },
+        Kind::Share => Step::Share {
+            upper: first,
+            lower: second,
+        },
+    }
+}
+
+/// The steps of these kinds and numbers.
+fn steps_of(alloc: Global, list: &[Ranked]) -> Result<Vec<Step>, AllocError>
+    ensures { IfOk result (λ steps. steps.items ≡ map ranking.ranked_step list.now) }
+{
+    let mut steps = Vec::with_capacity(alloc, list.len())?;
+    let mut rest = list;
+    'rest: while let Some((first, behind)) = rest.split_first() {
+        steps.push(step_of(first))?;
+        rest = behind;
+    }
+    Ok(steps)
+}
+
+/// What a set has, in order.
+fn list_ranked(alloc: Global, set: BTreeSet<Ranked>) -> Result<Vec<Ranked>, AllocError>
+    ensures same { IfOk result (λ list. list.items ≡ set.keys) }
+    ensures ascends { IfOk result (λ list. AllPairs StandsBefore (map ranking.ranked_step list.items)) }
+{
+    set.into_iter().collect(alloc)
+}
+
+/// Steps that were found. Contracts see them as their list.
+#[derive(Drop)]
+pub(crate) struct Found {
+    steps: BTreeSet<Ranked>,
+}
+
+impl Model for Found {
+    ghost use Rattle.std.specs.Prelude.{List, map};
+    ghost use Rattle.step_candidates.specs.Ranking as ranking;
+    ghost use Rattle.step_laws.specs.declared.step.Step as declared;
+
+    ghost Value = { List declared.Step };
+
+    ghost view = { λ f. map ranking.ranked_step f.steps.keys };
+}
+
+impl Found {
+    /// Nothing was found.
+    pub(crate) fn new(alloc: Global) -> Found
+        ensures { result ≡ [] }
+    {
+        Found {
+            steps: BTreeSet::new(alloc),
+        }
+    }
+
+    /// Puts a step in, if it is not there.
+    pub(crate) fn put(&mut self, step: &Step) -> Result<(), AllocError>
+        ensures { OnOk result (Puts self.old (step.now ∷ []) self.new) }
+    {
+        self.steps.insert(rank_of(step))?;
+        Ok(())
+    }
+
+    /// The steps that were found, in their order.
+    pub(crate) fn list(self, alloc: Global) -> Result<Vec<Step>, AllocError>
+        ensures same { IfOk result (λ list. list.items ≡ self) }
+        ensures ascends { IfOk result (λ list. AllPairs StandsBefore list.items) }
+    {
+        let list = list_ranked(alloc, self.steps)?;
+        steps_of(alloc, &list)
+    }
+}

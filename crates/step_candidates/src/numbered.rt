@@ -1,0 +1,81 @@
+//! A sheet with tables of its rules, each of which has its number for a label.
+
+ghost use Rattle.std.specs.Prelude.{◌≡◌, ◌↔◌, ◌≤◌, IfNone, IfOk, IfSome, IsTrue, Some, length, slice_get};
+ghost use Rattle.std.specs.List.{Contains};
+ghost use Rattle.css_model.specs.declared.sheet.Item.TheVariants as item;
+ghost use Rattle.css_model.specs.Sheets.Limits.{max_items};
+ghost use Rattle.css_model.specs.Sheets.RuleParts.{RuleParts};
+ghost use Rattle.rule_tables.specs.Pairs as pairs;
+ghost use Rattle.rule_tables.specs.Tables.{with_label};
+ghost use Rattle.step_candidates.specs.Numbered as spec;
+
+use crate::members::{is_decl_among, is_selector_among};
+use css_model::{Decl, Item, Rule, Selector, Sheet};
+use merge_plan::KnownLengths;
+use rule_tables::{LabelledRules, Tables, labelled_rules_stand, rules_are_labelled};
+use std::alloc::{AllocError, Global};
+
+/// A sheet with tables of its rules by their numbers, and with the lengths of its texts.
+#[derive(Clone, Copy, Debug)]
+pub(crate) struct Numbered<'a> {
+    pub(crate) sheet: &'a Sheet,
+    pub(crate) tables: &'a Tables,
+    pub(crate) lengths: &'a KnownLengths<'a>,
+}
+
+/// The numbers of items, from 0.
+pub(crate) fn numbers(alloc: Global, items: &[Item]) -> Result<Vec<u64>, AllocError>
+    requires { length items.now ≤ max_items }
+    ensures { IfOk result (λ list. list.items ≡ spec.numbers items.now) }
+{
+    let mut list = Vec::with_capacity(alloc, items.len())?;
+    let mut number: u64 = 0;
+    let mut rest = items;
+    'rest: while let Some((_, behind)) = rest.split_first() {
+        list.push(number)?;
+        number += 1;
+        rest = behind;
+    }
+    Ok(list)
+}
+
+/// The rule of this number, if a rule stands there.
+pub(crate) fn find_rule(sheet: &Sheet, number: u64) -> Option<&Rule>
+    ensures some { IfSome result (λ rule. slice_get sheet.now.items number ≡ Some (item.Rule rule.now)) }
+    ensures none { IfNone result ((r : RuleParts) → slice_get sheet.now.items number ≡ Some (item.Rule r) → ⊥) }
+{
+    match sheet.items.get(number as usize) {
+        Some(Item::Rule(rule)) => Some(rule),
+        _ => None,
+    }
+}
+
+/// The rule whose label is this number, if there is one.
+fn rule_with(sheet: &Sheet, label: u64) -> Option<&Rule>
+    ensures some { IfSome result (λ rule. (r : RuleParts) → Contains (spec.numbered sheet.now.items) (with_label r label) ↔ (r ≡ rule.now)) }
+    ensures none { IfNone result ((r : RuleParts) → Contains (spec.numbered sheet.now.items) (with_label r label) → ⊥) }
+{
+    rules_are_labelled();
+    labelled_rules_stand();
+    find_rule(sheet, label)
+}
+
+/// Whether a rule has a selector and a declaration.
+fn has_both(rule: &Rule, selector: &Selector, decl: &Decl) -> bool
+    ensures { IsTrue result ↔ pairs.HasBoth rule.now selector.now decl.now }
+{
+    is_selector_among(&rule.selectors, selector) && is_decl_among(&rule.decls, decl)
+}
+
+impl LabelledRules for Numbered<'_> {
+    ghost use Rattle.step_candidates.specs.Numbered as spec;
+
+    ghost rules = { λ n. spec.numbered n.sheet.now.items };
+
+    fn has_pair(&self, label: u64, selector: &Selector, decl: &Decl) -> bool {
+        match rule_with(self.sheet, label) {
+            Some(rule) => has_both(rule, selector, decl),
+            None => false,
+        }
+    }
+}
