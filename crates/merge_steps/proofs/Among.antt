@@ -51,7 +51,7 @@ pub all_of_map : {X Y : Type 0} (g : X → Y) (f : Y → Bool) (xs : List X) →
 all_of_map g f [] h = refl
 all_of_map g f (x ∷ xs) h = together (f (g x)) (list_all (λ x. f (g x)) xs) (h (g x) (Contains-here (g x) (map g xs))) (all_of_map g f xs (λ y c. h y (Contains-there (g x) (map g xs) y c)))
 
-abbrev among : List SelItem → List SelItem → Bool
+abbrev pub among : List SelItem → List SelItem → Bool
 among items others = list_all (λ s. has_selector others s.selector) items
 
 among_is : (items others : List SelItem) → (among items others ≡ true) ↔ ((s : SelectorParts) → Contains (map (λ x. x.selector) items) s → Contains (map (λ x. x.selector) others) s)
@@ -65,6 +65,16 @@ pub same_decided : (u l : RuleParts) (above below : Bool) → above ≡ among u.
 same_decided u l above below a b = (
   λ h s. ((among_is u.selectors l.selectors).0 (sym a ∙ first_true above below h) s, (among_is l.selectors u.selectors).0 (sym b ∙ second_true above below h) s),
   λ same. together above below (a ∙ (among_is u.selectors l.selectors).1 (λ s. (same s).0)) (b ∙ (among_is l.selectors u.selectors).1 (λ s. (same s).1)),
+)
+
+pub not_same : (u l : RuleParts) (above : Bool) → above ≡ among u.selectors l.selectors → above ≡ false → HaveSameSelectors u l → ⊥
+not_same u l above a not_above same = false≢true (sym not_above ∙ a ∙ (among_is u.selectors l.selectors).1 (λ s. (same s).0))
+
+pub same_by_lower : (u l : RuleParts) (above below : Bool) → above ≡ among u.selectors l.selectors → above ≡ true → below ≡ among l.selectors u.selectors →
+    (below ≡ true) ↔ HaveSameSelectors u l
+same_by_lower u l above below a is_above b = (
+  λ h. (same_decided u l above below a b).0 (together above below is_above h),
+  λ same. second_true above below ((same_decided u l above below a b).1 same),
 )
 
 -- ---- Declarations

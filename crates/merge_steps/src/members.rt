@@ -7,7 +7,7 @@ ghost use Rattle.order_laws.specs.Members as members;
 ghost use Rattle.step_laws.specs.Steps.{HaveSameDecls};
 
 use css_model::{DeclItem, Rule, SelItem};
-use step_savings::{has_decl, has_selector};
+use step_savings::{has_decl, has_selector, is_same_decl};
 
 /// Whether each of the selectors is among the others.
 fn are_selectors_among(items: &[SelItem], others: &[SelItem]) -> bool
@@ -16,20 +16,6 @@ fn are_selectors_among(items: &[SelItem], others: &[SelItem]) -> bool
     let mut rest = items;
     'rest: while let Some((first, behind)) = rest.split_first() {
         if !has_selector(others, &first.selector) {
-            return false;
-        }
-        rest = behind;
-    }
-    true
-}
-
-/// Whether each of the declarations is among the others.
-pub(crate) fn are_decls_among(items: &[DeclItem], others: &[DeclItem]) -> bool
-    ensures { result ≡ list_all (λ d. members.has_decl others.now d.decl) items.now }
-{
-    let mut rest = items;
-    'rest: while let Some((first, behind)) = rest.split_first() {
-        if !has_decl(others, &first.decl) {
             return false;
         }
         rest = behind;
@@ -55,9 +41,10 @@ pub(crate) fn is_a_decl_among(items: &[DeclItem], others: &[DeclItem]) -> bool
 pub(crate) fn have_same_selectors(upper: &Rule, lower: &Rule) -> bool
     ensures { IsTrue result ↔ HaveSameSelectors upper.now lower.now }
 {
-    let above = are_selectors_among(&upper.selectors, &lower.selectors);
-    let below = are_selectors_among(&lower.selectors, &upper.selectors);
-    above && below
+    if !are_selectors_among(&upper.selectors, &lower.selectors) {
+        return false;
+    }
+    are_selectors_among(&lower.selectors, &upper.selectors)
 }
 
 /// Whether two lists have the same declarations, in the same order.
@@ -70,7 +57,7 @@ fn are_same_decls(items: &[DeclItem], others: &[DeclItem]) -> bool
         let Some((other, behind_other)) = rest_of_others.split_first() else {
             return false;
         };
-        if first.decl != other.decl {
+        if !is_same_decl(&first.decl, &other.decl) {
             return false;
         }
         rest = behind;

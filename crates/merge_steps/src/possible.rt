@@ -10,10 +10,10 @@ ghost use Rattle.merge_steps.specs.StepParts.{HasRoom, IsCutKind, IsJoinKind, Ma
 ghost use Rattle.step_laws.specs.declared.step.Step.TheVariants as kinds;
 ghost use Rattle.step_laws.specs.Steps.{AreDeclsAmong, HasStep, MayShare, decls_of, first_item, last_item};
 
-use crate::members::{are_decls_among, have_same_decls, have_same_selectors, is_a_decl_among};
+use crate::members::{have_same_decls, have_same_selectors, is_a_decl_among};
 use css_model::{Decl, DeclItem, Item, MAX_ITEMS, Rule, SelItem, Selector, Sheet};
 use step_laws::Step;
-use step_savings::{has_decl, has_selector};
+use step_savings::{are_decls_among, has_decl, has_selector};
 
 /// Whether an item is a rule with this pair.
 fn is_in_item(item: &Item, selector: &Selector, decl: &Decl) -> bool
@@ -175,26 +175,26 @@ fn are_decls_of(rule: &Rule, other: &Rule) -> bool
 fn has_room(items: &[Item], upper: &Rule, lower: &Rule) -> bool
     ensures { IsTrue result ↔ HasRoom items.now upper.now lower.now }
 {
+    if items.len() < MAX_ITEMS as usize {
+        return true;
+    }
     if are_decls_of(upper, lower) {
         return true;
     }
-    if are_decls_of(lower, upper) {
-        return true;
-    }
-    items.len() < MAX_ITEMS as usize
+    are_decls_of(lower, upper)
 }
 
 /// Whether two rules of a sheet of these items may share their common declarations.
 fn may_share(items: &[Item], upper: &Rule, lower: &Rule) -> bool
     ensures { IsTrue result ↔ MayShare items.now upper.now lower.now }
 {
-    if !have_common_decl(upper, lower) {
-        return false;
-    }
     if have_same_decls(upper, lower) {
         return false;
     }
     if have_same_selectors(upper, lower) {
+        return false;
+    }
+    if !have_common_decl(upper, lower) {
         return false;
     }
     has_room(items, upper, lower)

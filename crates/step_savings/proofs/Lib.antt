@@ -1,5 +1,6 @@
 mod LastCommon
 mod PartWeights
+mod ToldApart
 mod Saved
 mod ShareWeights
 mod StepRules

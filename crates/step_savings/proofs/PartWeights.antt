@@ -1,5 +1,5 @@
 -- The weights of parts of lists.
-use Rattle.std.proofs.Common.{◌≡◌, ℕ, zero, suc, ◌+◌, ◌-◌, ◌≤◌, ◌<◌, ◌==◌, ◌||◌, Bool, true, false, not, if◌then◌else◌, List, [], ◌∷◌, ◌++◌, take, drop, length, refl, sym, ap, ap₂, subst, ◌∙◌, arith}
+use Rattle.std.proofs.Common.{◌≡◌, ℕ, zero, suc, ◌+◌, ◌-◌, ◌≤◌, ◌<◌, ◌==◌, ◌||◌, Bool, true, false, not, cond, if◌then◌else◌, List, [], ◌∷◌, ◌++◌, take, drop, length, refl, sym, ap, ap₂, subst, ◌∙◌, arith}
 use Rattle.std.specs.List.{filter, remove}
 use Rattle.std.proofs.lemmas.Bool.{cond_both, false_from_ne_true}
 use Rattle.std.proofs.lemmas.Bool.Decides.{Decides-eqb}
@@ -23,6 +23,16 @@ weight-filter text p (x ∷ xs) = let ih : weight text (filter p xs) ≤ weight 
     cond_both (p x) (x ∷ filter p xs) (filter p xs) (λ ys. weight text ys ≤ length (text x) + 1 + weight text xs)
     (λ kept. let e : length (text x) + 1 + weight text (filter p xs) ≤ length (text x) + 1 + weight text xs = omega (arith, ih) in e)
     (λ gone. omega (arith, ih))
+
+-- what passes a test and what does not weigh as much as the whole
+pub weight-parted : {A : Type 0} (text : A → List ℕ) (p : A → Bool) (xs : List A) → weight text (filter p xs) + weight text (filter (λ x. not (p x)) xs) ≡ weight text xs
+weight-parted text p [] = omega arith
+weight-parted text p (x ∷ xs) = which (p x) (weight-parted text p xs)
+  where
+    which : (b : Bool) → weight text (filter p xs) + weight text (filter (λ x. not (p x)) xs) ≡ weight text xs →
+        weight text (cond b (x ∷ filter p xs) (filter p xs)) + weight text (cond (not b) (x ∷ filter (λ x. not (p x)) xs) (filter (λ x. not (p x)) xs)) ≡ length (text x) + 1 + weight text xs
+    which true ih = let e : length (text x) + 1 + weight text (filter p xs) + weight text (filter (λ x. not (p x)) xs) ≡ length (text x) + 1 + weight text xs = omega (arith, ih) in e
+    which false ih = let e : weight text (filter p xs) + (length (text x) + 1 + weight text (filter (λ x. not (p x)) xs)) ≡ length (text x) + 1 + weight text xs = omega (arith, ih) in e
 
 pub before_weighs : {A : Type 0} (text : A → List ℕ) (xs : List A) (n : ℕ) → weight text (take n xs) ≤ weight text xs
 before_weighs text [] zero = omega arith

@@ -9,7 +9,7 @@ use Rattle.css_model.specs.Sheets.Printed.{printed_selector, printed_declaration
 use Rattle.css_model.specs.Sheets.RuleParts.{RuleParts}
 use Rattle.css_model.specs.Sheets.Sound.{IsSound}
 use Rattle.step_savings.proofs.StepRules.{edit_is}
-use Rattle.step_savings.specs.Weighing.{IsWeighable}
+use Rattle.step_savings.specs.Weighing.{IsWeighable, stays_weight}
 use Rattle.order_laws.specs.Edits.{Edit, edited}
 use Rattle.step_laws.proofs.ForCallers.{rule_is_light, rule_sound, steps_weigh}
 use Rattle.step_laws.specs.declared.step.Step.{Step}
@@ -32,14 +32,13 @@ across a b c d h = omega (arith, ints, h)
 
 pub saves : (source : List ℕ) (items : List Item) (k : Step) (u l u' l' : RuleParts) (x y taken brought : ℕ) → x ≡ first_item k → y ≡ last_item k → IsSound source items →
     slice_get items x ≡ Some (Rule u) → slice_get items y ≡ Some (Rule l) → u' ≡ u → l' ≡ l →
-    taken ≡ taken_weight source k u' l' → brought ≡ brought_weight source (edit_of k u' l').changes →
+    taken + stays_weight source k u' l' ≡ taken_weight source k u' l' → brought + stays_weight source k u' l' ≡ brought_weight source (edit_of k u' l').changes →
     (e : Edit) → IsStep items k e → pos taken -ℤ pos brought ≡ pos (size source items) -ℤ pos (size source (edited e items))
 saves source items k u l u' l' x y taken brought first last sound at at' same same' t b e is =
     let above : slice_get items (first_item k) ≡ Some (Rule u) = subst (λ (n : ℕ). slice_get items n ≡ Some (Rule u)) first at in
     let below : slice_get items (last_item k) ≡ Some (Rule l) = subst (λ (n : ℕ). slice_get items n ≡ Some (Rule l)) last at' in
-    let is_taken : taken ≡ taken_weight source k u l = t ∙ ap₂ (taken_weight source k) same same' in
-    let is_brought : brought ≡ brought_weight source e.changes =
+    let is_taken : taken + stays_weight source k u' l' ≡ taken_weight source k u l = t ∙ ap₂ (taken_weight source k) same same' in
+    let is_brought : brought + stays_weight source k u' l' ≡ brought_weight source e.changes =
     b ∙ ap₂ (λ (r q : RuleParts). brought_weight source (edit_of k r q).changes) same same' ∙ ap (λ (d : Edit). brought_weight source d.changes) (edit_is items k u l above below e is) in
     let law : size source (edited e items) + taken_weight source k u l ≡ size source items + brought_weight source e.changes = steps_weigh source items k e is sound u l above below in
-    across (size source (edited e items)) taken (size source items) brought
-    (ap (λ (n : ℕ). size source (edited e items) + n) is_taken ∙ law ∙ ap (λ (n : ℕ). size source items + n) (sym is_brought))
+    across (size source (edited e items)) taken (size source items) brought (omega (arith, is_taken, is_brought, law))

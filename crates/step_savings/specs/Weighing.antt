@@ -1,14 +1,18 @@
 -- Rules whose parts can be weighed.
-use Rattle.std.specs.Prelude.{ℕ, ◌≤◌, ◌&&◌, not, if◌then◌else◌, List, [], ◌∷◌}
+use Rattle.std.specs.Prelude.{ℕ, ◌+◌, ◌≤◌, ◌&&◌, not, if◌then◌else◌, List, [], ◌∷◌}
 use Rattle.std.specs.List.{AllByRecursion}
 use Rattle.css_model.specs.declared.sheet.DeclItem.{DeclItem}
+use Rattle.css_model.specs.declared.sheet.Item.{Item}
 use Rattle.css_model.specs.Sheets.Limits.{max_bytes}
 use Rattle.css_model.specs.Sheets.Printed.{printed_selector, printed_declaration}
 use Rattle.css_model.specs.Sheets.RuleParts.{RuleParts}
 use Rattle.css_model.specs.Sheets.Sound.{IsSoundSelector, IsSoundDeclaration}
 use Rattle.step_savings.specs.declared.savings.Parts.{Parts}
 use Rattle.order_laws.specs.Members.{has_decl}
-use Rattle.step_laws.specs.Sizes.{weight}
+use Rattle.step_laws.specs.RuleParting.{rule_or_none, without_decls}
+use Rattle.step_laws.specs.Sizes.{weight, rules_weight}
+use Rattle.step_laws.specs.declared.step.Step.{Step}
+use Rattle.step_laws.specs.declared.step.Step.TheVariants.{Share}
 
 -- the rule of these parts
 abbrev pub rule_of : Parts → RuleParts
@@ -25,3 +29,15 @@ pub record IsWeighable (source : List ℕ) (r : RuleParts) : Type 0 where
 abbrev pub last_common : List DeclItem → List DeclItem → List DeclItem
 last_common others [] = []
 last_common others (d ∷ ds) = if has_decl others d.decl && not (has_decl ds d.decl) then d ∷ last_common others ds else last_common others ds
+
+-- what is left of a rule without what it has in common with another one
+abbrev pub rest_of : RuleParts → RuleParts → List Item
+rest_of r other = rule_or_none (without_decls other.decls r)
+
+abbrev pub rest_weight : List ℕ → RuleParts → RuleParts → ℕ
+rest_weight source r other = rules_weight source (rest_of r other)
+
+-- the weight of what a step leaves of its rules as it was: of a share what each of them has alone
+abbrev pub stays_weight : List ℕ → Step → RuleParts → RuleParts → ℕ
+stays_weight source (Share x y) upper lower = rest_weight source upper lower + rest_weight source lower upper
+stays_weight source _ upper lower = 0

@@ -4,11 +4,13 @@
 mod lengths;
 mod members;
 mod rules;
+mod sameness;
 mod savings;
 mod weights;
 
 pub use lengths::saving;
-pub use members::{has_decl, has_selector};
+pub use members::{are_decls_among, has_decl, has_selector};
 pub use rules::{items_of, rule_at};
+pub use sameness::is_same_decl;
 pub use savings::saving_by;
 pub use weights::Lengths;

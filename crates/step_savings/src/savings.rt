@@ -1,7 +1,8 @@
 //! What a step saves.
 
-ghost use Rattle.std.specs.Prelude.{◌≡◌, ◌+◌, ◌≤◌, ◌++◌, ◌==◌, ◌||◌, ◌*◌, if◌then◌else◌, ◌-ℤ◌, ◌<◌, Some, pos, length, not, slice_get};
+ghost use Rattle.std.specs.Prelude.{◌≡◌, ◌∷◌, [], true, false, ◌+◌, ◌≤◌, ◌++◌, ◌==◌, ◌||◌, ◌*◌, if◌then◌else◌, ◌-ℤ◌, ◌<◌, Some, pos, length, not, slice_get};
 ghost use Rattle.std.specs.List.{AllByRecursion, filter, remove};
+ghost use Rattle.css_model.specs.declared.sheet.Item.TheVariants as item;
 ghost use Rattle.css_model.specs.Sheets.Limits.{max_bytes};
 ghost use Rattle.css_model.specs.Sheets.Printed.{printed_selector, printed_declaration};
 ghost use Rattle.css_model.specs.Sheets.Sound.{IsSound, IsSoundDeclaration, IsSoundSelector};
@@ -14,9 +15,10 @@ ghost use Rattle.step_laws.specs.Sizes as sizes;
 ghost use Rattle.step_laws.specs.StepEdits as kinds;
 ghost use Rattle.step_laws.specs.Steps.{HasStep, IsStep, edit_of};
 
+use crate::members::are_decls_among;
 use crate::rules::{items_of, rule_at};
 use crate::weights::{
-    Lengths, common_decls_weight, decls_weight, new_decls_weight, new_selectors_weight,
+    Lengths, common_decls_weight, decls_among_weight, decls_weight, new_selectors_weight,
     selectors_weight,
 };
 use css_model::{DeclItem, Rule, SelItem, Sheet};
@@ -159,16 +161,40 @@ fn join_decls_weight<L: Lengths>(
     selectors + decls
 }
 
-/// The weight of what is left of a rule without what it has in common with another one.
-#[tactic(auto, using(crate::proofs::PartWeights::left_weighs_as))]
-fn rest_weight<L: Lengths>(lengths: &L, rule: &Parts, other: &Parts) -> u64
+/// Whether nothing is left of a rule without what it has in common with another one.
+#[tactic(auto, using(crate::proofs::ShareWeights::gone_without, crate::proofs::ShareWeights::gone_with_all, crate::proofs::ShareWeights::stays))]
+fn is_gone(rule: &Parts, other: &Parts) -> bool
+    ensures gone { result ≡ true → weighing.rest_of (weighing.rule_of rule.now) (weighing.rule_of other.now) ≡ [] }
+    ensures stays { result ≡ false → weighing.rest_of (weighing.rule_of rule.now) (weighing.rule_of other.now) ≡ item.Rule (parting.without_decls other.now.decls.now (weighing.rule_of rule.now)) ∷ [] }
+{
+    if rule.selectors.is_empty() {
+        return true;
+    }
+    are_decls_among(rule.decls, other.decls)
+}
+
+/// The weight of a rule.
+fn rule_weight<L: Lengths>(lengths: &L, rule: &Parts) -> u64
     requires weighable { weighing.IsWeighable (L.source lengths.now) (weighing.rule_of rule.now) }
-    ensures exact { result ≡ sizes.rules_weight (L.source lengths.now) (parting.rule_or_none (parting.without_decls other.now.decls.now (weighing.rule_of rule.now))) }
-    ensures small { result ≤ 4 * max_bytes }
+    ensures exact { result ≡ sizes.rule_weight (L.source lengths.now) (weighing.rule_of rule.now) }
+    ensures small { result ≤ 2 * max_bytes }
 {
     let selectors = selectors_weight(lengths, rule.selectors);
-    let decls = new_decls_weight(lengths, rule.decls, other.decls);
-    left_weight(selectors, decls)
+    let decls = decls_weight(lengths, rule.decls);
+    selectors + decls
+}
+
+/// What a rule weighs more than what is left of it without what it has in common with another one.
+#[tactic(auto, using(crate::proofs::ShareWeights::gone_weighs, crate::proofs::ShareWeights::common_weigh))]
+fn lost_weight<L: Lengths>(lengths: &L, rule: &Parts, other: &Parts) -> u64
+    requires weighable { weighing.IsWeighable (L.source lengths.now) (weighing.rule_of rule.now) }
+    ensures exact { result + weighing.rest_weight (L.source lengths.now) (weighing.rule_of rule.now) (weighing.rule_of other.now) ≡ sizes.rule_weight (L.source lengths.now) (weighing.rule_of rule.now) }
+    ensures small { result ≤ 2 * max_bytes }
+{
+    if is_gone(rule, other) {
+        return rule_weight(lengths, rule);
+    }
+    decls_among_weight(lengths, rule.decls, other.decls)
 }
 
 /// The weight of a rule with the selectors of both and their common declarations.
@@ -183,28 +209,14 @@ fn shared_weight<L: Lengths>(lengths: &L, upper: &Parts, lower: &Parts) -> u64
     selectors + decls
 }
 
-/// The weight of what a share makes of two rules.
-#[tactic(auto, using(crate::proofs::ShareWeights::share_weighs))]
-fn share_weight<L: Lengths>(lengths: &L, x: u32, y: u32, upper: &Parts, lower: &Parts) -> u64
-    requires upper { weighing.IsWeighable (L.source lengths.now) (weighing.rule_of upper.now) }
-    requires lower { weighing.IsWeighable (L.source lengths.now) (weighing.rule_of lower.now) }
-    ensures exact { result ≡ sizes.brought_weight (L.source lengths.now) (kinds.share x y (weighing.rule_of upper.now) (weighing.rule_of lower.now)).changes }
-    ensures small { result ≤ 12 * max_bytes }
-{
-    let above = rest_weight(lengths, upper, lower);
-    let made = shared_weight(lengths, upper, lower);
-    let below = rest_weight(lengths, lower, upper);
-    above + (made + below)
-}
-
 /// The weight of what a step makes of an upper and a lower rule, or of one that is cut, which then stands
-/// twice here.
+/// twice here; but for what a share leaves of its rules.
 fn brought_weight<L: Lengths>(lengths: &L, step: &Step, upper: &Parts, lower: &Parts) -> u64
     requires upper { weighing.IsWeighable (L.source lengths.now) (weighing.rule_of upper.now) }
     requires lower { weighing.IsWeighable (L.source lengths.now) (weighing.rule_of lower.now) }
     requires part { HasPart step.now (weighing.rule_of upper.now) }
-    ensures exact { result ≡ sizes.brought_weight (L.source lengths.now) (edit_of step.now (weighing.rule_of upper.now) (weighing.rule_of lower.now)).changes }
-    ensures small { result ≤ 12 * max_bytes }
+    ensures exact { result + weighing.stays_weight (L.source lengths.now) step.now (weighing.rule_of upper.now) (weighing.rule_of lower.now) ≡ sizes.brought_weight (L.source lengths.now) (edit_of step.now (weighing.rule_of upper.now) (weighing.rule_of lower.now)).changes }
+    ensures small { result ≤ 4 * max_bytes }
 {
     match *step {
         Step::CutDecl { decl, .. } => cut_decl_weight(lengths, upper, decl),
@@ -233,32 +245,25 @@ fn brought_weight<L: Lengths>(lengths: &L, step: &Step, upper: &Parts, lower: &P
             lower.selectors,
             lower.decls,
         ),
-        Step::Share { upper: x, lower: y } => share_weight(lengths, x, y, upper, lower),
+        Step::Share { .. } => shared_weight(lengths, upper, lower),
     }
 }
 
-/// The weight of a rule.
-fn rule_weight<L: Lengths>(lengths: &L, rule: &Parts) -> u64
-    requires weighable { weighing.IsWeighable (L.source lengths.now) (weighing.rule_of rule.now) }
-    ensures exact { result ≡ sizes.rule_weight (L.source lengths.now) (weighing.rule_of rule.now) }
-    ensures small { result ≤ 2 * max_bytes }
-{
-    let selectors = selectors_weight(lengths, rule.selectors);
-    let decls = decls_weight(lengths, rule.decls);
-    selectors + decls
-}
-
-/// The weight of the rules that a step takes.
+/// The weight of the rules that a step takes, but for what a share leaves of them.
 fn taken_weight<L: Lengths>(lengths: &L, step: &Step, upper: &Parts, lower: &Parts) -> u64
     requires upper { weighing.IsWeighable (L.source lengths.now) (weighing.rule_of upper.now) }
     requires lower { weighing.IsWeighable (L.source lengths.now) (weighing.rule_of lower.now) }
-    ensures exact { result ≡ sizes.taken_weight (L.source lengths.now) step.now (weighing.rule_of upper.now) (weighing.rule_of lower.now) }
+    ensures exact { result + weighing.stays_weight (L.source lengths.now) step.now (weighing.rule_of upper.now) (weighing.rule_of lower.now) ≡ sizes.taken_weight (L.source lengths.now) step.now (weighing.rule_of upper.now) (weighing.rule_of lower.now) }
     ensures small { result ≤ 4 * max_bytes }
 {
-    let above = rule_weight(lengths, upper);
     match step {
-        Step::CutDecl { .. } | Step::CutSel { .. } => above,
-        _ => above + rule_weight(lengths, lower),
+        Step::CutDecl { .. } | Step::CutSel { .. } => rule_weight(lengths, upper),
+        Step::Share { .. } => lost_weight(lengths, upper, lower)
+            + lost_weight(lengths, lower, upper),
+        Step::JoinSelUp { .. }
+        | Step::JoinSelDown { .. }
+        | Step::JoinDeclUp { .. }
+        | Step::JoinDeclDown { .. } => rule_weight(lengths, upper) + rule_weight(lengths, lower),
     }
 }
 

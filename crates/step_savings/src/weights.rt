@@ -86,21 +86,21 @@ pub(crate) fn new_selectors_weight<L: Lengths>(
     total
 }
 
-/// The weight of those of the declarations that are not among the others.
-pub(crate) fn new_decls_weight<L: Lengths>(
+/// The weight of those of the declarations that are among the others.
+pub(crate) fn decls_among_weight<L: Lengths>(
     lengths: &L,
     items: &[DeclItem],
     others: &[DeclItem],
 ) -> u64
     requires sound { AllByRecursion (IsSoundDeclaration (L.source lengths.now)) items.now }
     requires small { sizes.weight (printed_declaration (L.source lengths.now)) items.now ≤ max_bytes }
-    ensures exact { result ≡ sizes.weight (printed_declaration (L.source lengths.now)) (filter (λ d. not (members.has_decl others.now d.decl)) items.now) }
+    ensures exact { result ≡ sizes.weight (printed_declaration (L.source lengths.now)) (filter (λ d. members.has_decl others.now d.decl) items.now) }
     ensures small { result ≤ max_bytes }
 {
     let mut total: u64 = 0;
     let mut rest = items;
     'rest: while let Some((first, behind)) = rest.split_first() {
-        if !has_decl(others, &first.decl) {
+        if has_decl(others, &first.decl) {
             total += lengths.decl(first) + 1;
         }
         rest = behind;
