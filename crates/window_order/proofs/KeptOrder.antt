@@ -1,7 +1,7 @@
 -- Which pairs come last before a kept item.
-use Rattle.std.proofs.Common.{◌≡◌, ◌↔◌, ◌⊎◌, ℕ, zero, suc, ◌+◌, ◌<◌, ◌≤◌, true, List, [], ◌∷◌, ◌++◌, length, take, drop, Some, None, refl, sym, ap, ◌∙◌, subst, inl, inr, append_assoc, arith}
+use Rattle.std.proofs.Common.{◌≡◌, ◌↔◌, ◌⊎◌, ℕ, zero, suc, ◌+◌, ◌<◌, ◌≤◌, Bool, true, false, not, ◌&&◌, ◌||◌, List, [], ◌∷◌, ◌++◌, length, take, drop, Some, None, refl, sym, ap, ◌∙◌, subst, inl, inr, append_assoc, arith}
 use Rattle.std.specs.Prelude.{slice_get}
-use Rattle.std.proofs.lemmas.Bool.{false≢true}
+use Rattle.std.proofs.lemmas.Bool.{false≢true, and_from, and_parts, false_from_ne_true, not-true, not_from_false, or_cases, or_left, or_right}
 use Rattle.std.proofs.lemmas.List.Elements.{filter-append}
 use Rattle.cascade_laws.proofs.ForCallers.{some-same}
 use Rattle.css_model.specs.Cascade.Order.{Pair, HasPair, IsLast, IsBeforeKept}
@@ -10,7 +10,13 @@ use Rattle.css_model.specs.declared.sheet.Item.{Item}
 use Rattle.css_model.specs.declared.sheet.Item.TheVariants.{Rule, KeptRule, KeptBlock}
 use Rattle.css_model.specs.Sheets.KeptItems.{is_kept, kept_before, kept_items}
 use Rattle.order_laws.proofs.ForCallers.{has_append, last_of, LastBehind, BehindInTwo, behind_in_two}
-use Rattle.window_order.proofs.StandingTests.{kept_has_none}
+use Rattle.order_laws.specs.Reversing.{Differ}
+use Rattle.window_order.proofs.LastFound.{no, told_as}
+use Rattle.window_order.proofs.PairOrders.{none_differ}
+use Rattle.window_order.proofs.StandingTests.{kept_has_none, stands_is}
+use Rattle.window_order.specs.Orders.{AreAlwaysSameKept, AreKeptEnds, HasOtherPlace, comes_before_kept}
+use Rattle.window_order.specs.Standing.{stands}
+use Rattle.window_order.specs.declared.kept.KeptEnds.{KeptEnds}
 
 -- ---- Lists
 
@@ -125,3 +131,55 @@ module _ (first middle last : List Item) (number : ℕ) (item : Item) (at : slic
       subst (λ (xs : List Item). IsBeforeKept xs p (length (kept_items first) + kept_before number middle) ↔ StandsAbove first (take number middle) (drop (number + 1) middle) last p) (sym parted)
       (subst (λ (k : ℕ). IsBeforeKept (above ++ item ∷ below) p k ↔ StandsAbove first (take number middle) (drop (number + 1) middle) last p) counted
       (λ b. there p ((kept_order above below item p kept).0 b), λ h. (kept_order above below item p kept).1 (back p h)))
+
+-- ---- By the parts at the ends
+
+sides : {F A L B : Type 0} (f a l : Bool) → (f ≡ true) ↔ F → (a ≡ true) ↔ A → (l ≡ true) ↔ L → (B → ⊥) → (((f || a) && not l) ≡ true) ↔ ((F ⊎ A) × ((L ⊎ B) → ⊥))
+sides {F} {A} {L} {B} f a l in_first in_above in_last none = (λ e. there (and_parts (f || a) (not l) e), λ h. and_from (f || a) (not l) (back h.0) (not_from_false l (false_from_ne_true l (λ e. h.1 (inl (in_last.0 e))))))
+  where
+    which : (f ≡ true) ⊎ (a ≡ true) → F ⊎ A
+    which (inl e) = inl (in_first.0 e)
+    which (inr e) = inr (in_above.0 e)
+
+    not_last : l ≡ false → L ⊎ B → ⊥
+    not_last e (inl h) = false≢true (sym e ∙ in_last.1 h)
+    not_last e (inr h) = none h
+
+    there : ((f || a) ≡ true) × (not l ≡ true) → (F ⊎ A) × ((L ⊎ B) → ⊥)
+    there w = (which (or_cases f a w.0), not_last (not-true l w.1))
+
+    back : F ⊎ A → (f || a) ≡ true
+    back (inl h) = or_left f a (in_first.1 h)
+    back (inr h) = or_right f a (in_above.1 h)
+
+module _ (middle : List Item) (number : ℕ) (item : Item) (at : slice_get middle number ≡ Some item) (kept : is_kept item ≡ true) (p : Pair) where
+  -- the first part has no kept items
+  order_in : (first last : List Item) → kept_items first ≡ [] → IsBeforeKept (first ++ (middle ++ last)) p (kept_before number middle) ↔ StandsAbove first (take number middle) (drop (number + 1) middle) last p
+  order_in first last plain = subst (λ (n : ℕ). IsBeforeKept (first ++ (middle ++ last)) p n ↔ StandsAbove first (take number middle) (drop (number + 1) middle) last p)
+      (ap (λ (xs : List Item). length xs + kept_before number middle) plain ∙ zero_first (kept_before number middle)) (kept_order_in first middle last number item at p kept)
+    where
+      zero_first : (n : ℕ) → 0 + n ≡ n
+      zero_first n = omega arith
+
+  pub before_kept_with : (first last : List Item) (ends : KeptEnds) (above : Bool) → AreKeptEnds first last p ends → kept_items first ≡ [] → (HasPair (drop (number + 1) middle) p → ⊥) → (above ≡ true) ↔ HasPair (take number middle) p →
+      (comes_before_kept ends above ≡ true) ↔ IsBeforeKept (first ++ (middle ++ last)) p (kept_before number middle)
+  before_kept_with first last ends above are plain none told = told_as (comes_before_kept ends above) (sides ends.above above ends.below are.0 told are.1 none) (order_in first last plain)
+
+  -- where the pair stands below, it does not come last before the item
+  pub none_before : (first last first' last' : List Item) → kept_items first ≡ [] → kept_items first' ≡ [] → HasPair (drop (number + 1) middle) p →
+      Differ (IsBeforeKept (first ++ (middle ++ last)) p (kept_before number middle)) (IsBeforeKept (first' ++ (middle ++ last')) p (kept_before number middle)) → ⊥
+  none_before first last first' last' plain plain' has (inl d) = ((order_in first last plain).0 d.0).1 (inr has)
+  none_before first last first' last' plain plain' has (inr d) = ((order_in first' last' plain').0 d.1).1 (inr has)
+
+  -- it need not be known where it stands between, where the parts at the ends tell
+  pub never_other_place : (old new : KeptEnds) → AreAlwaysSameKept old new → HasOtherPlace old new middle number p false
+  never_other_place old new same first last first' last' are are' plain plain' = no (λ d. which (stands (drop (number + 1) middle) p) refl d)
+    where
+      which : (b : Bool) → stands (drop (number + 1) middle) p ≡ b → Differ (IsBeforeKept (first ++ (middle ++ last)) p (kept_before number middle)) (IsBeforeKept (first' ++ (middle ++ last')) p (kept_before number middle)) → ⊥
+      which true e d = none_before first last first' last' plain plain' ((stands_is (drop (number + 1) middle) p).0 e) d
+      which false e d =
+          let none : HasPair (drop (number + 1) middle) p → ⊥ = λ h. false≢true (sym e ∙ (stands_is (drop (number + 1) middle) p).1 h) in
+          let above : Bool = stands (take number middle) p in
+          none_differ (comes_before_kept old above) (comes_before_kept new above) (same above)
+          (before_kept_with first last old above are plain none (stands_is (take number middle) p))
+          (before_kept_with first' last' new above are' plain' none (stands_is (take number middle) p)) d

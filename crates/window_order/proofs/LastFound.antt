@@ -47,7 +47,7 @@ above_all items p q = record { behind = []; parts = append_nil items; first = no
     append_nil [] = refl
     append_nil (x ∷ xs) = ap (λ ys. x ∷ ys) (append_nil xs)
 
-in_neither : (xs ys : List Item) (p : Pair) → (HasPair xs p → ⊥) → (HasPair ys p → ⊥) → HasPair (xs ++ ys) p → ⊥
+pub in_neither : (xs ys : List Item) (p : Pair) → (HasPair xs p → ⊥) → (HasPair ys p → ⊥) → HasPair (xs ++ ys) p → ⊥
 in_neither xs ys p f g h = which ((has_append xs ys p).0 h)
   where
     which : HasPair xs p ⊎ HasPair ys p → ⊥
@@ -146,39 +146,9 @@ no {P} h = (λ e. absurd (false≢true e), λ g. absurd (h g))
 pub told_as : {P Q : Type 0} (b : Bool) → (b ≡ true) ↔ P → Q ↔ P → (b ≡ true) ↔ Q
 told_as {P} {Q} b f g = (λ e. g.1 (f.0 e), λ h. f.1 (g.0 h))
 
--- the second of two facts decides, where the first one fails
-pub or_second : {P Q : Type 0} (a b : Bool) → a ≡ false → (a ≡ true) ↔ P → (b ≡ true) ↔ Q → (b ≡ true) ↔ (P ⊎ Q)
-or_second {P} {Q} a b e f g = (λ h. inr (g.0 h), back)
-  where
-    back : P ⊎ Q → b ≡ true
-    back (inl h) = absurd (false≢true (sym e ∙ f.1 h))
-    back (inr h) = g.1 h
-
 pub second_alone : (items above : List Item) (p q : Pair) → IsSecond items above p q → IsBefore items p q ↔ HasPair above p
 second_alone items above p q s = (λ b. there ((second_in [] items above p q s).0 b), λ h. (second_in [] items above p q s).1 (inr h))
   where
     there : HasPair [] p ⊎ HasPair above p → HasPair above p
     there (inl h) = absurd (nothing p h)
     there (inr h) = h
-
--- ---- In three parts
-
-module _ (first middle last : List Item) (p q : Pair) where
-  assoc : first ++ (middle ++ last) ≡ (first ++ middle) ++ last
-  assoc = sym (append_assoc first middle last)
-
-  pub three_before : IsBefore last p q → IsBefore (first ++ (middle ++ last)) p q
-  three_before b = subst (λ xs. IsBefore xs p q) (sym assoc) (before_in (first ++ middle) last p q b)
-
-  pub three_not_before : HasPair last p × (IsBefore last p q → ⊥) → IsBefore (first ++ (middle ++ last)) p q → ⊥
-  three_not_before h b = not_before_in (first ++ middle) last p q h (subst (λ xs. IsBefore xs p q) assoc b)
-
-  pub three_second : (above : List Item) → IsSecond last above p q → IsBefore (first ++ (middle ++ last)) p q ↔ (HasPair (first ++ middle) p ⊎ HasPair above p)
-  three_second above s = subst (λ xs. IsBefore xs p q ↔ (HasPair (first ++ middle) p ⊎ HasPair above p)) (sym assoc) (second_in (first ++ middle) last above p q s)
-
-  pub three_neither : (HasPair last p → ⊥) × (HasPair last q → ⊥) → IsBefore (first ++ (middle ++ last)) p q ↔ IsBefore (first ++ middle) p q
-  three_neither h = subst (λ xs. IsBefore xs p q ↔ IsBefore (first ++ middle) p q) (sym assoc) (neither_in (first ++ middle) last p q h)
-
--- a test of one fact, where another one holds
-pub second_left : {P Q : Type 0} (b : Bool) → (Q → ⊥) → (b ≡ true) ↔ P → (b ≡ true) ↔ (P × (Q → ⊥))
-second_left {P} {Q} b f g = (λ e. (g.0 e, f), λ h. g.1 h.0)

@@ -1,5 +1,6 @@
 mod KeptOrder
 mod LastFound
 mod MaskedTests
+mod PairOrders
 mod StandingTests
 mod WindowTests

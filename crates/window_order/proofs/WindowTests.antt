@@ -1,17 +1,10 @@
 -- What the tests of a window tell.
-use Rattle.std.proofs.Common.{◌≡◌, ◌↔◌, ℕ, Bool, true, false, not, refl, sym, ◌∙◌, inl, inr}
-use Rattle.std.specs.Bool.{beq}
+use Rattle.std.proofs.Common.{◌≡◌, ◌↔◌, ℕ, Bool, true, false, not, sym, ◌∙◌}
 use Rattle.std.proofs.lemmas.Bool.{false≢true, not-true, not_from_false, false_from_ne_true}
 use Rattle.css_model.specs.Cascade.Order.{Pair, HasPair, IsBefore, IsBeforeKept}
 use Rattle.order_laws.specs.Reversing.{Differ}
 use Rattle.window_order.specs.declared.window.Window.{Window}
 use Rattle.window_order.specs.Reversed.{IsReversed, IsKeptReversed, behind_of, new_of, old_of}
-
-differ : (P Q : Type 0) (a b : Bool) → beq a b ≡ false → (a ≡ true) ↔ P → (b ≡ true) ↔ Q → Differ P Q
-differ P Q true true e f g = absurd (false≢true (sym e))
-differ P Q true false e f g = inl (f.0 refl, λ h. false≢true (g.1 h))
-differ P Q false true e f g = inr (λ h. false≢true (f.1 h), g.0 refl)
-differ P Q false false e f g = absurd (false≢true (sym e))
 
 module _ (w : Window) (p : Pair) where
   none_behind : (s : Bool) → s ≡ false → (s ≡ true) ↔ HasPair (behind_of w) p → HasPair (behind_of w) p → ⊥
@@ -20,22 +13,22 @@ module _ (w : Window) (p : Pair) where
   not_behind : (s : Bool) → (s ≡ true) ↔ HasPair (behind_of w) p → (HasPair (behind_of w) p → ⊥) → not s ≡ true
   not_behind s f none = not_from_false s (false_from_ne_true s (λ e. none (f.0 e)))
 
-pub reversed_told : (w : Window) (p q : Pair) (old new first second : Bool) → beq old new ≡ false → (old ≡ true) ↔ IsBefore (old_of w) p q → (new ≡ true) ↔ IsBefore (new_of w) p q → first ≡ false →
+pub reversed_told : (w : Window) (p q : Pair) (other first second : Bool) → other ≡ true → (other ≡ true) ↔ Differ (IsBefore (old_of w) p q) (IsBefore (new_of w) p q) → first ≡ false →
     (first ≡ true) ↔ HasPair (behind_of w) p → (second ≡ true) ↔ HasPair (behind_of w) q → (not second ≡ true) ↔ IsReversed w p q
-reversed_told w p q old new first second e f g not_first by_first by_second = (
+reversed_told w p q other first second is_other by_order not_first by_first by_second = (
   λ h. record {
-    order = differ (IsBefore (old_of w) p q) (IsBefore (new_of w) p q) old new e f g;
+    order = by_order.0 is_other;
     first = none_behind w p first not_first by_first;
     second = none_behind w q second (not-true second h) by_second;
   },
   λ r. not_behind w q second by_second r.second,
 )
 
-pub kept_reversed_told : (w : Window) (p : Pair) (n : ℕ) (old new first : Bool) → beq old new ≡ false → (old ≡ true) ↔ IsBeforeKept (old_of w) p n → (new ≡ true) ↔ IsBeforeKept (new_of w) p n →
+pub kept_reversed_told : (w : Window) (p : Pair) (n : ℕ) (other first : Bool) → other ≡ true → (other ≡ true) ↔ Differ (IsBeforeKept (old_of w) p n) (IsBeforeKept (new_of w) p n) →
     (first ≡ true) ↔ HasPair (behind_of w) p → (not first ≡ true) ↔ IsKeptReversed w p n
-kept_reversed_told w p n old new first e f g by_first = (
+kept_reversed_told w p n other first is_other by_order by_first = (
   λ h. record {
-    order = differ (IsBeforeKept (old_of w) p n) (IsBeforeKept (new_of w) p n) old new e f g;
+    order = by_order.0 is_other;
     first = none_behind w p first (not-true first h) by_first;
   },
   λ r. not_behind w p first by_first r.first,

@@ -1,5 +1,6 @@
 pub mod Between
 pub mod Found
+pub mod Orders
 pub mod Reversed
 pub mod Standing
 pub mod Weighing

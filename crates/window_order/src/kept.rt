@@ -1,37 +1,82 @@
 //! Whether a pair comes last before a kept item.
 
-ghost use Rattle.std.specs.Prelude.{◌≡◌, ◌↔◌, ◌+◌, ◌++◌, ◌<◌, IsTrue, Some, true, drop, length, slice_get};
+ghost use Rattle.std.specs.Prelude.{◌≡◌, ◌↔◌, ◌+◌, ◌<◌, IsTrue, Some, true, drop, length, map, slice_get, take};
 ghost use Rattle.css_model.specs.declared.sheet.Item as declared;
-ghost use Rattle.css_model.specs.Cascade.Order.{IsBeforeKept};
+ghost use Rattle.css_model.specs.Cascade.Order.{HasPair};
 ghost use Rattle.css_model.specs.Sheets.KeptItems as keeping;
+ghost use Rattle.related_props.specs.Masks.{decl_mask, item_mask};
+ghost use Rattle.window_order.specs.Orders as orders;
 
+use crate::masked::{pair_mask, stands_with_mask};
 use crate::pair::PairRef;
-use crate::standing::stands_in_two;
 use css_model::Item;
 
-/// The items below the one of this number.
-fn below(items: &[Item], number: usize) -> &[Item]
-    requires { number < length items.now }
-    ensures { result.now ≡ drop (number + 1) items.now }
-{
-    &items[number + 1..]
+/// Whether a pair stands in the parts at the ends of a window.
+#[derive(Clone, Copy)]
+pub(crate) struct KeptEnds {
+    /// In the first part.
+    pub above: bool,
+    /// In the last part.
+    pub below: bool,
 }
 
-/// Whether the last of a pair stands before the kept item of this number of the middle one of three parts.
-pub(crate) fn before_kept_of(
-    first: &[Item],
+/// Whether a pair, which does not stand below a kept item of the middle part, comes last before it, by whether it
+/// stands above it in that part.
+fn comes_before_kept(ends: KeptEnds, above: bool) -> bool
+    ensures { result ≡ orders.comes_before_kept ends above }
+{
+    (ends.above || above) && !ends.below
+}
+
+/// Whether it comes last before it or not both before and after a step, wherever it stands between.
+fn always_same_kept(old: KeptEnds, new: KeptEnds) -> bool
+    ensures { IsTrue result ↔ orders.AreAlwaysSameKept old new }
+{
+    comes_before_kept(old, false) == comes_before_kept(new, false)
+        && comes_before_kept(old, true) == comes_before_kept(new, true)
+}
+
+/// Whether a pair stands in the items below the one of this number, by its mask and theirs.
+fn stands_below(items: &[Item], masks: &[u64], number: usize, mask: u64, p: &PairRef<'_>) -> bool
+    requires number { number < length items.now }
+    requires items { masks.now ≡ map item_mask items.now }
+    requires pair { mask ≡ decl_mask p.now.decl }
+    ensures { IsTrue result ↔ HasPair (drop (number + 1) items.now) p.now }
+{
+    stands_with_mask(&items[number + 1..], &masks[number + 1..], mask, p)
+}
+
+/// Whether it stands in the items above the one of this number.
+fn stands_above(items: &[Item], masks: &[u64], number: usize, mask: u64, p: &PairRef<'_>) -> bool
+    requires number { number < length items.now }
+    requires items { masks.now ≡ map item_mask items.now }
+    requires pair { mask ≡ decl_mask p.now.decl }
+    ensures { IsTrue result ↔ HasPair (take number items.now) p.now }
+{
+    stands_with_mask(&items[..number], &masks[..number], mask, p)
+}
+
+/// Whether a pair and the kept item of this number of the middle part have another order with the new parts at the
+/// ends. What lies between is looked at only where it may tell.
+pub(crate) fn has_other_place(
+    old: KeptEnds,
+    new: KeptEnds,
     middle: &[Item],
-    last: &[Item],
+    masks: &[u64],
     number: usize,
     p: &PairRef<'_>,
 ) -> bool
-    requires { (item : declared.Item) × (slice_get middle.now number ≡ Some item) × (keeping.is_kept item ≡ true) }
-    ensures { IsTrue result ↔ IsBeforeKept (first.now ++ (middle.now ++ last.now)) p.now (length (keeping.kept_items first.now) + keeping.kept_before number middle.now) }
+    requires kept { (item : declared.Item) × (slice_get middle.now number ≡ Some item) × (keeping.is_kept item ≡ true) }
+    requires items { masks.now ≡ map item_mask middle.now }
+    ensures { orders.HasOtherPlace old new middle.now number p.now result }
 {
-    let above = &middle[..number];
-    let below = below(middle, number);
-    if stands_in_two(last, below, p) {
+    if always_same_kept(old, new) {
         return false;
     }
-    stands_in_two(first, above, p)
+    let mask = pair_mask(p);
+    if stands_below(middle, masks, number, mask, p) {
+        return false;
+    }
+    let above = stands_above(middle, masks, number, mask, p);
+    comes_before_kept(old, above) != comes_before_kept(new, above)
 }

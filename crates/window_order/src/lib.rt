@@ -1,9 +1,9 @@
 //! The order of pairs and kept items in the part of a sheet that a step changes, before and after the step.
 #![tactic(auto)]
 
+mod ends;
 mod kept;
 mod masked;
-mod members;
 mod order;
 mod pair;
 mod reversing;

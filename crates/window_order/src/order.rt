@@ -1,11 +1,11 @@
-//! Which of two pairs comes last before the other.
+//! How two pairs stand in items, and which of them comes last before the other.
 
-ghost use Rattle.std.specs.Prelude.{◌↔◌, ◌⊎◌, IsTrue, ◌++◌};
-ghost use Rattle.css_model.specs.Cascade.Order.{HasPair, IsBefore};
+ghost use Rattle.std.specs.Prelude.{◌≡◌, ◌↔◌, IsTrue};
 ghost use Rattle.window_order.specs.Found.{IsFound, IsFoundLast};
+ghost use Rattle.window_order.specs.Orders as orders;
 
 use crate::pair::PairRef;
-use crate::standing::{comes_before_in_item, stands_in, stands_in_item, stands_in_two};
+use crate::standing::{comes_before_in_item, stands_in, stands_in_item};
 use css_model::Item;
 
 /// What the last of some items that has one of two pairs tells of their order.
@@ -21,8 +21,26 @@ pub(crate) enum Found<'a> {
     Neither,
 }
 
+/// How two pairs stand in some items.
+#[derive(Clone, Copy)]
+pub(crate) enum PairOrder {
+    /// The last of the first pair comes before the last of the second.
+    Before,
+    /// The first pair stands in them, and does not.
+    NotBefore,
+    /// The second one alone stands in them.
+    Second,
+    /// None of them stands in them.
+    Neither,
+}
+
 /// What an item tells that has these above it.
-fn found_last<'a>(above: &'a [Item], last: &Item, p: &PairRef<'_>, q: &PairRef<'_>) -> Found<'a>
+pub(crate) fn found_last<'a>(
+    above: &'a [Item],
+    last: &Item,
+    p: &PairRef<'_>,
+    q: &PairRef<'_>,
+) -> Found<'a>
     ensures { IsFoundLast above.now last.now p.now q.now result }
 {
     if stands_in_item(last, p) {
@@ -52,53 +70,26 @@ fn found_in<'a>(items: &'a [Item], p: &PairRef<'_>, q: &PairRef<'_>) -> Found<'a
     Found::Neither
 }
 
-/// Whether a pair stands in one of three parts.
-fn stands_in_three(first: &[Item], middle: &[Item], last: &[Item], p: &PairRef<'_>) -> bool
-    ensures { IsTrue result ↔ (HasPair (first.now ++ middle.now) p.now ⊎ HasPair last.now p.now) }
+/// How two pairs stand in items of which the last that has one has the second alone, by whether the first one stands
+/// above it.
+pub(crate) fn second_below(stands_above: bool) -> PairOrder
+    ensures { result ≡ orders.second_below stands_above }
 {
-    if stands_in_two(first, middle, p) {
-        return true;
+    if stands_above {
+        PairOrder::Before
+    } else {
+        PairOrder::Second
     }
-    stands_in(last, p)
 }
 
-/// Whether the last of a pair stands before the last of another one in some items.
-fn before_in_one(items: &[Item], p: &PairRef<'_>, q: &PairRef<'_>) -> bool
-    ensures { IsTrue result ↔ IsBefore items.now p.now q.now }
+/// How two pairs stand in some items.
+pub(crate) fn order_in(items: &[Item], p: &PairRef<'_>, q: &PairRef<'_>) -> PairOrder
+    ensures { orders.IsOrder items.now p.now q.now result }
 {
     match found_in(items, p, q) {
-        Found::Before => true,
-        Found::NotBefore | Found::Neither => false,
-        Found::Second(above) => stands_in(above, p),
-    }
-}
-
-/// Whether it does so in items, of which some lie above the others.
-fn before_in_two(above: &[Item], items: &[Item], p: &PairRef<'_>, q: &PairRef<'_>) -> bool
-    ensures { IsTrue result ↔ IsBefore (above.now ++ items.now) p.now q.now }
-{
-    match found_in(items, p, q) {
-        Found::Before => true,
-        Found::NotBefore => false,
-        Found::Second(between) => stands_in_two(above, between, p),
-        Found::Neither => before_in_one(above, p, q),
-    }
-}
-
-/// Whether it does so in the items of three parts. The first part is looked at early.
-pub(crate) fn before_in_three(
-    first: &[Item],
-    middle: &[Item],
-    last: &[Item],
-    p: &PairRef<'_>,
-    q: &PairRef<'_>,
-) -> bool
-    ensures { IsTrue result ↔ IsBefore (first.now ++ (middle.now ++ last.now)) p.now q.now }
-{
-    match found_in(last, p, q) {
-        Found::Before => true,
-        Found::NotBefore => false,
-        Found::Second(between) => stands_in_three(first, middle, between, p),
-        Found::Neither => before_in_two(first, middle, p, q),
+        Found::Before => PairOrder::Before,
+        Found::NotBefore => PairOrder::NotBefore,
+        Found::Second(above) => second_below(stands_in(above, p)),
+        Found::Neither => PairOrder::Neither,
     }
 }

@@ -5,12 +5,16 @@ ghost use Rattle.css_model.specs.declared.sheet.Item as declared;
 ghost use Rattle.css_model.specs.Cascade.Order.{HasPair, IsBefore, IsBeforeKept};
 ghost use Rattle.css_model.specs.Sheets.KeptItems.{is_kept};
 ghost use Rattle.related_props.specs.Masks.{item_mask};
+ghost use Rattle.order_laws.specs.Reversing.{Differ};
+ghost use Rattle.window_order.specs.Orders as orders;
 ghost use Rattle.window_order.specs.Reversed as reversed;
 
-use crate::kept::before_kept_of;
-use crate::masked::stands_by_masks;
-use crate::order::before_in_three;
+use crate::ends::{PairEnds, always_same, comes_before};
+use crate::kept::{KeptEnds, has_other_place};
+use crate::masked::{order_by_masks, stands_by_masks};
+use crate::order::{PairOrder, order_in};
 use crate::pair::PairRef;
+use crate::standing::stands_in;
 use crate::window::Window;
 use css_model::Item;
 
@@ -43,6 +47,13 @@ impl<'a> Window<'a> {
         &self.items[self.last + 1..]
     }
 
+    /// The masks of what lies between.
+    fn between_masks(&self) -> &'a [u64]
+        ensures { result.now ≡ map item_mask (reversed.middle_of self.now) }
+    {
+        &self.masks[self.middle..self.last]
+    }
+
     /// The masks of what lies behind.
     fn behind_masks(&self) -> &'a [u64]
         ensures { result.now ≡ map item_mask (reversed.behind_of self.now) }
@@ -57,25 +68,52 @@ impl<'a> Window<'a> {
         stands_by_masks(self.behind(), self.behind_masks(), p)
     }
 
-    /// Whether a pair comes last before another one in the window before the step.
-    fn before_in_old(&self, p: &PairRef<'_>, q: &PairRef<'_>) -> bool
-        ensures { IsTrue result ↔ IsBefore (reversed.old_of self.now) p.now q.now }
+    /// How two pairs stand in the parts at the ends before the step.
+    fn old_ends(&self, p: &PairRef<'_>, q: &PairRef<'_>) -> PairEnds
+        ensures { orders.AreEnds (reversed.first_of self.now) (reversed.last_of self.now) p.now q.now result }
     {
-        before_in_three(self.first(), self.between(), self.last(), p, q)
+        PairEnds {
+            above: order_in(self.first(), p, q),
+            below: order_in(self.last(), p, q),
+        }
     }
 
-    /// Whether it does so afterwards.
-    fn before_in_new(&self, p: &PairRef<'_>, q: &PairRef<'_>) -> bool
-        ensures { IsTrue result ↔ IsBefore (reversed.new_of self.now) p.now q.now }
+    /// How they do afterwards.
+    fn new_ends(&self, p: &PairRef<'_>, q: &PairRef<'_>) -> PairEnds
+        ensures { orders.AreEnds self.now.first_left.now self.now.last_left.now p.now q.now result }
     {
-        before_in_three(self.first_left, self.between(), self.last_left, p, q)
+        PairEnds {
+            above: order_in(self.first_left, p, q),
+            below: order_in(self.last_left, p, q),
+        }
+    }
+
+    /// How they stand in what lies between.
+    fn order_between(&self, p: &PairRef<'_>, q: &PairRef<'_>) -> PairOrder
+        ensures { orders.IsOrder (reversed.middle_of self.now) p.now q.now result }
+    {
+        order_by_masks(self.between(), self.between_masks(), p, q)
+    }
+
+    /// Whether two pairs have another order in the window afterwards. What lies between is looked at only where it
+    /// may tell.
+    fn has_other_order(&self, p: &PairRef<'_>, q: &PairRef<'_>) -> bool
+        ensures { IsTrue result ↔ Differ (IsBefore (reversed.old_of self.now) p.now q.now) (IsBefore (reversed.new_of self.now) p.now q.now) }
+    {
+        let old = self.old_ends(p, q);
+        let new = self.new_ends(p, q);
+        if always_same(old, new) {
+            return false;
+        }
+        let between = self.order_between(p, q);
+        comes_before(old, between) != comes_before(new, between)
     }
 
     /// Whether two pairs have another order in the window afterwards, and neither stands behind it.
     pub fn is_reversed(&self, p: &PairRef<'_>, q: &PairRef<'_>) -> bool
         ensures { IsTrue result ↔ reversed.IsReversed self.now p.now q.now }
     {
-        if self.before_in_old(p, q) == self.before_in_new(p, q) {
+        if !self.has_other_order(p, q) {
             return false;
         }
         if self.stands_behind(p) {
@@ -84,26 +122,37 @@ impl<'a> Window<'a> {
         !self.stands_behind(q)
     }
 
-    /// Whether a pair comes last before the kept item of this number in the window before the step.
-    fn before_kept_in_old(&self, p: &PairRef<'_>, number: usize) -> bool
-        requires above { self.now.start ≤ number }
-        requires below { number ≤ self.now.last }
-        requires kept { (item : declared.Item) × (slice_get self.now.items.now number ≡ Some item) × (is_kept item ≡ true) }
-        ensures { IsTrue result ↔ IsBeforeKept (reversed.old_of self.now) p.now (reversed.kept_number self.now number) }
+    /// Whether a pair stands in the parts at the ends before the step.
+    fn old_kept_ends(&self, p: &PairRef<'_>) -> KeptEnds
+        ensures { orders.AreKeptEnds (reversed.first_of self.now) (reversed.last_of self.now) p.now result }
     {
-        let place = number - self.middle;
-        before_kept_of(self.first(), self.between(), self.last(), place, p)
+        KeptEnds {
+            above: stands_in(self.first(), p),
+            below: stands_in(self.last(), p),
+        }
     }
 
     /// Whether it does so afterwards.
-    fn before_kept_in_new(&self, p: &PairRef<'_>, number: usize) -> bool
+    fn new_kept_ends(&self, p: &PairRef<'_>) -> KeptEnds
+        ensures { orders.AreKeptEnds self.now.first_left.now self.now.last_left.now p.now result }
+    {
+        KeptEnds {
+            above: stands_in(self.first_left, p),
+            below: stands_in(self.last_left, p),
+        }
+    }
+
+    /// Whether a pair and the kept item of this number have another order in the window afterwards.
+    fn has_other_kept_order(&self, p: &PairRef<'_>, number: usize) -> bool
         requires above { self.now.start ≤ number }
         requires below { number ≤ self.now.last }
         requires kept { (item : declared.Item) × (slice_get self.now.items.now number ≡ Some item) × (is_kept item ≡ true) }
-        ensures { IsTrue result ↔ IsBeforeKept (reversed.new_of self.now) p.now (reversed.kept_number self.now number) }
+        ensures { IsTrue result ↔ Differ (IsBeforeKept (reversed.old_of self.now) p.now (reversed.kept_number self.now number)) (IsBeforeKept (reversed.new_of self.now) p.now (reversed.kept_number self.now number)) }
     {
+        let old = self.old_kept_ends(p);
+        let new = self.new_kept_ends(p);
         let place = number - self.middle;
-        before_kept_of(self.first_left, self.between(), self.last_left, place, p)
+        has_other_place(old, new, self.between(), self.between_masks(), place, p)
     }
 
     /// Whether a pair and the kept item of this number have another order in the window afterwards, and the pair does
@@ -114,7 +163,7 @@ impl<'a> Window<'a> {
         requires kept { (item : declared.Item) × (slice_get self.now.items.now number ≡ Some item) × (is_kept item ≡ true) }
         ensures { IsTrue result ↔ reversed.IsKeptReversed self.now p.now (reversed.kept_number self.now number) }
     {
-        if self.before_kept_in_old(p, number) == self.before_kept_in_new(p, number) {
+        if !self.has_other_kept_order(p, number) {
             return false;
         }
         !self.stands_behind(p)

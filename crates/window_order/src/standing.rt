@@ -1,19 +1,23 @@
 //! Whether a pair stands in items.
 
-ghost use Rattle.std.specs.Prelude.{◌≡◌, ◌↔◌, ◌⊎◌, IsTrue, ◌∷◌, []};
+ghost use Rattle.std.specs.Prelude.{◌≡◌, ◌↔◌, IsTrue, ◌∷◌, []};
 ghost use Rattle.css_model.specs.Cascade.Order.{HasPair, IsBefore};
 ghost use Rattle.order_laws.specs.Members.{has_decl};
 ghost use Rattle.window_order.specs.Standing as standing;
 
-use crate::members::{has_decl, has_selector};
 use crate::pair::PairRef;
 use css_model::{Decl, DeclItem, Item, Rule};
+use step_savings::{has_decl, has_selector, is_same_decl};
 
-/// Whether a pair stands in a rule. Its declaration is looked for first: that takes less than a selector.
+/// Whether a pair stands in a rule. The shorter list is looked through first.
 fn is_in_rule(rule: &Rule, p: &PairRef<'_>) -> bool
     ensures { result ≡ standing.is_in_rule rule.now p.now }
 {
-    has_decl(&rule.decls, p.decl) && has_selector(&rule.selectors, p.selector)
+    if rule.selectors.len() <= rule.decls.len() {
+        has_selector(&rule.selectors, p.selector) && has_decl(&rule.decls, p.decl)
+    } else {
+        has_decl(&rule.decls, p.decl) && has_selector(&rule.selectors, p.selector)
+    }
 }
 
 /// Whether a pair stands in an item.
@@ -48,23 +52,13 @@ pub(crate) fn stands_in(items: &[Item], p: &PairRef<'_>) -> bool
     stands(items, p)
 }
 
-/// Whether a pair stands in one of two parts. The first one is looked at first.
-pub(crate) fn stands_in_two(above: &[Item], below: &[Item], p: &PairRef<'_>) -> bool
-    ensures { IsTrue result ↔ (HasPair above.now p.now ⊎ HasPair below.now p.now) }
-{
-    if stands_in(above, p) {
-        return true;
-    }
-    stands_in(below, p)
-}
-
 /// Whether the last of a declaration stands before the last of another one.
 fn decl_before(decls: &[DeclItem], first: &Decl, second: &Decl) -> bool
     ensures { result ≡ standing.decl_before decls.now first.now second.now }
 {
     let mut rest = decls;
     'rest: while let Some((decl, behind)) = rest.split_first() {
-        if decl.decl == *first && !has_decl(behind, first) {
+        if is_same_decl(&decl.decl, first) && !has_decl(behind, first) {
             return has_decl(behind, second);
         }
         rest = behind;

@@ -3,5 +3,5 @@ use Rattle.window_order.proofs.window.Window.is_reversed.Goals as goal
 
 pub returns : goal.returns
 returns c =
-    reversed_told c.args.self.now c.args.p.now c.args.q.now c.before_in_old.result c.before_in_new.result c.stands_behind.result c.stands_behind-2.result c.if-before_in_old-before_in_new.false c.before_in_old.ensures
-    c.before_in_new.ensures c.if-stands_behind.false c.stands_behind.ensures c.stands_behind-2.ensures
+    reversed_told c.args.self.now c.args.p.now c.args.q.now c.has_other_order.result c.stands_behind.result c.stands_behind-2.result c.if-not-has_other_order.false c.has_other_order.ensures
+    c.if-stands_behind.false c.stands_behind.ensures c.stands_behind-2.ensures
