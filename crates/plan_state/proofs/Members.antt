@@ -1,7 +1,7 @@
 -- Members of a list that are looked at one after the other.
-use Rattle.std.proofs.Common.{◌≡◌, ◌⊎◌, inl, inr, List, [], ◌∷◌, subst}
+use Rattle.std.proofs.Common.{◌≡◌, ◌⊎◌, inl, inr, List, [], ◌∷◌, map, subst}
 use Rattle.std.specs.List.{Contains}
-use Rattle.list_facts.proofs.Members.{Contains-cons_cases, Contains-nil}
+use Rattle.list_facts.proofs.Members.{Contains-cons_cases, Contains-here, Contains-nil, Contains-there}
 
 module _ {X : Type 0} where
   -- of all members each is done or still to come, and so it is once the next one is done, too
@@ -31,3 +31,11 @@ module _ {X : Type 0} where
       which : (x ≡ y) ⊎ Contains [] y → x ≡ y
       which (inl e) = e
       which (inr g) = absurd (Contains-nil y g)
+
+-- what is made of a part of a member is among what is made of these parts
+pub made_among : {S X Y : Type 0} (part : S → X) (made : X → Y) (xs : List S) (x : X) → Contains (map part xs) x → Contains (map (λ y. made (part y)) xs) (made x)
+made_among part made [] x h = absurd (Contains-nil x h)
+made_among part made (y ∷ ys) x h = elim (Contains-cons_cases (part y) (map part ys) x h) [
+  | inl e ↦ subst (λ z. Contains (made (part y) ∷ map (λ y. made (part y)) ys) (made z)) e (Contains-here (made (part y)) (map (λ y. made (part y)) ys))
+  | inr r ↦ Contains-there (made (part y)) (map (λ y. made (part y)) ys) (made x) (made_among part made ys x r)
+]

@@ -15,13 +15,21 @@ use Rattle.step_laws.specs.declared.step.Step.{Step}
 use Rattle.step_laws.specs.declared.step.Step.TheVariants.{CutDecl, CutSel, JoinSelUp, JoinSelDown, JoinDeclUp, JoinDeclDown, Share}
 use Rattle.step_laws.specs.Steps.{decls_of}
 
--- all leads that are set aside under the digests of a pair are among these
-abbrev pub HasLeadsUnder : List Entry → List Lead → SelectorParts → Decl → Type 0
-HasLeadsUnder entries leads s d = (l : Lead) → Contains entries (entry (selector_digest s) (decl_digest d) l) → Contains leads l
+-- all leads that are set aside under two digests are among these
+abbrev pub HasLeadsUnder : List Entry → List Lead → (selector decl : ℕ) → Type 0
+HasLeadsUnder entries leads selector decl = (l : Lead) → Contains entries (entry selector decl l) → Contains leads l
+
+-- what is set aside under two digests leads again
+abbrev pub IsAwakeUnder : List Entry → List held.Lead → (selector decl : ℕ) → Type 0
+IsAwakeUnder entries leads selector decl = (l : Lead) → Contains entries (entry selector decl l) → Contains leads (lead_told l)
+
+-- so it is with each of these digests of selectors and these of declarations
+abbrev pub AreAwakeUnder : List Entry → List held.Lead → (selectors decls : List ℕ) → Type 0
+AreAwakeUnder entries leads selectors decls = (selector decl : ℕ) → Contains selectors selector → Contains decls decl → IsAwakeUnder entries leads selector decl
 
 -- what is set aside under the digests of a pair leads again
 abbrev pub IsAwake : List Entry → List held.Lead → SelectorParts → Decl → Type 0
-IsAwake entries leads s d = (l : Lead) → Contains entries (entry (selector_digest s) (decl_digest d) l) → Contains leads (lead_told l)
+IsAwake entries leads s d = IsAwakeUnder entries leads (selector_digest s) (decl_digest d)
 
 -- so it is with each of these selectors and these declarations
 abbrev pub AreAwake : List Entry → List held.Lead → List SelectorParts → List Decl → Type 0

@@ -12,10 +12,10 @@ ghost use Rattle.lead_plan.specs.declared.lead.Lead as declared;
 ghost use Rattle.order_laws.specs.Edits.{Edit, is_moved};
 ghost use Rattle.step_laws.specs.Steps.{HasStep, IsStep};
 
-use css_model::{Decl, DeclItem, Item, Rule, SelItem, Selector, Sheet};
+use css_model::{DeclItem, Item, Rule, SelItem, Sheet};
 use lead_laws::entries_are_found;
 use lead_plan::{Aside, Lead, Waiting};
-use rule_tables::{decl_digest, selector_digest};
+use rule_tables::{decl_digests, selector_digests};
 use std::alloc::{AllocError, Global};
 use step_laws::{Step, steps_rearrange};
 
@@ -40,57 +40,71 @@ fn lead_all_again(waiting: &mut Waiting, leads: &[Lead]) -> Result<(), AllocErro
     Ok(())
 }
 
-/// The leads that are set aside under the digests of a pair.
-fn leads_of(
-    alloc: Global,
-    aside: &Aside,
-    selector: &Selector,
-    decl: &Decl,
-) -> Result<Vec<Lead>, AllocError>
-    ensures { IfOk result (λ leads. spec.HasLeadsUnder aside.now leads.items selector.now decl.now) }
+/// The leads that are set aside under two digests.
+fn leads_of(alloc: Global, aside: &Aside, selector: u32, decl: u32) -> Result<Vec<Lead>, AllocError>
+    ensures { IfOk result (λ leads. spec.HasLeadsUnder aside.now leads.items selector decl) }
 {
     // A law; it does nothing.
     entries_are_found();
-    aside.under(alloc, selector_digest(selector), decl_digest(decl))
+    aside.under(alloc, selector, decl)
 }
 
-/// Lets those lead again that are set aside under the digests of a pair.
+/// Lets those lead again that are set aside under two digests.
 fn wake_pair(
     alloc: Global,
     aside: &Aside,
     waiting: &mut Waiting,
-    selector: &Selector,
-    decl: &Decl,
+    selector: u32,
+    decl: u32,
 ) -> Result<(), AllocError>
     ensures stay { OnOk result ((l : held.Lead) → Contains waiting.old l → Contains waiting.new l) }
-    ensures awake { OnOk result (spec.IsAwake aside.now waiting.new selector.now decl.now) }
+    ensures awake { OnOk result (spec.IsAwakeUnder aside.now waiting.new selector decl) }
 {
     let leads = leads_of(alloc, aside, selector, decl)?;
     lead_all_again(waiting, &leads)?;
     Ok(())
 }
 
-/// The same for the pairs of a selector and some declarations.
+/// The same for the digests of a selector and of some declarations.
 fn wake_decls(
     alloc: Global,
     aside: &Aside,
     waiting: &mut Waiting,
-    selector: &Selector,
-    decls: &[DeclItem],
+    selector: u32,
+    decls: &[u32],
 ) -> Result<(), AllocError>
     ensures stay { OnOk result ((l : held.Lead) → Contains waiting.old l → Contains waiting.new l) }
-    ensures awake { OnOk result (spec.AreAwake aside.now waiting.new (selector.now ∷ []) (map (λ d. d.decl) decls.now)) }
+    ensures awake { OnOk result (spec.AreAwakeUnder aside.now waiting.new (selector ∷ []) decls.now) }
 {
     let mut rest = decls;
     'rest: while let Some((first, behind)) = rest.split_first() {
-        wake_pair(alloc, aside, waiting, selector, &first.decl)?;
+        wake_pair(alloc, aside, waiting, selector, *first)?;
+        rest = behind;
+    }
+    Ok(())
+}
+
+/// The same for the digests of some selectors and of some declarations.
+fn wake_pairs(
+    alloc: Global,
+    aside: &Aside,
+    waiting: &mut Waiting,
+    selectors: &[u32],
+    decls: &[u32],
+) -> Result<(), AllocError>
+    ensures stay { OnOk result ((l : held.Lead) → Contains waiting.old l → Contains waiting.new l) }
+    ensures awake { OnOk result (spec.AreAwakeUnder aside.now waiting.new selectors.now decls.now) }
+{
+    let mut rest = selectors;
+    'rest: while let Some((first, behind)) = rest.split_first() {
+        wake_decls(alloc, aside, waiting, *first, decls)?;
         rest = behind;
     }
     Ok(())
 }
 
 /// The same for the pairs of some selectors and some declarations.
-fn wake_pairs(
+fn wake_parts(
     alloc: Global,
     aside: &Aside,
     waiting: &mut Waiting,
@@ -100,11 +114,9 @@ fn wake_pairs(
     ensures stay { OnOk result ((l : held.Lead) → Contains waiting.old l → Contains waiting.new l) }
     ensures awake { OnOk result (spec.AreAwake aside.now waiting.new (map (λ s. s.selector) selectors.now) (map (λ d. d.decl) decls.now)) }
 {
-    let mut rest = selectors;
-    'rest: while let Some((first, behind)) = rest.split_first() {
-        wake_decls(alloc, aside, waiting, &first.selector, decls)?;
-        rest = behind;
-    }
+    let selectors = selector_digests(alloc, selectors)?;
+    let decls = decl_digests(alloc, decls)?;
+    wake_pairs(alloc, aside, waiting, &selectors, &decls)?;
     Ok(())
 }
 
@@ -118,7 +130,7 @@ fn wake_pairs_of(
     ensures stay { OnOk result ((l : held.Lead) → Contains waiting.old l → Contains waiting.new l) }
     ensures awake { OnOk result (spec.IsRuleAwake aside.now waiting.new rule.now) }
 {
-    wake_pairs(alloc, aside, waiting, &rule.selectors, &rule.decls)?;
+    wake_parts(alloc, aside, waiting, &rule.selectors, &rule.decls)?;
     Ok(())
 }
 

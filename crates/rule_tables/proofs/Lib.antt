@@ -4,3 +4,4 @@ mod OtherRules
 mod Sharing
 mod Standing
 mod StepRules
+mod Writes

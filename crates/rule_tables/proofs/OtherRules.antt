@@ -1,13 +1,7 @@
 -- Rules by their labels, and the pairs that they have.
-use Rattle.std.proofs.Common.{◌≡◌, ◌≢◌, ◌↔◌, ◌⊎◌, inl, inr, ℕ, zero, suc, ◌<◌, ◌≤◌, Bool, true, false, IsTrue, List, [], ◌∷◌, Option, Some, None, length, map, refl, sym, ap, subst, ◌∙◌, true≢false, get_or, ◌||◌, IfSome, IfNone, arith}
+use Rattle.std.proofs.Common.{◌≡◌, ◌≢◌, ◌↔◌, ◌⊎◌, inl, inr, ℕ, suc, Bool, false, IsTrue, List, [], ◌∷◌, Some, sym, ap, subst, ◌∙◌, true≢false}
 use Rattle.std.specs.Prelude.{slice_get}
-use Rattle.std.specs.Bool.{Decides}
-use Rattle.std.specs.List.{Contains, flat_map, list_any}
-use Rattle.std.specs.List.Sorted.{IsStrictlyIncreasing}
-use Rattle.std.proofs.lemmas.Bool.{cases_lt}
-use Rattle.std.proofs.lemmas.Map.Keys.{below_from_sorted, sorted_from_strictly_increasing}
-use Rattle.std.proofs.lemmas.Option.{get_or_from_slice_get, slice_get_within}
-use Rattle.css_model.proofs.ForCallers.{decl_decides, selector_decides}
+use Rattle.std.specs.List.{Contains, flat_map}
 use Rattle.css_model.specs.declared.sheet.Decl.{Decl}
 use Rattle.css_model.specs.declared.sheet.DeclItem.{DeclItem}
 use Rattle.css_model.specs.declared.sheet.Item.{Item}
@@ -15,16 +9,14 @@ use Rattle.css_model.specs.declared.sheet.Item.TheVariants.{Rule, KeptRule, Kept
 use Rattle.css_model.specs.declared.sheet.SelItem.{SelItem}
 use Rattle.css_model.specs.Documents.SelectorParts.{SelectorParts}
 use Rattle.css_model.specs.Sheets.RuleParts.{RuleParts}
-use Rattle.list_facts.proofs.Members.{Contains-cons_cases, Contains-here, Contains-nil, Contains-there}
-use Rattle.order_laws.specs.Members.{has_decl, has_selector, same_decl, same_selector}
+use Rattle.list_facts.proofs.Members.{Contains-cons_cases, Contains-nil}
 use Rattle.rule_tables.specs.declared.entries.Entry.{Entry}
-use Rattle.rule_tables.specs.Digests.{decl_digest}
+use Rattle.rule_tables.specs.Digests.{selector_digest, decl_digest}
 use Rattle.rule_tables.specs.Entries.{entry}
-use Rattle.rule_tables.specs.Pairs.{AnotherHasBoth, HasBoth, LabelHasBoth}
-use Rattle.rule_tables.specs.Tables.{Labelled, entries_by_decl, labelled, with_label}
+use Rattle.rule_tables.specs.Pairs.{AnotherHasBoth, LabelHasBoth}
+use Rattle.rule_tables.specs.Tables.{Labelled, entries_by_decl, entries_by_selector, labelled, with_label}
 use Rattle.rule_tables.proofs.EntrySets.{mapped, unmapped}
 use Rattle.rule_tables.proofs.Standing.{in_flat}
-use Rattle.rule_tables.proofs.StepRules.{rules_are_labelled}
 
 -- ---- Where a labelled rule stands
 
@@ -63,11 +55,16 @@ module _ (rules : List Labelled) (own : ℕ) (s : SelectorParts) (d : Decl) wher
   pub is_another : (e : Entry) → IsOther e → AnotherHasBoth rules own s d
   is_another e other = (e.label, other.0, other.1)
 
-  pub in_range : (keys shown : List Entry) → ((e : Entry) → Contains (flat_map entries_by_decl rules) e → Contains keys e) →
-      ((label : ℕ) → Contains keys (entry (decl_digest d) label) → Contains shown (entry (decl_digest d) label)) →
-      (a : AnotherHasBoth rules own s d) → Contains shown (entry (decl_digest d) a.0)
-  in_range keys shown stand show (label, ne, (r, in_list, has)) =
+  pub under_decl : (keys : List Entry) → ((e : Entry) → Contains (flat_map entries_by_decl rules) e → Contains keys e) → (label : ℕ) → LabelHasBoth rules label s d → Contains keys (entry (decl_digest d) label)
+  under_decl keys cover label (r, in_list, has) =
       let i : (y : DeclItem) × Contains r.decls y × (y.decl ≡ d) = unmapped (λ (y : DeclItem). y.decl) r.decls d has.1 in
       let e : Contains (entries_by_decl (with_label r label)) (entry (decl_digest i.0.decl) label) = mapped (λ (y : DeclItem). entry (decl_digest y.decl) label) r.decls i.0 i.1 in
-      show label (subst (λ (n : ℕ). Contains keys (entry n label)) (ap decl_digest i.2)
-      (stand (entry (decl_digest i.0.decl) label) (in_flat entries_by_decl rules (with_label r label) (entry (decl_digest i.0.decl) label) in_list e)))
+      subst (λ (n : ℕ). Contains keys (entry n label)) (ap decl_digest i.2)
+      (cover (entry (decl_digest i.0.decl) label) (in_flat entries_by_decl rules (with_label r label) (entry (decl_digest i.0.decl) label) in_list e))
+
+  pub under_selector : (keys : List Entry) → ((e : Entry) → Contains (flat_map entries_by_selector rules) e → Contains keys e) → (label : ℕ) → LabelHasBoth rules label s d → Contains keys (entry (selector_digest s) label)
+  under_selector keys cover label (r, in_list, has) =
+      let i : (y : SelItem) × Contains r.selectors y × (y.selector ≡ s) = unmapped (λ (y : SelItem). y.selector) r.selectors s has.0 in
+      let e : Contains (entries_by_selector (with_label r label)) (entry (selector_digest i.0.selector) label) = mapped (λ (y : SelItem). entry (selector_digest y.selector) label) r.selectors i.0 i.1 in
+      subst (λ (n : ℕ). Contains keys (entry n label)) (ap selector_digest i.2)
+      (cover (entry (selector_digest i.0.selector) label) (in_flat entries_by_selector rules (with_label r label) (entry (selector_digest i.0.selector) label) in_list e))

@@ -16,21 +16,17 @@ use Rattle.rule_tables.proofs.Standing.{in_flat}
 
 -- ---- By one selector, and by declarations
 
-pub shared_by_one : (entries : List Entry) (selectors : List SelItem) (s : SelItem) → Contains selectors s → (old new : List ℕ) → PutsUnder entries (selector_digest s.selector) old new →
-    PutsShared entries (selector_digests selectors) old new
-shared_by_one entries selectors s in_list old new puts = record {
+pub shared_by_one : (entries : List Entry) (digests : List ℕ) (digest : ℕ) → Contains digests digest → (old new : List ℕ) → PutsUnder entries digest old new → PutsShared entries digests old new
+shared_by_one entries digests digest among old new puts = record {
   keeps = λ label h. (puts label).1 (inl h);
-  shared = λ label h. (puts label).1 (inr (h.1 (selector_digest s.selector) among));
-  only = λ label h. elim ((puts label).0 h) [ inl k ↦ inl k | inr k ↦ inr (selector_digest s.selector, among, k) ];
+  shared = λ label h. (puts label).1 (inr (h.1 digest among));
+  only = λ label h. elim ((puts label).0 h) [ inl k ↦ inl k | inr k ↦ inr (digest, among, k) ];
 }
-  where
-    among : Contains (selector_digests selectors) (selector_digest s.selector)
-    among = mapped (λ (s : SelItem). selector_digest s.selector) selectors s in_list
 
-pub shared_by_none : (entries : List Entry) (selectors : List SelItem) → selectors ≡ [] → (old : List ℕ) → PutsShared entries (selector_digests selectors) old old
-shared_by_none entries selectors is old = record {
+pub shared_by_none : (entries : List Entry) (digests : List ℕ) → digests ≡ [] → (old : List ℕ) → PutsShared entries digests old old
+shared_by_none entries digests is old = record {
   keeps = λ label h. h;
-  shared = λ label h. absurd (Contains-nil h.0.0 (subst (λ (ss : List SelItem). Contains (selector_digests ss) h.0.0) is h.0.1));
+  shared = λ label h. absurd (Contains-nil h.0.0 (subst (λ (ds : List ℕ). Contains ds h.0.0) is h.0.1));
   only = λ label h. inl h;
 }
 

@@ -4,11 +4,12 @@
 mod digests;
 mod entries;
 mod laws;
+mod mixing;
 mod pairs;
 mod partners;
 mod tables;
 
-pub use digests::{decl_digest, selector_digest};
+pub use digests::{decl_digest, decl_digests, selector_digest, selector_digests};
 pub use laws::{
     decl_cuts_are_told, labelled_rules_stand, rules_are_labelled, selector_cuts_are_told,
     steps_have_partners,

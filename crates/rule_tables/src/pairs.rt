@@ -1,12 +1,11 @@
 //! Whether a pair of a selector and a declaration stands in another rule.
 
-ghost use Rattle.std.specs.Prelude.{◌≢◌, ◌↔◌, IsTrue, List};
-ghost use Rattle.std.specs.List.{Contains, flat_map};
+ghost use Rattle.std.specs.Prelude.{◌≢◌, ◌↔◌, ℕ, IsTrue, List};
+ghost use Rattle.std.specs.List.{Contains};
+ghost use Rattle.rule_tables.specs.Entries.{entry};
 ghost use Rattle.rule_tables.specs.Pairs as pairs;
 ghost use Rattle.rule_tables.specs.Tables as spec;
-ghost use Rattle.rule_tables.specs.declared.entries.Entry as declared;
 
-use crate::digests::decl_digest;
 use crate::entries::Entry;
 use css_model::{Decl, Selector};
 use std::collections::BTreeSet;
@@ -38,18 +37,20 @@ fn is_pair_of_other<R: LabelledRules>(
     rules.has_pair(label, selector, decl)
 }
 
-/// Whether one of the rules under a declaration is another rule that has it and a selector.
-pub(crate) fn is_pair_elsewhere<R: LabelledRules>(
+/// Whether one of the rules under a digest is another rule that has a selector and a declaration, where each rule that
+/// has both stands there.
+pub(crate) fn is_pair_under<R: LabelledRules>(
     entries: &BTreeSet<Entry>,
+    digest: u32,
     rules: &R,
     own: u64,
     selector: &Selector,
     decl: &Decl,
 ) -> bool
-    requires { (e : declared.Entry) → Contains (flat_map spec.entries_by_decl (R.rules rules.now)) e → Contains entries.now.keys e }
+    requires { (label : ℕ) → pairs.LabelHasBoth (R.rules rules.now) label selector.now decl.now → Contains entries.now.keys (entry digest label) }
     ensures { IsTrue result ↔ pairs.AnotherHasBoth (R.rules rules.now) own selector.now decl.now }
 {
-    let digest = u64::from(decl_digest(decl));
+    let digest = u64::from(digest);
     let start = Entry { digest, label: 0 };
     let end = Entry {
         digest: digest + 1,

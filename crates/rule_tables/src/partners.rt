@@ -5,7 +5,7 @@ ghost use Rattle.std.specs.List.{Contains};
 ghost use Rattle.std.specs.List.Sorted.{IsStrictlyIncreasing};
 ghost use Rattle.rule_tables.specs.Tables as spec;
 
-use crate::digests::{decl_digest, selector_digest};
+use crate::digests::{decl_digest, selector_digests};
 use crate::entries::{Entry, put_labels};
 use css_model::{DeclItem, SelItem};
 use std::alloc::{AllocError, Global};
@@ -23,50 +23,89 @@ fn are_fewer(entries: &BTreeSet<Entry>, digest: u32, limit: usize) -> bool {
     entries.range(Range { start, end }).take(limit).count() < limit
 }
 
-/// The first selector under whose digest fewer labels than the limit stand.
-fn find_rare<'a>(
+/// Whether fewer labels stand under one digest than under another one; where they are about as many, either answer.
+pub(crate) fn is_rarer(
     entries: &BTreeSet<Entry>,
-    selectors: &'a [SelItem],
-    limit: usize,
-) -> Option<&'a SelItem>
-    ensures { IfSome result (λ s. Contains selectors.now s.now) }
+    digest: u32,
+    others: &BTreeSet<Entry>,
+    other: u32,
+) -> bool {
+    for doublings in 2..32_u32 {
+        let limit = 1 << doublings;
+        if are_fewer(entries, digest, limit) {
+            return true;
+        }
+        if are_fewer(others, other, limit) {
+            return false;
+        }
+    }
+    true
+}
+
+/// The first digest under which fewer labels than the limit stand.
+fn find_rare(entries: &BTreeSet<Entry>, digests: &[u32], limit: usize) -> Option<u32>
+    ensures { IfSome result (λ digest. Contains digests.now digest) }
 {
-    let mut rest = selectors;
+    let mut rest = digests;
     'rest: while let Some((first, behind)) = rest.split_first() {
-        if are_fewer(entries, selector_digest(&first.selector), limit) {
-            return Some(first);
+        if are_fewer(entries, *first, limit) {
+            return Some(*first);
         }
         rest = behind;
     }
     None
 }
 
-/// A selector under whose digest at most twice as many labels stand as under the digest of any other one, or the
-/// first one.
-fn find_rarest<'a>(entries: &BTreeSet<Entry>, selectors: &'a [SelItem]) -> Option<&'a SelItem>
-    ensures some { IfSome result (λ s. Contains selectors.now s.now) }
-    ensures none { IfNone result (selectors.now ≡ []) }
+/// The first digest, if there is one.
+fn find_first(digests: &[u32]) -> Option<u32>
+    ensures some { IfSome result (λ digest. Contains digests.now digest) }
+    ensures none { IfNone result (digests.now ≡ []) }
+{
+    match digests {
+        [] => None,
+        [first, ..] => Some(*first),
+    }
+}
+
+/// A digest under which at most twice as many labels stand as under any other one, or the first one.
+fn find_rarest(entries: &BTreeSet<Entry>, digests: &[u32]) -> Option<u32>
+    ensures some { IfSome result (λ digest. Contains digests.now digest) }
+    ensures none { IfNone result (digests.now ≡ []) }
 {
     for doublings in 1..32_u32 {
-        if let Some(found) = find_rare(entries, selectors, 1 << doublings) {
+        if let Some(found) = find_rare(entries, digests, 1 << doublings) {
             return Some(found);
         }
     }
-    selectors.first()
+    find_first(digests)
+}
+
+/// Puts in labels that stand under digests: at least those that stand under all of them.
+fn put_under_rarest(
+    found: &mut BTreeSet<u64>,
+    entries: &BTreeSet<Entry>,
+    digests: &[u32],
+) -> Result<(), AllocError>
+    ensures { OnOk result (spec.PutsShared entries.now.keys digests.now found.old.keys found.new.keys) }
+{
+    match find_rarest(entries, digests) {
+        Some(digest) => put_labels(found, entries, digest),
+        None => Ok(()),
+    }
 }
 
 /// Puts in labels that stand under digests of selectors: at least those that stand under all of them.
 pub(crate) fn put_shared(
+    alloc: Global,
     found: &mut BTreeSet<u64>,
     entries: &BTreeSet<Entry>,
     selectors: &[SelItem],
 ) -> Result<(), AllocError>
     ensures { OnOk result (spec.PutsShared entries.now.keys (spec.selector_digests selectors.now) found.old.keys found.new.keys) }
 {
-    match find_rarest(entries, selectors) {
-        Some(item) => put_labels(found, entries, selector_digest(&item.selector)),
-        None => Ok(()),
-    }
+    let digests = selector_digests(alloc, selectors)?;
+    put_under_rarest(found, entries, &digests)?;
+    Ok(())
 }
 
 /// Puts in the labels that stand under the digest of one of these declarations.

@@ -6,9 +6,10 @@ ghost use Rattle.std.specs.List.Sorted.{IsStrictlyIncreasing};
 ghost use Rattle.rule_tables.specs.Pairs as pairs;
 ghost use Rattle.rule_tables.specs.Tables as spec;
 
+use crate::digests::{decl_digest, selector_digest};
 use crate::entries::{Entry, put_decls, put_selectors};
-use crate::pairs::{LabelledRules, is_pair_elsewhere};
-use crate::partners::{list_labels, put_shared, put_under_decls};
+use crate::pairs::{LabelledRules, is_pair_under};
+use crate::partners::{is_rarer, list_labels, put_shared, put_under_decls};
 use css_model::{Decl, Item, Rule, Selector};
 use std::alloc::{AllocError, Global};
 use std::collections::BTreeSet;
@@ -96,13 +97,13 @@ impl Tables {
         ensures only { IfOk result (λ found. (label : ℕ) → Contains found.items label → spec.IsUnderPart self.now rule.now label) }
     {
         let mut found = BTreeSet::new(alloc);
-        put_shared(&mut found, &self.selectors, &rule.selectors)?;
+        put_shared(alloc, &mut found, &self.selectors, &rule.selectors)?;
         put_under_decls(&mut found, &self.decls, &rule.decls)?;
         list_labels(alloc, found)
     }
 
     /// Whether a selector and a declaration stand together in one of these rules that has another label than `own`, where
-    /// the tables cover the rules. Takes no memory. The time is that of the entries with a declaration of the same digest.
+    /// the tables cover the rules. Takes no memory. The time is that of the entries of the rarer one of the two digests.
     pub fn is_elsewhere<R: LabelledRules>(
         &self,
         rules: &R,
@@ -113,6 +114,11 @@ impl Tables {
         requires { spec.Cover self.now (R.rules rules.now) }
         ensures { IsTrue result ↔ pairs.AnotherHasBoth (R.rules rules.now) own selector.now decl.now }
     {
-        is_pair_elsewhere(&self.decls, rules, own, selector, decl)
+        let by_selector = selector_digest(selector);
+        let by_decl = decl_digest(decl);
+        if is_rarer(&self.selectors, by_selector, &self.decls, by_decl) {
+            return is_pair_under(&self.selectors, by_selector, rules, own, selector, decl);
+        }
+        is_pair_under(&self.decls, by_decl, rules, own, selector, decl)
     }
 }

@@ -9,5 +9,5 @@ pub returns-clause-awake : goal.returns-clause-awake
 returns-clause-awake c =
     let selectors : c.deref.result.now ≡ c.args.rule.now.selectors = c.deref.ensures.value ∙ ap (λ (r : RuleParts). r.selectors) c.rule.view_is in
     let decls : c.deref-2.result.now ≡ c.args.rule.now.decls = c.deref-2.ensures.value ∙ ap (λ (r : RuleParts). r.decls) c.rule.view_is in
-    λ s d in_s in_d. c.in_ok-wake_pairs.ensures.awake s d (subst (λ (xs : List SelItem). Contains (map (λ x. x.selector) xs) s) (sym selectors) in_s)
+    λ s d in_s in_d. c.in_ok-wake_parts.ensures.awake s d (subst (λ (xs : List SelItem). Contains (map (λ x. x.selector) xs) s) (sym selectors) in_s)
     (subst (λ (xs : List DeclItem). Contains (map (λ x. x.decl) xs) d) (sym decls) in_d)

@@ -1,0 +1,9 @@
+use Rattle.std.proofs.Common.{◌∙◌, ap, rules, sym}
+use Rattle.std.proofs.lemmas.Nat.{from_le_bytes-to_le_bytes_4}
+use Rattle.std.specs.Hash.{le_bytes}
+use Rattle.rule_tables.specs.Digests.{mixed, write}
+use Rattle.rule_tables.proofs.mixing.MixerHasher.write_u32.Goals as goal
+
+pub returns : goal.returns
+unfolding write le_bytes
+returns c = c.mix.ensures ∙ ap (mixed c.args.self.now) (c.from.ensures ∙ sym (from_le_bytes-to_le_bytes_4 c.args.i (search rules)))
