@@ -50,18 +50,18 @@ seen_as answers x y b h =
 abbrev OfOne : List Source → Hindrance → Type 0
 OfOne sources by = (s : Source) × Contains sources s × IsOfSource s (moved_pair by)
 
-of_selectors : (s : Source) (x : DeclItem) (f : Pair → Hindrance) → Contains s.rule.now.decls x → ((p : Pair) → moved_pair (f p) ≡ p) → (by : Hindrance) → OfSelectors s.rule.now s.with x.decl f by → IsOfSource s (moved_pair by)
-of_selectors s x f inside same by (common, (y, has, is)) =
+of_selectors : (s : Source) (x : DeclItem) (f : Pair → Hindrance) → Contains s.rule.now.decls x → is_common s.with x.decl ≡ true → ((p : Pair) → moved_pair (f p) ≡ p) → (by : Hindrance) → OfSelectors s.rule.now x.decl f by → IsOfSource s (moved_pair by)
+of_selectors s x f inside common same by (y, has, is) =
     subst (IsOfSource s) (sym (ap moved_pair is ∙ same (pair_of y x.decl)))
     (record { selector = map_has (λ (z : SelItem). z.selector) s.rule.now.selectors y has; decl = map_has (λ (z : DeclItem). z.decl) s.rule.now.decls x inside; common = common })
 
-of_item : (list : List Item) (n : ℕ) (item : Item) (s : Source) (x : DeclItem) → Contains s.rule.now.decls x → (by : Hindrance) → OfItem s.rule.now s.with x.decl list n item by → IsOfSource s (moved_pair by)
-of_item list n (Rule r) s x inside by (g, g_in, (y, y_in, of)) = of_selectors s x (λ p. OfPair p (pair_of y g.decl)) inside (λ p. refl) by of
-of_item list n (KeptRule k) s x inside by of = of_selectors s x (with_kept list n) inside (λ p. refl) by of
-of_item list n (KeptBlock k) s x inside by of = of_selectors s x (with_kept list n) inside (λ p. refl) by of
+of_item : (list : List Item) (n : ℕ) (item : Item) (s : Source) (x : DeclItem) → Contains s.rule.now.decls x → is_common s.with x.decl ≡ true → (by : Hindrance) → OfItem s.rule.now x.decl list n item by → IsOfSource s (moved_pair by)
+of_item list n (Rule r) s x inside common by (g, g_in, (y, y_in, of)) = of_selectors s x (λ p. OfPair p (pair_of y g.decl)) inside common (λ p. refl) by of
+of_item list n (KeptRule k) s x inside common by of = of_selectors s x (with_kept list n) inside common (λ p. refl) by of
+of_item list n (KeptBlock k) s x inside common by of = of_selectors s x (with_kept list n) inside common (λ p. refl) by of
 
 pub of_one : (w : Window) (sources : List Source) (by : Hindrance) → OfWindow w sources by → OfOne sources by
-of_one w sources by (n, above, below, (item, at, (s, s_in, (x, x_in, of)))) = (s, s_in, of_item w.items.now n item s x x_in by of)
+of_one w sources by (n, above, below, (item, at, (s, s_in, (x, x_in, (common, of))))) = (s, s_in, of_item w.items.now n item s x x_in common by of)
 
 -- ---- What is moved is looked at
 
@@ -97,16 +97,16 @@ module _ (w : Window) (sources : List Source) (p : Pair) (one : (s : Source) × 
       Contains (map (λ (z : SelItem). z.selector) r.selectors) q.selector → slice_get r.decls k ≡ Some g → g.decl ≡ q.decl → OfWindow w sources (OfPair p q)
   looked_at_pair q n k r g above below at has g_at g_is =
       let t = in_rule r q g k has g_at g_is in
-      (n, above, below, (Rule r, at, (one.0, one.1, (parts.0, parts.1, (g, member_at r.decls k g g_at, (t.0, t.1, (parts.5, (parts.2, parts.3, ap₂ (λ (a b : Pair). OfPair a b) parts.4 t.2))))))))
+      (n, above, below, (Rule r, at, (one.0, one.1, (parts.0, parts.1, (parts.5, (g, member_at r.decls k g g_at, (t.0, t.1, (parts.2, parts.3, ap₂ (λ (a b : Pair). OfPair a b) parts.4 t.2))))))))
 
   -- with a kept item of it
   pub looked_at_kept : (n number : ℕ) (item : Item) → w.start ≤ n → n ≤ w.last → slice_get w.items.now n ≡ Some item → is_kept item ≡ true → number ≡ kept_before n w.items.now → OfWindow w sources (OfKept p number)
-  looked_at_kept n number item above below at kept is = (n, above, below, (item, at, (one.0, one.1, (parts.0, parts.1, of item kept))))
+  looked_at_kept n number item above below at kept is = (n, above, below, (item, at, (one.0, one.1, (parts.0, parts.1, (parts.5, of item kept)))))
     where
-      of : (item : Item) → is_kept item ≡ true → OfItem one.0.rule.now one.0.with parts.0.decl w.items.now n item (OfKept p number)
+      of : (item : Item) → is_kept item ≡ true → OfItem one.0.rule.now parts.0.decl w.items.now n item (OfKept p number)
       of (Rule r) e = absurd (false≢true e)
-      of (KeptRule k) e = (parts.5, (parts.2, parts.3, ap₂ (λ (a : Pair) (m : ℕ). OfKept a m) parts.4 is))
-      of (KeptBlock k) e = (parts.5, (parts.2, parts.3, ap₂ (λ (a : Pair) (m : ℕ). OfKept a m) parts.4 is))
+      of (KeptRule k) e = (parts.2, parts.3, ap₂ (λ (a : Pair) (m : ℕ). OfKept a m) parts.4 is)
+      of (KeptBlock k) e = (parts.2, parts.3, ap₂ (λ (a : Pair) (m : ℕ). OfKept a m) parts.4 is)
 
 -- ---- The window of a step
 

@@ -1,21 +1,17 @@
 -- Answers that are held.
-use Rattle.std.proofs.Common.{◌≡◌, true, List, map, refl, sym, ap, ◌∙◌, subst}
+use Rattle.std.proofs.Common.{◌≡◌, true, map, refl, sym, ap, ◌∙◌, subst}
 use Rattle.std.specs.List.{Contains}
-use Rattle.std.proofs.lemmas.List.Elements.{All-contains, Contains-append_left}
+use Rattle.std.proofs.lemmas.List.Elements.{Contains-append_left}
 use Rattle.css_model.specs.Documents.SelectorParts.{SelectorParts}
 use Rattle.order_laws.proofs.ForCallers.{map_has, map_from}
 use Rattle.overlap.specs.declared.answer.Answer.{Answer}
 use Rattle.overlap.specs.declared.answer.Answer.TheVariants.{Apart, Meet, Outside, Spent}
 use Rattle.overlap.specs.Laws.{ApartSelectorsDoNotMeet}
 use Rattle.overlap.specs.PairsParts.{Answered, PairsParts}
-use Rattle.overlap.specs.Remembered.{IsAnswered, IsHeld, IsOfOther, IsUnknown, IsTrueList, Asks}
+use Rattle.overlap.specs.Remembered.{IsAnswered, IsTrueList, Asks}
 use Rattle.sheet_order.specs.Allowing.{Stays}
 use Rattle.sheet_order.specs.Laws.{is_apart, answer_seen}
 use Rattle.step_laws.specs.Free as steps
-
--- what is held is not unknown
-pub not_unknown : (answers : List Answered) (x y : SelectorParts) → IsHeld answers x y → IsUnknown answers x y → ⊥
-not_unknown answers x y held none = All-contains (IsOfOther x y) answers (record { left = x; right = y; answer = held.0 }) none held.1 (refl, refl)
 
 pub stays_itself : (p : PairsParts) → Stays p p
 stays_itself p = record { budget = refl; held = λ x y answer h. h }

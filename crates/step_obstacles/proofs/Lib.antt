@@ -8,5 +8,6 @@ mod Masked
 mod Moving
 mod Named
 mod PairAnswers
+mod Sources
 mod Turning
 mod WindowFacts

@@ -106,3 +106,7 @@ module _ {X : Type 0} (w : Window) (xs : List X) (Of : X → Hindrance → Type 
       IsToldOf new.answers w (Of (get_or xs i d)) found → AllPass new.answers w (Among (take (i + 1) xs) Of)
   one_more_got old new i d found e less stays pass told =
       one_more_none old new i found e stays pass (λ x at. subst (λ (y : X). IsToldOf new.answers w (Of y) found) (some-same (sym (get_at xs i d less) ∙ at)) told)
+
+  pub found_got : (answers : List Answered) (i : ℕ) (d : X) (found : Option Obstacle) (o : Obstacle) → found ≡ Some o → i < length xs → IsToldOf answers w (Of (get_or xs i d)) found → IsFound answers w (Among xs Of) o
+  found_got answers i d found o e less told =
+      found_some answers i found o e less (λ x at. subst (λ (y : X). IsToldOf answers w (Of y) found) (some-same (sym (get_at xs i d less) ∙ at)) told)

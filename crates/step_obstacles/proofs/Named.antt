@@ -1,7 +1,6 @@
 -- What is told of a moved pair, by its place.
 use Rattle.std.proofs.Common.{◌≡◌, ◌⊎◌, ℕ, true, false, List, Some, refl, sym, ap, subst, inl, inr}
 use Rattle.std.specs.Prelude.{Option, Result, Ok, Err, IfOk, slice_get}
-use Rattle.std.specs.Borrow.{Bor}
 use Rattle.std.proofs.lemmas.Bool.{false≢true}
 use Rattle.css_model.specs.Cascade.Order.{Pair}
 use Rattle.css_model.specs.declared.sheet.Decl.{Decl}
@@ -67,11 +66,11 @@ module _ (w : Window) (moved : DeclAt) (i : ℕ) (x : SelItem) (is : IsDeclAt w.
       subst (λ (h : Hindrance). IsTold answers w h false) (sym by_is) (subst (λ (t : SelectorParts). IsTold answers w (hindrance_of w.items.now f (pair t moved.decl.now)) false) s_is told)
 
 -- what is told of a pair by its selector is told of the selector of its number
-pub told_same : {E : Type 0} (answers : List Answered) (w : Window) (r : RuleParts) (with : Option (Bor RuleParts)) (d o : Decl) (s : SelectorParts) (At : SelItem → Type 0) → ((y : SelItem) → At y → s ≡ y.selector) →
-    (res : Result (Option Obstacle) E) → IfOk res (λ found. IsToldOf answers w (OfSelectors r with d (λ p. OfPair p (pair s o))) found) →
-    IfOk res (λ found. (y : SelItem) → At y → IsToldOf answers w (OfSelectors r with d (λ p. OfPair p (pair_of y o))) found)
-told_same answers w r with d o s At is (Ok found) h = λ y at. subst (λ (t : SelectorParts). IsToldOf answers w (OfSelectors r with d (λ p. OfPair p (pair t o))) found) (is y at) h
-told_same answers w r with d o s At is (Err e) h = tt
+pub told_same : {E : Type 0} (answers : List Answered) (w : Window) (r : RuleParts) (d o : Decl) (s : SelectorParts) (At : SelItem → Type 0) → ((y : SelItem) → At y → s ≡ y.selector) →
+    (res : Result (Option Obstacle) E) → IfOk res (λ found. IsToldOf answers w (OfSelectors r d (λ p. OfPair p (pair s o))) found) →
+    IfOk res (λ found. (y : SelItem) → At y → IsToldOf answers w (OfSelectors r d (λ p. OfPair p (pair_of y o))) found)
+told_same answers w r d o s At is (Ok found) h = λ y at. subst (λ (t : SelectorParts). IsToldOf answers w (OfSelectors r d (λ p. OfPair p (pair t o))) found) (is y at) h
+told_same answers w r d o s At is (Err e) h = tt
 
 -- ---- Items
 
@@ -79,16 +78,16 @@ kept_either : (item : Item) → ((k : KeptRuleParts) × (item ≡ KeptRule k)) �
 kept_either item (inl h) = ap is_kept h.1
 kept_either item (inr h) = ap is_kept h.1
 
-told_kept_as : {E : Type 0} (answers : List Answered) (w : Window) (r : RuleParts) (with : Option (Bor RuleParts)) (d : Decl) (n : ℕ) (item : Item) → is_kept item ≡ true →
-    (res : Result (Option Obstacle) E) → IfOk res (λ found. IsToldOf answers w (OfSelectors r with d (with_kept w.items.now n)) found) → IfOk res (λ found. IsToldOf answers w (OfItem r with d w.items.now n item) found)
-told_kept_as answers w r with d n (Rule q) kept res h = absurd (false≢true kept)
-told_kept_as answers w r with d n (KeptRule k) kept res h = h
-told_kept_as answers w r with d n (KeptBlock k) kept res h = h
+told_kept_as : {E : Type 0} (answers : List Answered) (w : Window) (r : RuleParts) (d : Decl) (n : ℕ) (item : Item) → is_kept item ≡ true →
+    (res : Result (Option Obstacle) E) → IfOk res (λ found. IsToldOf answers w (OfSelectors r d (with_kept w.items.now n)) found) → IfOk res (λ found. IsToldOf answers w (OfItem r d w.items.now n item) found)
+told_kept_as answers w r d n (Rule q) kept res h = absurd (false≢true kept)
+told_kept_as answers w r d n (KeptRule k) kept res h = h
+told_kept_as answers w r d n (KeptBlock k) kept res h = h
 
-pub told_kept : {E : Type 0} (answers : List Answered) (w : Window) (r : RuleParts) (with : Option (Bor RuleParts)) (d : Decl) (n : ℕ) (item : Item) → ((k : KeptRuleParts) × (item ≡ KeptRule k)) ⊎ ((k : Piece) × (item ≡ KeptBlock k)) →
-    (res : Result (Option Obstacle) E) → IfOk res (λ found. IsToldOf answers w (OfSelectors r with d (with_kept w.items.now n)) found) → IfOk res (λ found. IsToldOf answers w (OfItem r with d w.items.now n item) found)
-told_kept answers w r with d n item is res h = told_kept_as answers w r with d n item (kept_either item is) res h
+pub told_kept : {E : Type 0} (answers : List Answered) (w : Window) (r : RuleParts) (d : Decl) (n : ℕ) (item : Item) → ((k : KeptRuleParts) × (item ≡ KeptRule k)) ⊎ ((k : Piece) × (item ≡ KeptBlock k)) →
+    (res : Result (Option Obstacle) E) → IfOk res (λ found. IsToldOf answers w (OfSelectors r d (with_kept w.items.now n)) found) → IfOk res (λ found. IsToldOf answers w (OfItem r d w.items.now n item) found)
+told_kept answers w r d n item is res h = told_kept_as answers w r d n item (kept_either item is) res h
 
-pub told_rule : {E : Type 0} (answers : List Answered) (w : Window) (r : RuleParts) (with : Option (Bor RuleParts)) (d : Decl) (n : ℕ) (item : Item) (q : RuleParts) → item ≡ Rule q →
-    (res : Result (Option Obstacle) E) → IfOk res (λ found. IsToldOf answers w (OfRule r with d q) found) → IfOk res (λ found. IsToldOf answers w (OfItem r with d w.items.now n item) found)
-told_rule answers w r with d n item q is res h = subst (λ (i : Item). IfOk res (λ found. IsToldOf answers w (OfItem r with d w.items.now n i) found)) (sym is) h
+pub told_rule : {E : Type 0} (answers : List Answered) (w : Window) (r : RuleParts) (d : Decl) (n : ℕ) (item : Item) (q : RuleParts) → item ≡ Rule q →
+    (res : Result (Option Obstacle) E) → IfOk res (λ found. IsToldOf answers w (OfRule r d q) found) → IfOk res (λ found. IsToldOf answers w (OfItem r d w.items.now n item) found)
+told_rule answers w r d n item q is res h = subst (λ (i : Item). IfOk res (λ found. IsToldOf answers w (OfItem r d w.items.now n i) found)) (sym is) h

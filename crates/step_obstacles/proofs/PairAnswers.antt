@@ -1,7 +1,6 @@
 -- What tells of a moved pair and what it faces.
 use Rattle.std.proofs.Common.{◌≡◌, ◌↔◌, ℕ, zero, suc, Bool, true, false, List, [], ◌∷◌, Some, None, refl, sym, ap, ◌∙◌, subst, arith}
-use Rattle.std.specs.Prelude.{Option, not, slice_get}
-use Rattle.std.specs.Borrow.{Bor}
+use Rattle.std.specs.Prelude.{not, slice_get}
 use Rattle.std.proofs.lemmas.Bool.{false≢true}
 use Rattle.cascade_laws.proofs.ForCallers.{some-same}
 use Rattle.css_model.specs.Cascade.Order.{Pair, WeighsKept}
@@ -60,9 +59,9 @@ kept_faced answers w p f i is faces b told =
     subst (λ (g : Facing). IsTold answers w (hindrance_of w.items.now g p) b) (sym is) (kept_told answers w p i k.0 (k.1 p refl) b told)
 
 -- a kept item that does not weigh lets the step pass
-pub kept_light : (answers : List Answered) (w : Window) (n : ℕ) (item : Item) → slice_get w.items.now n ≡ Some item → is_kept item ≡ true → (r : RuleParts) (with : Option (Bor RuleParts)) (d : Decl) →
-    ((p : Pair) → p.decl ≡ d → WeighsKept p item → ⊥) → AllPass answers w (OfSelectors r with d (with_kept w.items.now n))
-kept_light answers w n item at kept r with d light by (common, (x, inside, is)) crosses =
+pub kept_light : (answers : List Answered) (w : Window) (n : ℕ) (item : Item) → slice_get w.items.now n ≡ Some item → is_kept item ≡ true → (r : RuleParts) (d : Decl) →
+    ((p : Pair) → p.decl ≡ d → WeighsKept p item → ⊥) → AllPass answers w (OfSelectors r d (with_kept w.items.now n))
+kept_light answers w n item at kept r d light by (x, inside, is) crosses =
     let c : Crosses w (OfKept (pair_of x d) (kept_before n w.items.now)) = subst (Crosses w) is crosses in
     let same : n ≡ c.0 = kept_same w.items.now n c.0 item c.1.item at kept c.1.item_at c.1.kept c.2 in
     let item_same : c.1.item ≡ item = some-same (sym c.1.item_at ∙ ap (slice_get w.items.now) (sym same) ∙ at) in

@@ -1,5 +1,5 @@
 -- What may block a step, as it is looked at one after the other (own).
-use Rattle.std.specs.Prelude.{◌≡◌, ℕ, ◌≤◌, ◌<◌, ◌^◌, ◌+◌, ◌-◌, if◌then◌else◌, Bool, true, List, Option, Some, None, length, slice_get}
+use Rattle.std.specs.Prelude.{◌≡◌, ℕ, ◌≤◌, ◌<◌, ◌^◌, ◌+◌, ◌-◌, if◌then◌else◌, Bool, true, List, [], ◌∷◌, Option, Some, None, bit_or, length, map, slice_get}
 use Rattle.std.specs.Borrow.{Bor}
 use Rattle.std.specs.List.{Contains}
 use Rattle.css_model.specs.Cascade.Order.{Pair, WeighsKept}
@@ -15,12 +15,13 @@ use Rattle.obstacles.specs.Blocking.{IsAt}
 use Rattle.obstacles.specs.declared.obstacle.Other.{Other}
 use Rattle.obstacles.specs.declared.obstacle.Other.TheVariants as others
 use Rattle.order_laws.specs.Members.{has_decl}
-use Rattle.related_props.specs.Masks.{IsWithin, decl_mask}
+use Rattle.related_props.specs.Masks.{decl_mask, item_mask}
 use Rattle.step_obstacles.specs.Among.{Among}
 use Rattle.step_obstacles.specs.Blocked.{IsKeptIn}
 use Rattle.step_obstacles.specs.declared.facing.DeclAt.{DeclAt}
 use Rattle.step_obstacles.specs.declared.facing.Facing.{Facing}
 use Rattle.step_obstacles.specs.declared.facing.Facing.TheVariants as facing
+use Rattle.step_obstacles.specs.declared.facing.Met.{Met}
 use Rattle.step_obstacles.specs.declared.facing.Source.{Source}
 use Rattle.wall_laws.specs.Holding.{Hindrance, OfPair, OfKept}
 use Rattle.window_order.specs.declared.window.Window.{Window}
@@ -85,38 +86,64 @@ abbrev pub is_common : Option (Bor RuleParts) → Decl → Bool
 is_common None d = true
 is_common (Some r) d = has_decl r.now.decls d
 
--- a rule's mask has the bits of each declaration whose pairs are moved
-abbrev pub IsMasked : Source → Type 0
-IsMasked s = (x : DeclItem) → Contains s.rule.now.decls x → is_common s.with x.decl ≡ true → IsWithin (decl_mask x.decl) s.mask
+-- the mask of a declaration, if it is common; of others 0
+abbrev pub mask_in : Option (Bor RuleParts) → DeclItem → ℕ
+mask_in with x = if is_common with x.decl then decl_mask x.decl else 0
+
+-- a mask with others put to it
+abbrev pub with_masks : ℕ → List ℕ → ℕ
+with_masks mask [] = mask
+with_masks mask (m ∷ ms) = with_masks (bit_or mask m) ms
+
+-- the masks of a rule are those of its declarations whose pairs are moved
+pub record IsMasked (s : Source) : Type 0 where
+  pub masks : s.masks.items ≡ map (mask_in s.with) s.rule.now.decls
+  pub mask : s.mask ≡ with_masks 0 s.masks.items
 
 abbrev pub AreMasked : List Source → Type 0
 AreMasked sources = (s : Source) → Contains sources s → IsMasked s
 
--- the pairs of a declaration of a rule, if it is common, with something
-abbrev pub OfSelectors : RuleParts → Option (Bor RuleParts) → Decl → (Pair → Hindrance) → Hindrance → Type 0
-OfSelectors r with d f by = (is_common with d ≡ true) × Among r.selectors (λ x by. by ≡ f (pair_of x d)) by
+-- masks of all declarations of an item, if it is a rule
+abbrev pub AreMasksIn : Item → List ℕ → Type 0
+AreMasksIn (kinds.Rule r) masks = masks ≡ map (mask_in None) r.decls
+AreMasksIn (kinds.KeptRule k) masks = Unit {0}
+AreMasksIn (kinds.KeptBlock k) masks = Unit {0}
+
+-- an item of a window that is looked at
+pub record IsMet (w : Window) (m : Met) : Type 0 where
+  pub item : IsItemOf w m.number m.item.now
+  pub mask : m.mask ≡ item_mask m.item.now
+  pub masks : AreMasksIn m.item.now m.masks.now
+
+-- the pairs of a declaration of a rule with something
+abbrev pub OfSelectors : RuleParts → Decl → (Pair → Hindrance) → Hindrance → Type 0
+OfSelectors r d f by = Among r.selectors (λ x by. by ≡ f (pair_of x d)) by
 
 -- with the pairs of another declaration
-abbrev pub OfOther : RuleParts → Option (Bor RuleParts) → Decl → RuleParts → Decl → Hindrance → Type 0
-OfOther r with d other f by = Among other.selectors (λ y by. OfSelectors r with d (λ p. OfPair p (pair_of y f)) by) by
+abbrev pub OfOther : RuleParts → Decl → RuleParts → Decl → Hindrance → Type 0
+OfOther r d other f by = Among other.selectors (λ y by. OfSelectors r d (λ p. OfPair p (pair_of y f)) by) by
 
 -- with the pairs of a rule
-abbrev pub OfRule : RuleParts → Option (Bor RuleParts) → Decl → RuleParts → Hindrance → Type 0
-OfRule r with d other by = Among other.decls (λ g by. OfOther r with d other g.decl by) by
+abbrev pub OfRule : RuleParts → Decl → RuleParts → Hindrance → Type 0
+OfRule r d other by = Among other.decls (λ g by. OfOther r d other g.decl by) by
 
 -- with a kept item of this number
 abbrev pub with_kept : List Item → ℕ → Pair → Hindrance
 with_kept list n p = OfKept p (kept_before n list)
 
 -- with an item of this number
-abbrev pub OfItem : RuleParts → Option (Bor RuleParts) → Decl → List Item → ℕ → Item → Hindrance → Type 0
-OfItem r with d list n (kinds.Rule other) by = OfRule r with d other by
-OfItem r with d list n (kinds.KeptRule k) by = OfSelectors r with d (with_kept list n) by
-OfItem r with d list n (kinds.KeptBlock k) by = OfSelectors r with d (with_kept list n) by
+abbrev pub OfItem : RuleParts → Decl → List Item → ℕ → Item → Hindrance → Type 0
+OfItem r d list n (kinds.Rule other) by = OfRule r d other by
+OfItem r d list n (kinds.KeptRule k) by = OfSelectors r d (with_kept list n) by
+OfItem r d list n (kinds.KeptBlock k) by = OfSelectors r d (with_kept list n) by
+
+-- the pairs of a declaration of a rule with an item, if it is common
+abbrev pub OfDecl : List Item → ℕ → Item → Source → DeclItem → Hindrance → Type 0
+OfDecl list n item s x by = (is_common s.with x.decl ≡ true) × OfItem s.rule.now x.decl list n item by
 
 -- the pairs of a rule with an item
 abbrev pub OfSource : List Item → ℕ → Item → Source → Hindrance → Type 0
-OfSource list n item s by = Among s.rule.now.decls (λ x by. OfItem s.rule.now s.with x.decl list n item by) by
+OfSource list n item s by = Among s.rule.now.decls (OfDecl list n item s) by
 
 -- those of some rules
 abbrev pub OfSources : List Item → ℕ → Item → List Source → Hindrance → Type 0

@@ -1,8 +1,7 @@
 //! Whether a moved pair and what it faces block.
 
-ghost use Rattle.std.specs.Prelude.{◌≡◌, IfOk, true};
+ghost use Rattle.std.specs.Prelude.{◌≡◌, IfOk, IfSome};
 ghost use Rattle.css_model.specs.Selectors.Profile.{IsInProfile};
-ghost use Rattle.overlap.specs.Remembered.{IsHeld};
 ghost use Rattle.sheet_order.specs.Allowing.{Stays};
 ghost use Rattle.sheet_order.specs.Laws.{is_apart};
 ghost use Rattle.step_obstacles.specs.Blocked.{AreAnswered, IsTold};
@@ -24,38 +23,45 @@ fn says_apart(answer: &Answer) -> bool
     matches!(answer, Answer::Apart)
 }
 
-/// Whether two selectors are held to be apart.
-#[tactic(auto, using(crate::proofs::HeldAnswers::not_unknown))]
-fn are_apart(pairs: &Pairs, x: &Selector, y: &Selector) -> bool
-    requires { IsHeld pairs.now.answers x.now y.now }
-    ensures { AreAnswered pairs.now.answers x.now y.now result }
+/// Whether two selectors are held to be apart, if an answer is held.
+fn held_apart(pairs: &Pairs, x: &Selector, y: &Selector) -> Option<bool>
+    ensures { IfSome result (λ apart. AreAnswered pairs.now.answers x.now y.now apart) }
 {
     match pairs.known(x, y) {
-        Some(answer) => says_apart(answer),
-        None => unreachable!(),
-    }
-}
-
-/// Whether two selectors are held to be apart already.
-fn known_apart(pairs: &Pairs, x: &Selector, y: &Selector) -> bool
-    ensures { result ≡ true → AreAnswered pairs.now.answers x.now y.now true }
-{
-    match pairs.known(x, y) {
-        Some(answer) => says_apart(answer),
-        None => false,
+        Some(answer) => Some(says_apart(answer)),
+        None => None,
     }
 }
 
 /// Whether two selectors are answered to be apart, which is asked for.
-#[tactic(auto, using(crate::proofs::HeldAnswers::asked_stays))]
 fn asked_apart(pairs: &mut Pairs, x: &Selector, y: &Selector) -> Result<bool, AllocError>
     requires first { IsInProfile x.now }
     requires second { IsInProfile y.now }
     ensures stays { Stays pairs.old pairs.new }
     ensures answered { IfOk result (λ apart. AreAnswered pairs.new.answers x.now y.now apart) }
 {
-    pairs.settle(x, y)?;
-    Ok(are_apart(pairs, x, y))
+    let answer = pairs.ask(x, y)?;
+    Ok(says_apart(answer))
+}
+
+/// Whether two selectors are answered to be apart: by what is held of them, or else they are asked for.
+#[tactic(auto, using(crate::proofs::HeldAnswers::stays_itself))]
+fn told_apart(
+    pairs: &mut Pairs,
+    x: &Selector,
+    y: &Selector,
+    held: Option<bool>,
+) -> Result<bool, AllocError>
+    requires first { IsInProfile x.now }
+    requires second { IsInProfile y.now }
+    requires held { IfSome held (λ apart. AreAnswered pairs.old.answers x.now y.now apart) }
+    ensures stays { Stays pairs.old pairs.new }
+    ensures answered { IfOk result (λ apart. AreAnswered pairs.new.answers x.now y.now apart) }
+{
+    match held {
+        Some(apart) => Ok(apart),
+        None => asked_apart(pairs, x, y),
+    }
 }
 
 /// Whether two pairs block whose declarations weigh. Their selectors are asked for only where they are reversed.
@@ -76,13 +82,14 @@ fn pairs_block(
     if !same_specificity(p.selector, q.selector) {
         return Ok(false);
     }
-    if known_apart(pairs, p.selector, q.selector) {
+    let held = held_apart(pairs, p.selector, q.selector);
+    if let Some(true) = held {
         return Ok(false);
     }
     if !window.is_reversed(p, q) {
         return Ok(false);
     }
-    Ok(!asked_apart(pairs, p.selector, q.selector)?)
+    Ok(!told_apart(pairs, p.selector, q.selector, held)?)
 }
 
 /// Whether a moved pair and what it faces block.

@@ -3,7 +3,7 @@
 ghost use Rattle.std.specs.Prelude.{◌≡◌};
 ghost use Rattle.step_obstacles.specs.Turns.{other_of};
 
-use css_model::{Decl, Rule};
+use css_model::{Decl, Item, Rule};
 use obstacles::{Other, PairPlace};
 use window_order::PairRef;
 
@@ -23,7 +23,7 @@ pub(crate) struct DeclAt<'a> {
 }
 
 /// A rule of a sheet whose pairs are moved: all, or those of the declarations that stand in another rule too.
-#[derive(Clone, Copy, Drop)]
+#[derive(Drop)]
 pub(crate) struct Source<'a> {
     /// The rule's number in the sheet.
     pub(crate) item: u32,
@@ -31,8 +31,23 @@ pub(crate) struct Source<'a> {
     pub(crate) rule: &'a Rule,
     /// The other rule, if only common declarations count.
     pub(crate) with: Option<&'a Rule>,
-    /// The bits of the declarations that count, and maybe others.
+    /// The masks of its declarations, by their numbers: 0 for one that does not count.
+    pub(crate) masks: Vec<u64>,
+    /// The bits of these masks.
     pub(crate) mask: u64,
+}
+
+/// An item of a sheet that is looked at.
+#[derive(Clone, Copy)]
+pub(crate) struct Met<'a> {
+    /// The item.
+    pub(crate) item: &'a Item,
+    /// Its number in the sheet.
+    pub(crate) number: u32,
+    /// Its mask.
+    pub(crate) mask: u64,
+    /// The masks of its declarations, if it is a rule.
+    pub(crate) masks: &'a [u64],
 }
 
 /// Another pair with its place, or the kept item of this number.

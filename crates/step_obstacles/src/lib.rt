@@ -2,6 +2,7 @@
 #![tactic(auto)]
 
 mod answering;
+mod decl_masks;
 mod facing;
 mod held;
 mod pair_obstacles;

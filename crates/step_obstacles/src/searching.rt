@@ -1,6 +1,6 @@
 //! The first that blocks of what moved pairs face, looked at one after the other.
 
-ghost use Rattle.std.specs.Prelude.{◌≡◌, ◌↔◌, IfOk, IsTrue, Some, slice_get};
+ghost use Rattle.std.specs.Prelude.{◌≡◌, ◌≢◌, ◌↔◌, ℕ, IfOk, IsTrue, None, Some, map, slice_get};
 ghost use Rattle.css_model.specs.declared.sheet.DeclItem as declared_decl;
 ghost use Rattle.css_model.specs.declared.sheet.SelItem as declared_selector;
 ghost use Rattle.related_props.specs.Masks.{decl_mask, item_mask};
@@ -12,15 +12,15 @@ ghost use Rattle.wall_laws.specs.Holding.{OfPair};
 ghost use Rattle.window_order.specs.Weighing.{DeclsWeigh};
 
 use crate::answering::blocks;
-use crate::facing::{DeclAt, Facing, Source};
+use crate::decl_masks::{mask_at, masks_in};
+use crate::facing::{DeclAt, Facing, Met, Source};
 use crate::rule_parts::{decl_count, decl_of, selector_count, selector_of};
 use css_model::{Decl, Item, Rule};
 use obstacles::{Obstacle, PairPlace};
 use overlap::Pairs;
-use related_props::decl_mask;
-use std::alloc::AllocError;
-use step_savings::has_decl;
-use window_order::{PairRef, Window, decls_weigh, weighs_kept};
+use related_props::related;
+use std::alloc::{AllocError, Global};
+use window_order::{PairRef, Window, weighs_kept};
 
 /// The obstacle of the pair of a selector of this number and what it faces.
 fn named(moved: &DeclAt<'_>, number: u32, facing: &Facing<'_>) -> Obstacle
@@ -86,44 +86,11 @@ fn of_selectors(
     Ok(None)
 }
 
-/// Whether a declaration stands in another rule too, if one is given.
-fn is_common(with: Option<&Rule>, decl: &Decl) -> bool
-    ensures { result ≡ turns.is_common with.entry decl.now }
-{
-    match with {
-        None => true,
-        Some(rule) => has_decl(&rule.decls, decl),
-    }
-}
-
-/// Of all selectors of the declaration's rule, if the declaration is common.
-fn of_moved(
-    pairs: &mut Pairs,
-    window: &Window<'_>,
-    moved: &DeclAt<'_>,
-    with: Option<&Rule>,
-    facing: &Facing<'_>,
-) -> Result<Option<Obstacle>, AllocError>
-    requires askable { turns.IsAskable window.now.items.now }
-    requires moved { turns.IsDeclAt window.now.items.now moved.now }
-    requires faces { turns.Faces window.now moved.now.decl.now facing.now }
-    ensures stays { Stays pairs.old pairs.new }
-    ensures told { IfOk result (λ found. IsToldOf pairs.new.answers window.now
-        (turns.OfSelectors moved.now.rule.now with.entry moved.now.decl.now (turns.hindrance_of window.now.items.now facing.now)) found) }
-{
-    if is_common(with, moved.decl) {
-        of_selectors(pairs, window, moved, facing)
-    } else {
-        Ok(None)
-    }
-}
-
 /// With the pair of another declaration and the selector of this number.
 fn with_selector(
     pairs: &mut Pairs,
     window: &Window<'_>,
     moved: &DeclAt<'_>,
-    with: Option<&Rule>,
     other: &DeclAt<'_>,
     number: u32,
 ) -> Result<Option<Obstacle>, AllocError>
@@ -134,7 +101,7 @@ fn with_selector(
     requires number { (y : declared_selector.SelItem) × (slice_get other.now.rule.now.selectors number ≡ Some y) }
     ensures stays { Stays pairs.old pairs.new }
     ensures told { IfOk result (λ found. (y : declared_selector.SelItem) → slice_get other.now.rule.now.selectors number ≡ Some y →
-        IsToldOf pairs.new.answers window.now (turns.OfSelectors moved.now.rule.now with.entry moved.now.decl.now (λ p. OfPair p (turns.pair_of y other.now.decl.now))) found) }
+        IsToldOf pairs.new.answers window.now (turns.OfSelectors moved.now.rule.now moved.now.decl.now (λ p. OfPair p (turns.pair_of y other.now.decl.now))) found) }
 {
     let q = PairRef {
         selector: selector_of(other.rule, number),
@@ -145,7 +112,7 @@ fn with_selector(
         sel: number,
         decl: other.number,
     };
-    of_moved(pairs, window, moved, with, &Facing::Pair(q, place))
+    of_selectors(pairs, window, moved, &Facing::Pair(q, place))
 }
 
 /// With the pairs of another declaration, which weighs.
@@ -153,7 +120,6 @@ fn with_decl(
     pairs: &mut Pairs,
     window: &Window<'_>,
     moved: &DeclAt<'_>,
-    with: Option<&Rule>,
     other: &DeclAt<'_>,
 ) -> Result<Option<Obstacle>, AllocError>
     requires askable { turns.IsAskable window.now.items.now }
@@ -162,18 +128,25 @@ fn with_decl(
     requires weigh { DeclsWeigh moved.now.decl.now other.now.decl.now }
     ensures stays { Stays pairs.old pairs.new }
     ensures told { IfOk result (λ found. IsToldOf pairs.new.answers window.now
-        (turns.OfOther moved.now.rule.now with.entry moved.now.decl.now other.now.rule.now other.now.decl.now) found) }
+        (turns.OfOther moved.now.rule.now moved.now.decl.now other.now.rule.now other.now.decl.now) found) }
 {
     let count = selector_count(other.rule);
     for number in 0..count {
-        if let Some(found) = with_selector(pairs, window, moved, with, other, number)? {
+        if let Some(found) = with_selector(pairs, window, moved, other, number)? {
             return Ok(Some(found));
         }
     }
     Ok(None)
 }
 
-/// Whether two declarations weigh. By their masks most that do not are told.
+/// Whether two declarations differ.
+fn differ(first: &Decl, second: &Decl) -> bool
+    ensures { IsTrue result ↔ first.now ≢ second.now }
+{
+    *first != *second
+}
+
+/// Whether two declarations weigh. The tests come in the order of what they cost.
 #[tactic(auto, using(crate::proofs::Masked::weigh_shows))]
 fn weigh(moved: &DeclAt<'_>, other: &DeclAt<'_>) -> bool
     requires first { moved.now.mask ≡ decl_mask moved.now.decl.now }
@@ -183,7 +156,13 @@ fn weigh(moved: &DeclAt<'_>, other: &DeclAt<'_>) -> bool
     if moved.mask & other.mask == 0 {
         return false;
     }
-    decls_weigh(moved.decl, other.decl)
+    if moved.decl.important != other.decl.important {
+        return false;
+    }
+    if !differ(moved.decl, other.decl) {
+        return false;
+    }
+    related(&moved.decl.name, &other.decl.name)
 }
 
 /// With the pairs of another declaration, if it weighs.
@@ -191,7 +170,6 @@ fn with_other(
     pairs: &mut Pairs,
     window: &Window<'_>,
     moved: &DeclAt<'_>,
-    with: Option<&Rule>,
     other: &DeclAt<'_>,
 ) -> Result<Option<Obstacle>, AllocError>
     requires askable { turns.IsAskable window.now.items.now }
@@ -199,10 +177,10 @@ fn with_other(
     requires other { turns.IsDeclAt window.now.items.now other.now }
     ensures stays { Stays pairs.old pairs.new }
     ensures told { IfOk result (λ found. IsToldOf pairs.new.answers window.now
-        (turns.OfOther moved.now.rule.now with.entry moved.now.decl.now other.now.rule.now other.now.decl.now) found) }
+        (turns.OfOther moved.now.rule.now moved.now.decl.now other.now.rule.now other.now.decl.now) found) }
 {
     if weigh(moved, other) {
-        with_decl(pairs, window, moved, with, other)
+        with_decl(pairs, window, moved, other)
     } else {
         Ok(None)
     }
@@ -213,28 +191,28 @@ fn with_number(
     pairs: &mut Pairs,
     window: &Window<'_>,
     moved: &DeclAt<'_>,
-    with: Option<&Rule>,
     rule: &Rule,
+    masks: &[u64],
     item: u32,
     number: u32,
 ) -> Result<Option<Obstacle>, AllocError>
     requires askable { turns.IsAskable window.now.items.now }
     requires moved { turns.IsDeclAt window.now.items.now moved.now }
     requires rule { turns.IsRuleAt window.now.items.now item rule.now }
+    requires masks { masks.now ≡ map (turns.mask_in None) rule.now.decls }
     requires number { (g : declared_decl.DeclItem) × (slice_get rule.now.decls number ≡ Some g) }
     ensures stays { Stays pairs.old pairs.new }
     ensures told { IfOk result (λ found. (g : declared_decl.DeclItem) → slice_get rule.now.decls number ≡ Some g →
-        IsToldOf pairs.new.answers window.now (turns.OfOther moved.now.rule.now with.entry moved.now.decl.now rule.now g.decl) found) }
+        IsToldOf pairs.new.answers window.now (turns.OfOther moved.now.rule.now moved.now.decl.now rule.now g.decl) found) }
 {
-    let decl = decl_of(rule, number);
     let other = DeclAt {
         item,
         rule,
         number,
-        decl,
-        mask: decl_mask(decl),
+        decl: decl_of(rule, number),
+        mask: mask_at(masks, number),
     };
-    with_other(pairs, window, moved, with, &other)
+    with_other(pairs, window, moved, &other)
 }
 
 /// With the pairs of a rule.
@@ -242,20 +220,21 @@ fn with_rule(
     pairs: &mut Pairs,
     window: &Window<'_>,
     moved: &DeclAt<'_>,
-    with: Option<&Rule>,
     rule: &Rule,
+    masks: &[u64],
     item: u32,
 ) -> Result<Option<Obstacle>, AllocError>
     requires askable { turns.IsAskable window.now.items.now }
     requires moved { turns.IsDeclAt window.now.items.now moved.now }
     requires rule { turns.IsRuleAt window.now.items.now item rule.now }
+    requires masks { masks.now ≡ map (turns.mask_in None) rule.now.decls }
     ensures stays { Stays pairs.old pairs.new }
     ensures told { IfOk result (λ found. IsToldOf pairs.new.answers window.now
-        (turns.OfRule moved.now.rule.now with.entry moved.now.decl.now rule.now) found) }
+        (turns.OfRule moved.now.rule.now moved.now.decl.now rule.now) found) }
 {
     let count = decl_count(rule);
     for number in 0..count {
-        if let Some(found) = with_number(pairs, window, moved, with, rule, item, number)? {
+        if let Some(found) = with_number(pairs, window, moved, rule, masks, item, number)? {
             return Ok(Some(found));
         }
     }
@@ -267,7 +246,6 @@ fn with_kept(
     pairs: &mut Pairs,
     window: &Window<'_>,
     moved: &DeclAt<'_>,
-    with: Option<&Rule>,
     item: &Item,
     number: u32,
 ) -> Result<Option<Obstacle>, AllocError>
@@ -276,10 +254,10 @@ fn with_kept(
     requires item { turns.IsKeptHere window.now number item.now }
     ensures stays { Stays pairs.old pairs.new }
     ensures told { IfOk result (λ found. IsToldOf pairs.new.answers window.now
-        (turns.OfSelectors moved.now.rule.now with.entry moved.now.decl.now (turns.with_kept window.now.items.now number)) found) }
+        (turns.OfSelectors moved.now.rule.now moved.now.decl.now (turns.with_kept window.now.items.now number)) found) }
 {
     if weighs_kept(moved.decl, item) {
-        of_moved(pairs, window, moved, with, &Facing::Kept(number))
+        of_selectors(pairs, window, moved, &Facing::Kept(number))
     } else {
         Ok(None)
     }
@@ -290,78 +268,81 @@ fn with_item(
     pairs: &mut Pairs,
     window: &Window<'_>,
     moved: &DeclAt<'_>,
-    with: Option<&Rule>,
-    item: &Item,
-    number: u32,
+    met: &Met<'_>,
 ) -> Result<Option<Obstacle>, AllocError>
     requires askable { turns.IsAskable window.now.items.now }
     requires moved { turns.IsDeclAt window.now.items.now moved.now }
-    requires item { turns.IsItemOf window.now number item.now }
+    requires met { turns.IsMet window.now met.now }
     ensures stays { Stays pairs.old pairs.new }
     ensures told { IfOk result (λ found. IsToldOf pairs.new.answers window.now
-        (turns.OfItem moved.now.rule.now with.entry moved.now.decl.now window.now.items.now number item.now) found) }
+        (turns.OfItem moved.now.rule.now moved.now.decl.now window.now.items.now met.now.number met.now.item.now) found) }
 {
-    match item {
-        Item::Rule(rule) => with_rule(pairs, window, moved, with, rule, number),
+    match met.item {
+        Item::Rule(rule) => with_rule(pairs, window, moved, rule, met.masks, met.number),
         Item::KeptRule(_) | Item::KeptBlock(_) => {
-            with_kept(pairs, window, moved, with, item, number)
+            with_kept(pairs, window, moved, met.item, met.number)
         }
     }
 }
 
-/// Of the declaration of this number of a rule with an item of this mask.
+/// The mask of the declaration of this number of a rule.
+fn own_mask(source: &Source<'_>, part: u32) -> u64
+    requires { (m : ℕ) × (slice_get source.now.masks.items part ≡ Some m) }
+    ensures { slice_get source.now.masks.items part ≡ Some result }
+{
+    mask_at(&source.masks, part)
+}
+
+/// Of the declaration of this number of a rule with an item. It is passed over where it does not count, or the masks
+/// have no bit in common.
 #[tactic(auto, using(crate::proofs::Masked::decl_passed, crate::proofs::HeldAnswers::stays_itself))]
 fn of_decl(
     pairs: &mut Pairs,
     window: &Window<'_>,
     source: &Source<'_>,
-    item: &Item,
-    number: u32,
-    mask: u64,
+    met: &Met<'_>,
     part: u32,
 ) -> Result<Option<Obstacle>, AllocError>
     requires askable { turns.IsAskable window.now.items.now }
     requires source { turns.IsRuleAt window.now.items.now source.now.item source.now.rule.now }
-    requires item { turns.IsItemOf window.now number item.now }
-    requires mask { mask ≡ item_mask item.now }
+    requires masked { turns.IsMasked source.now }
+    requires met { turns.IsMet window.now met.now }
     requires part { (x : declared_decl.DeclItem) × (slice_get source.now.rule.now.decls part ≡ Some x) }
     ensures stays { Stays pairs.old pairs.new }
     ensures told { IfOk result (λ found. (x : declared_decl.DeclItem) → slice_get source.now.rule.now.decls part ≡ Some x →
-        IsToldOf pairs.new.answers window.now (turns.OfItem source.now.rule.now source.now.with x.decl window.now.items.now number item.now) found) }
+        IsToldOf pairs.new.answers window.now (turns.OfDecl window.now.items.now met.now.number met.now.item.now source.now x) found) }
 {
-    let decl = decl_of(source.rule, part);
+    let mask = own_mask(source, part);
+    if mask & met.mask == 0 {
+        return Ok(None);
+    }
     let moved = DeclAt {
         item: source.item,
         rule: source.rule,
         number: part,
-        decl,
-        mask: decl_mask(decl),
+        decl: decl_of(source.rule, part),
+        mask,
     };
-    if moved.mask & mask == 0 {
-        return Ok(None);
-    }
-    with_item(pairs, window, &moved, source.with, item, number)
+    with_item(pairs, window, &moved, met)
 }
 
-/// Of each declaration of a rule with an item of this mask.
+/// Of each declaration of a rule with an item.
 fn of_each(
     pairs: &mut Pairs,
     window: &Window<'_>,
     source: &Source<'_>,
-    item: &Item,
-    number: u32,
-    mask: u64,
+    met: &Met<'_>,
 ) -> Result<Option<Obstacle>, AllocError>
     requires askable { turns.IsAskable window.now.items.now }
     requires source { turns.IsRuleAt window.now.items.now source.now.item source.now.rule.now }
-    requires item { turns.IsItemOf window.now number item.now }
-    requires mask { mask ≡ item_mask item.now }
+    requires masked { turns.IsMasked source.now }
+    requires met { turns.IsMet window.now met.now }
     ensures stays { Stays pairs.old pairs.new }
-    ensures told { IfOk result (λ found. IsToldOf pairs.new.answers window.now (turns.OfSource window.now.items.now number item.now source.now) found) }
+    ensures told { IfOk result (λ found. IsToldOf pairs.new.answers window.now (turns.OfSource window.now.items.now met.now.number met.now.item.now source.now) found) }
 {
     let count = decl_count(source.rule);
     for decl in 0..count {
-        if let Some(found) = of_decl(pairs, window, source, item, number, mask, decl)? {
+        if let Some(found) = of_decl(pairs, window, source, met, decl)? {
             return Ok(Some(found));
         }
     }
@@ -371,6 +352,7 @@ fn of_each(
 /// Of a rule with an item of this mask, which is passed over where the masks have no bit in common.
 #[tactic(auto, using(crate::proofs::HeldAnswers::stays_itself))]
 pub(crate) fn of_source(
+    alloc: Global,
     pairs: &mut Pairs,
     window: &Window<'_>,
     source: &Source<'_>,
@@ -389,5 +371,12 @@ pub(crate) fn of_source(
     if source.mask & mask == 0 {
         return Ok(None);
     }
-    of_each(pairs, window, source, item, number, mask)
+    let masks = masks_in(alloc, item)?;
+    let met = Met {
+        item,
+        number,
+        mask,
+        masks: &masks,
+    };
+    of_each(pairs, window, source, &met)
 }

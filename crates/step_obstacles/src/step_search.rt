@@ -1,14 +1,11 @@
 //! What blocks a step, looked for among the items from its first to its last one.
 
 ghost use Rattle.std.specs.Prelude.{◌≡◌, true, IfNone, IfOk, IfSome, None, Some, map, slice_get};
-ghost use Rattle.std.specs.List.{Contains};
-ghost use Rattle.css_model.specs.declared.sheet.DeclItem as declared;
 ghost use Rattle.css_model.specs.declared.sheet.Item.TheVariants as kinds;
 ghost use Rattle.css_model.specs.Sheets.RuleParts.{RuleParts};
 ghost use Rattle.obstacles.specs.Blocking.{IsBlockedBy};
 ghost use Rattle.order_laws.specs.Edits.{Edit};
-ghost use Rattle.order_laws.specs.Members.{has_decl};
-ghost use Rattle.related_props.specs.Masks.{IsWithin, decl_mask, item_mask};
+ghost use Rattle.related_props.specs.Masks.{item_mask};
 ghost use Rattle.sheet_order.specs.Allowing.{Stays};
 ghost use Rattle.sheet_order.specs.Laws.{answer_seen};
 ghost use Rattle.sheet_order.specs.declared.places.Moved.TheVariants as moved;
@@ -20,6 +17,7 @@ ghost use Rattle.step_obstacles.specs.StepWindow.{AreThere, IsToldBy, IsWindowFo
 ghost use Rattle.step_obstacles.specs.Turns as turns;
 ghost use Rattle.window_laws.specs.StepWindows as windows;
 
+use crate::decl_masks::{bits_of, masks_of};
 use crate::facing::Source;
 use crate::window_search::in_window;
 use css_model::{Item, Rule, Sheet};
@@ -27,7 +25,6 @@ use merge_steps::{Change, changes};
 use obstacles::Obstacle;
 use overlap::Pairs;
 use print_laws::selectors_are_in_the_profile;
-use related_props::mask_of_items;
 use sheet_order::Moved;
 use std::alloc::{AllocError, Global};
 use step_laws::{Step, parts_are_few, steps_are_one_edit};
@@ -98,57 +95,48 @@ pub fn window_of<'a>(
     }
 }
 
-/// The bits of the declarations of a rule.
-#[tactic(auto, using(related_props::proofs::ForCallers::decl_is_within))]
-fn decls_mask(rule: &Rule) -> u64
-    ensures { (x : declared.DeclItem) → Contains rule.now.decls x → IsWithin (decl_mask x.decl) result }
-{
-    mask_of_items(&rule.decls)
-}
-
-/// Bits of declarations of a rule, among them those of each one that stands in another rule too.
-#[tactic(auto, using(crate::proofs::Masked::common_within))]
-fn common_mask(rule: &Rule, other: &Rule) -> u64
-    ensures { (x : declared.DeclItem) → Contains rule.now.decls x → has_decl other.now.decls x.decl ≡ true → IsWithin (decl_mask x.decl) result }
-{
-    mask_of_items(&rule.decls) & mask_of_items(&other.decls)
-}
-
-/// All pairs of the rule of this number.
-fn whole(sheet: &Sheet, item: u32) -> Source<'_>
+/// All pairs of the rule of this number. The error comes where memory is short.
+fn whole(alloc: Global, sheet: &Sheet, item: u32) -> Result<Source<'_>, AllocError>
     requires { (r : RuleParts) × (slice_get sheet.now.items item ≡ Some (kinds.Rule r)) }
-    ensures item { result.item ≡ item }
-    ensures with { result.with ≡ None }
-    ensures rule { slice_get sheet.now.items item ≡ Some (kinds.Rule result.rule.now) }
-    ensures masked { turns.IsMasked result }
+    ensures item { IfOk result (λ s. s.item ≡ item) }
+    ensures with { IfOk result (λ s. s.with ≡ None) }
+    ensures rule { IfOk result (λ s. slice_get sheet.now.items item ≡ Some (kinds.Rule s.rule.now)) }
+    ensures masked { IfOk result (λ s. turns.IsMasked s) }
 {
     let rule = rule_at(sheet, item);
-    Source {
+    let masks = masks_of(alloc, &rule.decls, None)?;
+    let mask = bits_of(&masks);
+    Ok(Source {
         item,
         rule,
         with: None,
-        mask: decls_mask(rule),
-    }
+        masks,
+        mask,
+    })
 }
 
-/// The pairs of the rule of this number whose declarations stand in another rule too.
-fn common(sheet: &Sheet, item: u32, other: u32) -> Source<'_>
+/// The pairs of the rule of this number whose declarations stand in another rule too. The error comes where memory is
+/// short.
+fn common(alloc: Global, sheet: &Sheet, item: u32, other: u32) -> Result<Source<'_>, AllocError>
     requires rule { (r : RuleParts) × (slice_get sheet.now.items item ≡ Some (kinds.Rule r)) }
     requires other { (r : RuleParts) × (slice_get sheet.now.items other ≡ Some (kinds.Rule r)) }
-    ensures item { result.item ≡ item }
-    ensures with { IfSome result.with (λ r. slice_get sheet.now.items other ≡ Some (kinds.Rule r.now)) }
-    ensures some { result.with ≡ None → ⊥ }
-    ensures rule { slice_get sheet.now.items item ≡ Some (kinds.Rule result.rule.now) }
-    ensures masked { turns.IsMasked result }
+    ensures item { IfOk result (λ s. s.item ≡ item) }
+    ensures with { IfOk result (λ s. IfSome s.with (λ r. slice_get sheet.now.items other ≡ Some (kinds.Rule r.now))) }
+    ensures some { IfOk result (λ s. s.with ≡ None → ⊥) }
+    ensures rule { IfOk result (λ s. slice_get sheet.now.items item ≡ Some (kinds.Rule s.rule.now)) }
+    ensures masked { IfOk result (λ s. turns.IsMasked s) }
 {
     let rule = rule_at(sheet, item);
     let with = rule_at(sheet, other);
-    Source {
+    let masks = masks_of(alloc, &rule.decls, Some(with))?;
+    let mask = bits_of(&masks);
+    Ok(Source {
         item,
         rule,
         with: Some(with),
-        mask: common_mask(rule, with),
-    }
+        masks,
+        mask,
+    })
 }
 
 /// The pairs that a step moves.
@@ -169,7 +157,9 @@ fn begins_below(step: &Step) -> bool {
 }
 
 /// What blocks of the pairs of the rule of this number.
+#[tactic(auto, using(crate::proofs::Sources::told_whole))]
 fn by_whole(
+    alloc: Global,
     pairs: &mut Pairs,
     window: &Window<'_>,
     sheet: &Sheet,
@@ -182,12 +172,13 @@ fn by_whole(
     ensures stays { Stays pairs.old pairs.new }
     ensures told { IfOk result (λ found. IsToldBy pairs.new.answers sheet.now.items (moved.Rule item) window.now found) }
 {
-    let source = whole(sheet, item);
-    in_window(pairs, window, &[source], upwards)
+    let source = whole(alloc, sheet, item)?;
+    in_window(alloc, pairs, window, &[source], upwards)
 }
 
 /// What blocks of the common pairs of the rules of these numbers.
 fn by_common(
+    alloc: Global,
     pairs: &mut Pairs,
     window: &Window<'_>,
     sheet: &Sheet,
@@ -202,13 +193,14 @@ fn by_common(
     ensures stays { Stays pairs.old pairs.new }
     ensures told { IfOk result (λ found. IsToldBy pairs.new.answers sheet.now.items (moved.Common upper lower) window.now found) }
 {
-    let above = common(sheet, upper, lower);
-    let below = common(sheet, lower, upper);
-    in_window(pairs, window, &[above, below], upwards)
+    let above = common(alloc, sheet, upper, lower)?;
+    let below = common(alloc, sheet, lower, upper)?;
+    in_window(alloc, pairs, window, &[above, below], upwards)
 }
 
 /// What blocks of the pairs that are moved.
 fn by_moved(
+    alloc: Global,
     pairs: &mut Pairs,
     window: &Window<'_>,
     sheet: &Sheet,
@@ -222,8 +214,10 @@ fn by_moved(
     ensures told { IfOk result (λ found. IsToldBy pairs.new.answers sheet.now.items moved.now window.now found) }
 {
     match *moved {
-        Moved::Rule(item) => by_whole(pairs, window, sheet, item, upwards),
-        Moved::Common { upper, lower } => by_common(pairs, window, sheet, upper, lower, upwards),
+        Moved::Rule(item) => by_whole(alloc, pairs, window, sheet, item, upwards),
+        Moved::Common { upper, lower } => by_common(
+            alloc, pairs, window, sheet, upper, lower, upwards,
+        ),
     }
 }
 
@@ -255,5 +249,5 @@ pub(crate) fn step_obstacle(
     let items = sheet.items.as_slice();
     let window = window_of(items, masks, step, &changes);
     let moved = moved_of(step);
-    by_moved(pairs, &window, sheet, &moved, begins_below(step))
+    by_moved(alloc, pairs, &window, sheet, &moved, begins_below(step))
 }

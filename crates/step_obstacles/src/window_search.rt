@@ -12,11 +12,12 @@ use crate::searching::of_source;
 use css_model::Item;
 use obstacles::Obstacle;
 use overlap::Pairs;
-use std::alloc::AllocError;
+use std::alloc::{AllocError, Global};
 use window_order::Window;
 
 /// Of some rules with an item of this mask.
 fn of_sources(
+    alloc: Global,
     pairs: &mut Pairs,
     window: &Window<'_>,
     sources: &[Source<'_>],
@@ -33,7 +34,7 @@ fn of_sources(
     ensures told { IfOk result (λ found. IsToldOf pairs.new.answers window.now (turns.OfSources window.now.items.now number item.now sources.now) found) }
 {
     for source in sources {
-        if let Some(found) = of_source(pairs, window, source, item, number, mask)? {
+        if let Some(found) = of_source(alloc, pairs, window, source, item, number, mask)? {
             return Ok(Some(found));
         }
     }
@@ -51,6 +52,7 @@ fn mask_of(window: &Window<'_>, number: usize) -> u64
 
 /// Of some rules with the item of this number.
 fn of_number(
+    alloc: Global,
     pairs: &mut Pairs,
     window: &Window<'_>,
     sources: &[Source<'_>],
@@ -66,7 +68,7 @@ fn of_number(
 {
     let item = &window.items[number];
     let mask = mask_of(window, number);
-    of_sources(pairs, window, sources, item, number as u32, mask)
+    of_sources(alloc, pairs, window, sources, item, number as u32, mask)
 }
 
 /// How many items a window has.
@@ -91,6 +93,7 @@ fn number_of(window: &Window<'_>, upwards: bool, turn: usize) -> usize
 
 /// Of some rules with all items of a window, upwards or downwards.
 pub(crate) fn in_window(
+    alloc: Global,
     pairs: &mut Pairs,
     window: &Window<'_>,
     sources: &[Source<'_>],
@@ -105,7 +108,7 @@ pub(crate) fn in_window(
     let count = count_of(window);
     for turn in 0..count {
         let number = number_of(window, upwards, turn);
-        if let Some(found) = of_number(pairs, window, sources, number)? {
+        if let Some(found) = of_number(alloc, pairs, window, sources, number)? {
             return Ok(Some(found));
         }
     }

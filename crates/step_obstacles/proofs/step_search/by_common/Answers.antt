@@ -1,0 +1,9 @@
+use Rattle.step_obstacles.proofs.Sources.{other_rule, told_common}
+use Rattle.step_obstacles.proofs.step_search.by_common.Goals as goal
+
+pub returns-clause-told : goal.returns-clause-told
+returns-clause-told c =
+    told_common c.in_window.new.pairs.answers c.args.sheet.now.items c.args.window.now c.args.upper c.args.lower c.in_ok-above.above c.in_ok-below.below
+    (other_rule c.args.sheet.now.items c.args.lower c.in_ok-above.above.with c.in_ok-above.ensures.with c.in_ok-above.ensures.some)
+    (other_rule c.args.sheet.now.items c.args.upper c.in_ok-below.below.with c.in_ok-below.ensures.with c.in_ok-below.ensures.some)
+    c.in_ok-above.ensures.rule c.in_ok-below.ensures.rule c.in_window.result c.in_window.ensures.told
