@@ -1,5 +1,7 @@
+mod AfterSteps
 mod Afterwards
 mod Around
+mod ChangedMasks
 mod Listing
 mod Masked
 mod Parts

@@ -1,2 +1,3 @@
 pub mod Afterwards
+pub mod ChangedMasks
 pub mod Listed

@@ -4,6 +4,7 @@
 mod entries;
 mod index;
 mod marked;
+mod masks;
 mod step_window;
 mod turning;
 

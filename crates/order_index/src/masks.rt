@@ -1,0 +1,51 @@
+//! The masks of a sheet's items after a step.
+
+ghost use Rattle.std.specs.Prelude.{◌≡◌, ◌++◌, IfOk, OnOk};
+ghost use Rattle.order_index.specs.ChangedMasks.{masks_from, masks_instead};
+
+use merge_steps::Change;
+use related_props::item_masks;
+use std::alloc::{AllocError, Global};
+
+/// Puts the masks of what stands in the place of an item behind the others, its own if it stays.
+fn push_masks(
+    alloc: Global,
+    list: &mut Vec<u64>,
+    changes: &[Change],
+    number: usize,
+    mask: u64,
+) -> Result<(), AllocError>
+    ensures { OnOk result (list.new.items ≡ list.old.items ++ masks_instead changes.now number mask) }
+{
+    let mut rest = changes;
+    'rest: while let Some((change, others)) = rest.split_first() {
+        if change.at as usize == number {
+            let masks = item_masks(alloc, &change.by)?;
+            list.extend_from_slice(&masks)?;
+            return Ok(());
+        }
+        rest = others;
+    }
+    list.push(mask)?;
+    Ok(())
+}
+
+/// The masks of the items with what stands in the places of those that are changed. Those of the items that stay are
+/// taken from these.
+pub(crate) fn changed_masks(
+    alloc: Global,
+    changes: &[Change],
+    masks: &[u64],
+) -> Result<Vec<u64>, AllocError>
+    ensures { IfOk result (λ list. list.items ≡ masks_from 0 changes.now masks.now) }
+{
+    let mut list = Vec::with_capacity(alloc, masks.len())?;
+    let mut number = 0;
+    let mut rest = masks;
+    'rest: while let Some((mask, behind)) = rest.split_first() {
+        push_masks(alloc, &mut list, changes, number, *mask)?;
+        number += 1;
+        rest = behind;
+    }
+    Ok(list)
+}
