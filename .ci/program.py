@@ -13,6 +13,7 @@ import os
 import re
 import resource
 import shlex
+import shutil
 import signal
 import socket
 import subprocess
@@ -21,7 +22,7 @@ import tempfile
 
 MORE = b"\nFor more information, try '--help'.\n"
 NO_WORD = b"""error: 'cssmin' requires a subcommand but one was not provided
-  [subcommands: min, cmp, style, dead, check, why, same, trial, help]
+  [subcommands: min, cmp, dead, style, why, same, check, trial, help]
 
 Usage: cssmin <COMMAND>
 """ + MORE
@@ -189,9 +190,13 @@ def try_wrong_lines(tries):
 
 
 def try_itself(tries):
-    """Help and the version, which is that of README."""
-    with open("README.md", encoding="utf-8") as file:
-        version = re.search(r"^Version (\S+)\.", file.read(), re.MULTILINE)[1]
+    """Help and the version, which is that of README, of the man page and of the latest changes."""
+    versions = set()
+    for path, line in [("README.md", r"^Version (\S+)\."), ("docs/cssmin.1", r'"cssmin (\S+)"'), ("CHANGELOG.md", r"^## (\S+)")]:
+        with open(path, encoding="utf-8") as file:
+            version = re.search(line, file.read(), re.MULTILINE)[1]
+        versions.add(version)
+    tries.is_same("the documents", "the number of versions that they name", len(versions), 1)
     for word in ["--version", "-V"]:
         tries.check_read(word, [word], SHEET, 0, f"cssmin {version}\n".encode(), b"", 0)
     for words in [["--help"], ["-h"], ["help"], ["min", "--help"], ["min", "-h"], ["cmp", "--help"], ["cmp", "-h"],
@@ -200,9 +205,28 @@ def try_itself(tries):
         name = " ".join(words)
         tries.is_same(name, "the exit status", ran.returncode, 0)
         tries.is_same(name, "standard error", ran.stderr, b"")
-        tries.is_same(name, "whether it fits on a screen", 5 < ran.stdout.count(b"\n") < 30, True)
+        rows = ran.stdout.splitlines()
+        tries.is_same(name, "whether it fits on a screen", 5 < len(rows) < 40 and max(map(len, rows)) <= 80, True)
     with open("/dev/full", "wb") as full:
         tries.check("help for a full output", ["--help"], SHEET, 5, b"", WRITE_FAULT, stdout=full)
+
+
+def try_readme(tries):
+    """Each example of README gives what stands below it. One that calls another tool is left out where that is not there."""
+    with open("README.md", encoding="utf-8") as file:
+        blocks = re.findall(r"^    \$ (.*)\n((?:    (?!\$ ).*\n)*)", file.read(), re.MULTILINE)
+    with tempfile.TemporaryDirectory() as folder:
+        os.symlink(tries.program, os.path.join(folder, "cssmin"))
+        os.symlink(os.path.abspath("examples"), os.path.join(folder, "examples"))
+        env = {**os.environ, "PATH": folder + os.pathsep + os.environ["PATH"]}
+        for command, below in blocks:
+            if "esbuild" in command and shutil.which("esbuild") is None:
+                continue
+            tries.cases += 1
+            ran = subprocess.run(
+                command, shell=True, cwd=folder, env=env, stdout=subprocess.PIPE, stderr=subprocess.STDOUT, timeout=60
+            )
+            tries.is_same(command, "what it gives", ran.stdout.decode(), re.sub(r"^    ", "", below, flags=re.MULTILINE))
 
 
 def try_pages(tries):
@@ -476,6 +500,7 @@ def main():
     try_words(tries)
     try_wrong_lines(tries)
     try_itself(tries)
+    try_readme(tries)
     try_pages(tries)
     try_pairs(tries)
     try_logs(tries)

@@ -88,30 +88,33 @@ fn obey<S: Source, O: Sink, E: Sink>(
     }
 }
 
-#[tactic(auto, using(crate::proofs::Forms::answered))]
-/// Runs the program on the words after its name. `min` reads a style sheet from `input` to its end, and writes
-/// it to `out` with the same winners of the cascade, in no more bytes; its report is told on `err`, where it is asked for,
-/// behind the text. `dead` reads one too, and writes to `out` which
-/// of its selectors match nothing. `style` reads a document and a
-/// sheet, and writes to `out` which declarations win. `cmp LEFT RIGHT` compares two selectors,
-/// and writes to `out` whether one element can match both. `check` reads a log, and writes to `out` whether it
-/// refutes its formula. `why FROM TO` reads a sheet, and writes to `out` what hinders the move of one rule to another;
-/// `NoItem` comes exactly where there is no item of one of these numbers. `same N` reads two sheets, the first one of N bytes,
-/// and writes to `out` what is found in them; `NoSplit` comes exactly where there are fewer bytes, and `SecondRefused` where the
-/// second sheet has a fault. `trial N` merges a made sheet of N rules, and writes
-/// to `out` what came of it. Words that ask for help or the version have it
-/// written to `out`. What else happened is told on `err`.
+/// Runs the program on the words after its name.
 ///
-/// `Usage` comes exactly of words that have no form. A sheet with a fault is refused (`SheetRefused`), and so is
-/// one of more than 1,048,576 bytes, after one byte more, or two of more than 2,097,152; so is a log (`LogRefused`), whose bound is 134,217,728 bytes. `ReadFault` comes only where a read failed,
-/// `WriteFault` only where a write failed, and after it the front of the text stands on `out`. No clause tells
-/// when memory is short: it may be at any point before the first byte is written, and a body that always
-/// answered so for words that have a form would meet them all. Tests stand against that. What follows for each
-/// status is told by the laws.
+/// - `min` reads a style sheet from `input` to its end, and writes it to `out` with the same winners of the cascade, in
+///   no more bytes; its report is told on `err`, where it is asked for, behind the text.
+/// - `cmp LEFT RIGHT` compares two selectors, and writes to `out` whether one element can match both.
+/// - `dead` reads a sheet, and writes to `out` which of its selectors match nothing.
+/// - `style` reads a document and a sheet, and writes to `out` which declarations win.
+/// - `why FROM TO` reads a sheet, and writes to `out` what hinders the move of one rule to another. `NoItem` comes
+///   exactly where there is no item of one of these numbers.
+/// - `same N` reads two sheets, the first one of N bytes, and writes to `out` what is found in them. `NoSplit` comes
+///   exactly where there are fewer bytes, and `SecondRefused` where the second sheet has a fault.
+/// - `check` reads a log, and writes to `out` whether it refutes its formula.
+/// - `trial N` merges a made sheet of N rules, and writes to `out` what came of it.
+///
+/// Words that ask for help or the version have it written to `out`. What else happened is told on `err`.
+///
+/// `Usage` comes exactly of words that have no form. A sheet with a fault is refused (`SheetRefused`), and so is one of
+/// more than 1,048,576 bytes, after one byte more, or two of more than 2,097,152; so is a document (`DocRefused`), and a
+/// log (`LogRefused`), whose bound is 134,217,728 bytes. `ReadFault` comes only where a read failed, `WriteFault` only
+/// where a write failed, and after it a front of the text stands on `out`. No clause tells when memory is short: it
+/// may be at any point before the first byte is written, and a body that always answered so for words that have a form
+/// would meet them all. Tests stand against that. What follows for each status is told by the laws.
 ///
 /// `held` is a place for the answers for pairs of selectors. What it holds is dropped. Afterwards it holds those
 /// that the run asked for, with its budget, where it asked and the status is `Done` or `WriteFault`, and else
 /// none.
+#[tactic(auto, using(crate::proofs::Forms::answered))]
 pub fn run<S: Source, O: Sink, E: Sink>(
     alloc: Global,
     words: &Vec<String>,
