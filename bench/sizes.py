@@ -26,7 +26,10 @@ def main():
         sys.exit(__doc__)
     program = os.path.abspath(sys.argv[1])
     peer = ["esbuild", "--minify", "--loader=css"]
-    version = subprocess.run(["esbuild", "--version"], stdout=subprocess.PIPE, text=True).stdout.strip()
+    try:
+        version = subprocess.run(["esbuild", "--version"], stdout=subprocess.PIPE, text=True).stdout.strip()
+    except FileNotFoundError:
+        sys.exit("esbuild is not on the PATH")
     print(f"| sheet | bytes | `cssmin min` | `esbuild --minify` {version} |")
     print("|---|---:|---:|---:|")
     for path in sys.argv[2:]:
