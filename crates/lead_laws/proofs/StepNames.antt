@@ -1,5 +1,5 @@
 -- The items of a step, and their names.
-use Rattle.std.proofs.Common.{◌≡◌, ◌≢◌, ℕ, ◌<◌, List, length, get_or, Some, refl, ap, ap₂, arith}
+use Rattle.std.proofs.Common.{◌≡◌, ◌≢◌, ℕ, ◌<◌, List, length, get_or, Some, refl, sym, ap, ap₂, subst, arith}
 use Rattle.std.specs.Prelude.{nat_lt, slice_get, slice_index}
 use Rattle.std.specs.List.{AllPairs}
 use Rattle.std.proofs.lemmas.Bool.{cond_both}
@@ -17,6 +17,15 @@ use Rattle.wall_laws.specs.Renumbering.{Leaves, new_number, renumbered, IsOfOthe
 
 -- ---- The items of a step
 
+apart : (x n : ℕ) → x ≢ n → n ≢ x
+apart x n differ same = differ (sym same)
+
+one : (x n : ℕ) → x ≢ n → (n ≢ x) × (n ≢ x)
+one x n differ = (apart x n differ, apart x n differ)
+
+two : (x y n : ℕ) → (x ≢ n) × ((y ≢ n) × Unit {0}) → (n ≢ x) × (n ≢ y)
+two x y n differ = (apart x n differ.0, apart y n differ.1.0)
+
 pub within : (items : List Item) (k : Step) (e : Edit) → IsStep items k e → (first_item k < length items) × (last_item k < length items)
 within items (CutDecl n i) e c = let h = slice_get_within items n (Rule c.rule) c.rule_at in (h, h)
 within items (CutSel n i) e c = let h = slice_get_within items n (Rule c.rule) c.rule_at in (h, h)
@@ -25,6 +34,16 @@ within items (JoinSelDown x y) e j = (slice_get_within items x (Rule j.upper) j.
 within items (JoinDeclUp x y) e j = (slice_get_within items x (Rule j.upper) j.rules.upper_at, slice_get_within items y (Rule j.lower) j.rules.lower_at)
 within items (JoinDeclDown x y) e j = (slice_get_within items x (Rule j.upper) j.rules.upper_at, slice_get_within items y (Rule j.lower) j.rules.lower_at)
 within items (Share x y) e j = (slice_get_within items x (Rule j.upper) j.rules.upper_at, slice_get_within items y (Rule j.lower) j.rules.lower_at)
+
+-- what it leaves is none of them
+pub left_apart : (items : List Item) (k : Step) (e : Edit) (n : ℕ) → IsStep items k e → Leaves e n → (n ≢ first_item k) × (n ≢ last_item k)
+left_apart items (CutDecl x i) e n c leaves = one x n (subst (λ (d : Edit). Leaves d n) c.is leaves).0
+left_apart items (CutSel x i) e n c leaves = one x n (subst (λ (d : Edit). Leaves d n) c.is leaves).0
+left_apart items (JoinSelUp x y) e n j leaves = two x y n (subst (λ (d : Edit). Leaves d n) j.is leaves)
+left_apart items (JoinSelDown x y) e n j leaves = two x y n (subst (λ (d : Edit). Leaves d n) j.is leaves)
+left_apart items (JoinDeclUp x y) e n j leaves = two x y n (subst (λ (d : Edit). Leaves d n) j.is leaves)
+left_apart items (JoinDeclDown x y) e n j leaves = two x y n (subst (λ (d : Edit). Leaves d n) j.is leaves)
+left_apart items (Share x y) e n j leaves = two x y n (subst (λ (d : Edit). Leaves d n) j.is leaves)
 
 -- its owner is one of them
 pub owner_within : (items : List Item) (births : List ℕ) (k : Step) (e : Edit) → IsStep items k e → owner births k < length items

@@ -8,13 +8,32 @@ use Rattle.plan_board.specs.declared.marks.Mark.{Mark}
 use Rattle.plan_board.specs.BoardParts.{BoardParts}
 use Rattle.plan_board.specs.MarkList.{labels_of}
 use Rattle.plan_board.specs.Marking.{AreKept}
-use Rattle.rule_tables.specs.Tables.{TableParts, Cover, labelled, with_label}
+use Rattle.rule_tables.specs.Tables.{TableParts, Labelled, Cover, HaveOtherLabels, labelled, with_label}
+use Rattle.step_laws.specs.declared.step.Step.{Step}
+use Rattle.step_laws.specs.Steps.{IsStep, first_item, last_item}
+use Rattle.wall_laws.specs.Renumbering.{Leaves}
 
--- Tables that cover the rules of a board cover those of the one behind an edit, where they cover each that is born now.
+-- each rule that an edit leaves is covered by later tables too, where it was
+abbrev pub StayCovered : BoardParts → Edit → (tables later : TableParts) → Type 0
+StayCovered b e tables later = (n : ℕ) (m : Mark) (r : RuleParts) → Leaves e n → slice_get b.marks n ≡ Some m → slice_get b.items n ≡ Some (Rule r) →
+    Cover tables (with_label r m.label ∷ []) → Cover later (with_label r m.label ∷ [])
+
+-- Where tables cover the rules of a board, later ones cover those of the one behind an edit, if each that it leaves stays covered, and they cover each that is born now.
 abbrev pub CoverGoesOn : Type 0
-CoverGoesOn = (old new : BoardParts) (e : Edit) (tables : TableParts) → IsMarked old → AreKept old new e → new.items ≡ edited e old.items → Cover tables (labelled old.items (labels_of old.marks)) →
-    ((n : ℕ) (m : Mark) (r : RuleParts) → slice_get new.marks n ≡ Some m → slice_get new.items n ≡ Some (Rule r) → old.next ≤ m.birth → Cover tables (with_label r m.label ∷ [])) →
-    Cover tables (labelled new.items (labels_of new.marks))
+CoverGoesOn = (old new : BoardParts) (e : Edit) (tables later : TableParts) → IsMarked old → AreKept old new e → new.items ≡ edited e old.items → Cover tables (labelled old.items (labels_of old.marks)) →
+    StayCovered old e tables later →
+    ((n : ℕ) (m : Mark) (r : RuleParts) → slice_get new.marks n ≡ Some m → slice_get new.items n ≡ Some (Rule r) → old.next ≤ m.birth → Cover later (with_label r m.label ∷ [])) →
+    Cover later (labelled new.items (labels_of new.marks))
+
+-- none of these rules has the label of the item of this number
+abbrev pub HaveOtherLabelsThan : List Mark → ℕ → List Labelled → Type 0
+HaveOtherLabelsThan marks n rules = (m : Mark) → slice_get marks n ≡ Some m → HaveOtherLabels rules m.label
+
+-- Each rule that a step leaves stays covered, where all do that have other labels than the first and the last item of the step.
+abbrev pub OthersStayCovered : Type 0
+OthersStayCovered = (b : BoardParts) (k : Step) (e : Edit) (tables later : TableParts) → IsMarked b → IsStep b.items k e →
+    ((rules : List Labelled) → HaveOtherLabelsThan b.marks (first_item k) rules → HaveOtherLabelsThan b.marks (last_item k) rules → Cover tables rules → Cover later rules) →
+    StayCovered b e tables later
 
 -- They cover the rules of any board where they cover each.
 abbrev pub CoverIsOfEach : Type 0

@@ -1,6 +1,6 @@
 //! What code keeps beside a board.
 
-ghost use Rattle.lead_laws.specs.Beside.{CoverGoesOn, CoverIsOfEach, HomesGoOn};
+ghost use Rattle.lead_laws.specs.Beside.{CoverGoesOn, CoverIsOfEach, HomesGoOn, OthersStayCovered};
 
 use rule_tables::{labelled_rules_stand, rules_are_labelled};
 use wall_laws::items_stay;
@@ -12,8 +12,8 @@ pub fn cover_is_of_each()
     labelled_rules_stand();
 }
 
-/// Tables that cover the rules of a board cover those of the one behind an edit, where they cover each that is born
-/// now.
+/// Where tables cover the rules of a board, later ones cover those of the one behind an edit, if each that it leaves
+/// stays covered, and they cover each that is born now.
 pub fn cover_goes_on()
     ensures { CoverGoesOn }
 {
@@ -21,6 +21,12 @@ pub fn cover_goes_on()
     rules_are_labelled();
     items_stay();
 }
+
+/// Each rule that a step leaves stays covered, where all do that have other labels than the first and the last item of
+/// the step.
+pub fn others_stay_covered()
+    ensures { OthersStayCovered }
+{}
 
 /// Under the birth of each item stands its label, also behind an edit.
 pub fn homes_go_on()

@@ -8,11 +8,12 @@ ghost use Rattle.overlap.specs.Stored.{IsStore, answers_of};
 
 use crate::answer::{Answer, Decision};
 use crate::decision::decide;
-use crate::store::{Places, find_places, store};
+use crate::store::{Places, Selectors, find_places, store};
 use cnf::{Formula, Ledger};
 use css_model::Selector;
 use indexmap::{IndexMap, IndexSet};
 use std::alloc::{AllocError, Global};
+use std::hash::BuildHasherDefault;
 use std::marker::Model;
 
 /// Answers for ordered pairs of selectors, in the order in which they were given, and the budget of learned
@@ -22,7 +23,7 @@ pub struct Pairs {
     alloc: Global,
     budget: u32,
     /// The selectors that were asked, each once. One without an answer may stand here after a want of memory.
-    selectors: IndexSet<Selector>,
+    selectors: Selectors,
     /// The answers, by the places of both selectors.
     answers: IndexMap<Places, Answer>,
     ghost kept: { ∥ IsStore selectors.keys answers.entries ∥₁ },
@@ -50,7 +51,7 @@ impl Pairs {
         Pairs {
             alloc,
             budget,
-            selectors: IndexSet::new(alloc),
+            selectors: IndexSet::with_hasher(alloc, BuildHasherDefault::new()),
             answers: IndexMap::new(alloc),
         }
     }

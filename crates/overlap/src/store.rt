@@ -8,7 +8,12 @@ ghost use Rattle.overlap.specs.Stored.{Adds, AreAt, IsStore, answers_of};
 use crate::answer::Answer;
 use css_model::Selector;
 use indexmap::{IndexMap, IndexSet};
+use mixing::Mixer;
 use std::alloc::{AllocError, AllocFailed};
+use std::hash::BuildHasherDefault;
+
+/// Selectors, each once, by a hasher that takes each code point at little cost.
+pub(crate) type Selectors = IndexSet<Selector, BuildHasherDefault<Mixer>>;
 
 /// The places of the two selectors of a pair among those that were asked.
 #[derive(Clone, Copy, Debug, PartialEq, Eq, Hash)]
@@ -20,11 +25,7 @@ pub(crate) struct Places {
 }
 
 /// The places of two selectors, if both were asked.
-pub(crate) fn find_places(
-    selectors: &IndexSet<Selector>,
-    x: &Selector,
-    y: &Selector,
-) -> Option<Places>
+pub(crate) fn find_places(selectors: &Selectors, x: &Selector, y: &Selector) -> Option<Places>
     ensures { spec.ArePlaces selectors.now.keys x.now y.now result }
 {
     let left = find_place(selectors, x)?;
@@ -33,7 +34,7 @@ pub(crate) fn find_places(
 }
 
 /// The place of a selector, if it was asked.
-fn find_place(selectors: &IndexSet<Selector>, x: &Selector) -> Option<usize>
+fn find_place(selectors: &Selectors, x: &Selector) -> Option<usize>
     ensures { spec.IsPlace selectors.now.keys x.now result }
 {
     selectors.get_index_of(x)
@@ -41,7 +42,7 @@ fn find_place(selectors: &IndexSet<Selector>, x: &Selector) -> Option<usize>
 
 /// Stores an answer for an ordered pair that has none, and gives its index.
 pub(crate) fn store(
-    selectors: &mut IndexSet<Selector>,
+    selectors: &mut Selectors,
     answers: &mut IndexMap<Places, Answer>,
     x: &Selector,
     y: &Selector,
@@ -60,11 +61,7 @@ pub(crate) fn store(
 }
 
 /// The places of two selectors, which get one where they have none. After an error the first may have got one.
-fn give_places(
-    selectors: &mut IndexSet<Selector>,
-    x: &Selector,
-    y: &Selector,
-) -> Result<Places, AllocError>
+fn give_places(selectors: &mut Selectors, x: &Selector, y: &Selector) -> Result<Places, AllocError>
     requires { spec.IsOnce selectors.old.keys }
     ensures adds { Adds selectors.old.keys selectors.new.keys }
     ensures places { IfOk result (λ places. AreAt selectors.new.keys x.now y.now places) }
@@ -75,7 +72,7 @@ fn give_places(
 }
 
 /// The place of a selector, which gets one where it has none.
-fn give_place(selectors: &mut IndexSet<Selector>, x: &Selector) -> Result<usize, AllocError>
+fn give_place(selectors: &mut Selectors, x: &Selector) -> Result<usize, AllocError>
     requires { spec.IsOnce selectors.old.keys }
     ensures adds { Adds selectors.old.keys selectors.new.keys }
     ensures place { IfOk result (λ place. slice_get selectors.new.keys place ≡ Some x.now) }

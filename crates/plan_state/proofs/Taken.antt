@@ -1,11 +1,11 @@
 -- A plan after a step that is taken in place.
-use Rattle.std.proofs.Common.{◌≡◌, ℕ, ◌+◌, ◌<◌, ◌≤◌, true, List, length, sym, subst, arith}
+use Rattle.std.proofs.Common.{◌≡◌, ℕ, ◌+◌, ◌<◌, ◌≤◌, true, List, [], ◌∷◌, length, sym, subst, arith}
 use Rattle.std.specs.List.{Contains}
 use Rattle.css_model.specs.Cascade.Order.{Pair}
 use Rattle.css_model.specs.Sheets.Limits.{max_bytes, max_items}
 use Rattle.hold_laws.specs.Leads as held
 use Rattle.hold_laws.specs.Room.{SheetsHaveRoom}
-use Rattle.lead_laws.specs.Beside.{CoverGoesOn, HomesGoOn}
+use Rattle.lead_laws.specs.Beside.{CoverGoesOn, HomesGoOn, StayCovered}
 use Rattle.lead_laws.specs.Known.{IsTaken, TakenIsKnown}
 use Rattle.lead_laws.specs.MarkNames.{IsMarked}
 use Rattle.lead_laws.specs.Remembering.{untouched}
@@ -14,6 +14,7 @@ use Rattle.lead_plan.specs.Told.{lead_told}
 use Rattle.order_laws.specs.Edits.{is_moved, Edit, edited}
 use Rattle.plan_board.specs.Marking.{AreKept}
 use Rattle.plan_laws.specs.Plannable.{IsPlannable}
+use Rattle.rule_tables.specs.Tables.{TableParts, with_label}
 use Rattle.step_laws.specs.declared.step.Step.{Step}
 use Rattle.step_laws.specs.Free.{Answered}
 use Rattle.step_laws.specs.Leading.{Takes}
@@ -27,25 +28,27 @@ use Rattle.plan_state.specs.Waking.{IsAwake}
 use Rattle.plan_state.proofs.Plannable.{plannable_after, saved_by}
 use Rattle.plan_state.proofs.Starting.{home_there, covered_there, lead_there}
 
--- what was done to a plan: its turns were woken, its step was taken, and its items were greeted
-pub record IsDone (p p' : PlanParts) (woken : List held.Lead) (e : Edit) : Type 0 where
+-- what was done to a plan: its turns were woken, the step's items were taken out of its tables, its step was taken, and its items were greeted
+pub record IsDone (p p' : PlanParts) (woken : List held.Lead) (left : TableParts) (e : Edit) : Type 0 where
   pub items : p'.board.items ≡ edited e p.board.items
   pub marked : IsMarked p'.board
   pub kept : AreKept p.board p'.board e
   pub later : p.board.next ≤ p'.board.next
   pub led : (l : held.Lead) → Contains p.leads l → Contains woken l
   pub awake : (q : Pair) → is_moved e.moved q ≡ true → IsAwake p.entries woken q.selector q.decl
+  pub covered : StayCovered p.board e p.tables left
   pub greeted : AreGreeted p.board.next p'.board.marks p'.board.items p'.tables p'.leads p'.homes
-  pub stay : StayBefore p.board.next p.tables woken p.homes p'.tables p'.leads p'.homes
+  pub stay : StayBefore p.board.next left woken p.homes p'.tables p'.leads p'.homes
   pub entries : p'.entries ≡ p.entries
 
-pub taken_state : TakenIsKnown → SheetsHaveRoom → CoverGoesOn → HomesGoOn → StepsMakeOf → EachIsMadeOfItself → (answers : List Answered) (source : List ℕ) (p p' : PlanParts) (woken : List held.Lead) (k : Step) (e : Edit) →
-    IsStep p.board.items k e → length p.board.items + 1 < max_items → IsDone p p' woken e → Takes answers source p.board.items (edited e p.board.items) → IsState answers source p → IsState answers source p'
-taken_state taken room cover homes make itself answers source p p' woken k e is few d takes s = record {
+pub taken_state : TakenIsKnown → SheetsHaveRoom → CoverGoesOn → HomesGoOn → StepsMakeOf → EachIsMadeOfItself → (answers : List Answered) (source : List ℕ) (p p' : PlanParts) (woken : List held.Lead) (left : TableParts) (k : Step) (e : Edit) →
+    IsStep p.board.items k e → length p.board.items + 1 < max_items → IsDone p p' woken left e → Takes answers source p.board.items (edited e p.board.items) → IsState answers source p → IsState answers source p'
+taken_state taken room cover homes make itself answers source p p' woken left k e is few d takes s = record {
   board = record {
     plannable = subst (IsPlannable source) (sym d.items) (plannable_after make itself source p.board.items s.board.plannable answers (edited e p.board.items) takes);
     marked = d.marked;
-    covered = cover p.board p'.board e p'.tables s.board.marked d.kept d.items (d.stay.covered _ s.board.covered) (covered_there p.board.next p'.board d.marked p'.tables p'.leads p'.homes d.greeted);
+    covered = cover p.board p'.board e p.tables p'.tables s.board.marked d.kept d.items s.board.covered
+        (λ n m r leaves mark_at item_at there. d.stay.covered (with_label r m.label ∷ []) (d.covered n m r leaves mark_at item_at there)) (covered_there p.board.next p'.board d.marked p'.tables p'.leads p'.homes d.greeted);
     homes = homes p.board p'.board e p.homes p'.homes s.board.marked d.kept s.board.homes d.stay.kept (home_there p.board.next p'.board d.marked p'.tables p'.leads p'.homes d.greeted);
   };
   aside = untouched e s.aside;

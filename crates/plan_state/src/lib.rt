@@ -3,6 +3,7 @@
 #![tactic(auto)]
 
 mod greeting;
+mod leaving;
 mod plan;
 mod taking;
 mod waking;

@@ -11,6 +11,7 @@ ghost use Rattle.step_laws.specs.Leading.{Takes};
 ghost use Rattle.step_laws.specs.Steps.{HasStep, IsStep};
 
 use crate::greeting::greet;
+use crate::leaving::uncover;
 use crate::plan::Plan;
 use crate::waking::wake_moved;
 use css_model::MAX_ITEMS;
@@ -59,6 +60,7 @@ impl Plan {
             mut homes,
         } = self;
         wake_moved(alloc, &aside, &mut waiting, board.sheet(), step)?;
+        uncover(&mut tables, &board, step);
         let next = board.next();
         let board = board.take(alloc, step)?;
         greet(&board, next, &mut tables, &mut waiting, &mut homes)?;

@@ -11,7 +11,7 @@ use Rattle.std.proofs.lemmas.Bool.{cases_lt}
 use Rattle.std.proofs.lemmas.Map.Lookups.{exact_unsigned}
 use Rattle.list_facts.proofs.Members.{Contains-cons_cases, Contains-filter, Contains-filtered, Contains-here, Contains-nil, Contains-there}
 use Rattle.rule_tables.specs.declared.entries.Entry.{Entry}
-use Rattle.rule_tables.specs.Entries.{Puts, PutsSome, PutsUnder, entry}
+use Rattle.rule_tables.specs.Entries.{Puts, PutsSome, PutsUnder, TakesOut, entry}
 
 -- ---- By tests
 
@@ -62,6 +62,17 @@ module _ {K : Type 0} (test : K → K → Bool) (itself : (k : K) → test k k �
       back false e (inl h) = tested old q h
       back false e (inr h) = absurd (not_one x q e h)
 
+  pub takes_by_test : (old new : List K) (x : K) → ((q : K) → list_any (test q) new ≡ cond (test x q) false (list_any (test q) old)) → TakesOut old (x ∷ []) new
+  takes_by_test old new x is q = (λ h. there (test x q) refl (sym (is q) ∙ tested new q h), λ h. listed new q (is q ∙ back (test x q) refl h.0 h.1))
+    where
+      there : (b : Bool) → test x q ≡ b → cond b false (list_any (test q) old) ≡ true → Contains old q × ¬ Contains (x ∷ []) q
+      there true e h = absurd (true≢false (sym h))
+      there false e h = (listed old q h, not_one x q e)
+
+      back : (b : Bool) → test x q ≡ b → Contains old q → ¬ Contains (x ∷ []) q → cond b false (list_any (test q) old) ≡ true
+      back true e h other = absurd (other (one x q e))
+      back false e h other = tested old q h
+
 -- ---- The order of entries
 
 abbrev entry_cmp : Entry → Entry → Ordering
@@ -97,6 +108,10 @@ nat_same a b h = by (nat_cmp a b) refl h
 pub put_entry : (old new : List Entry) (x : Entry) →
     ((q : Entry) → list_any (λ k. is_eq (entry_cmp q k)) new ≡ cond (is_eq (entry_cmp x q)) true (list_any (λ k. is_eq (entry_cmp q k)) old)) → Puts old (x ∷ []) new
 put_entry old new x is = puts_by_test (λ (q k : Entry). is_eq (entry_cmp q k)) entry_itself entry_same old new x is
+
+pub take_entry : (old new : List Entry) (x : Entry) →
+    ((q : Entry) → list_any (λ k. is_eq (entry_cmp q k)) new ≡ cond (is_eq (entry_cmp x q)) false (list_any (λ k. is_eq (entry_cmp q k)) old)) → TakesOut old (x ∷ []) new
+take_entry old new x is = takes_by_test (λ (q k : Entry). is_eq (entry_cmp q k)) entry_itself entry_same old new x is
 
 pub put_number : (old new : List ℕ) (x : ℕ) →
     ((q : ℕ) → list_any (λ k. is_eq (nat_cmp q k)) new ≡ cond (is_eq (nat_cmp x q)) true (list_any (λ k. is_eq (nat_cmp q k)) old)) → Puts old (x ∷ []) new
@@ -147,6 +162,21 @@ module _ {X : Type 0} where
       there : Contains b x ⊎ Contains ys x → Contains a x ⊎ Contains (y ∷ ys) x
       there (inl h) = elim ((f x).0 h) [ inl k ↦ inl k | inr k ↦ inr (first_in y ys x k) ]
       there (inr h) = inr (Contains-there y ys x h)
+
+  takes_none : (a : List X) → TakesOut a [] a
+  takes_none a x = (λ h. (h, Contains-nil x), λ h. h.0)
+
+  pub takes_more : (a b c : List X) (y : X) (ys : List X) → TakesOut a (y ∷ []) b → TakesOut b ys c → TakesOut a (y ∷ ys) c
+  takes_more a b c y ys f g x = (there, back)
+    where
+      there : Contains c x → Contains a x × ¬ Contains (y ∷ ys) x
+      there h =
+          let rest : Contains b x × ¬ Contains ys x = (g x).0 h in
+          let first : Contains a x × ¬ Contains (y ∷ []) x = (f x).0 rest.0 in
+          (first.0, λ k. elim (cons_cases y ys x k) [ inl i ↦ first.1 i | inr i ↦ rest.1 i ])
+
+      back : Contains a x × ¬ Contains (y ∷ ys) x → Contains c x
+      back (h, other) = (g x).1 ((f x).1 (h, λ k. other (first_in y ys x k)), λ k. other (Contains-there y ys x k))
 
 -- ---- The labels under a digest
 
@@ -207,6 +237,13 @@ module _ {S X : Type 0} (f : S → X) where
   pub puts_step : (rest behind : List S) (first : S) → rest ≡ first ∷ behind → (a b c : List X) (y : X) → y ≡ f first → Puts a (y ∷ []) b → Puts b (map f behind) c → Puts a (map f rest) c
   puts_step rest behind first is a b c y same g h =
       subst (λ (s : List S). Puts a (map f s) c) (sym is) (puts_more a b c (f first) (map f behind) (subst (λ (z : X). Puts a (z ∷ []) b) same g) h)
+
+  pub takes_step : (rest behind : List S) (first : S) → rest ≡ first ∷ behind → (a b c : List X) (y : X) → y ≡ f first → TakesOut a (y ∷ []) b → TakesOut b (map f behind) c → TakesOut a (map f rest) c
+  takes_step rest behind first is a b c y same g h =
+      subst (λ (s : List S). TakesOut a (map f s) c) (sym is) (takes_more a b c (f first) (map f behind) (subst (λ (z : X). TakesOut a (z ∷ []) b) same g) h)
+
+  pub takes_end : (rest : List S) → rest ≡ [] → (a : List X) → TakesOut a (map f rest) a
+  takes_end rest is a = subst (λ (s : List S). TakesOut a (map f s) a) (sym is) (takes_none a)
 
   pub some_step : (rest behind : List S) (first : S) → rest ≡ first ∷ behind → (a b c : List X) (y : X) → y ≡ f first → Puts a (y ∷ []) b → PutsSome b (map f behind) c → PutsSome a (map f rest) c
   some_step rest behind first is a b c y same g h =

@@ -4,4 +4,3 @@ mod OtherRules
 mod Sharing
 mod Standing
 mod StepRules
-mod Writes

@@ -1,5 +1,5 @@
 -- Tables while rules come.
-use Rattle.std.proofs.Common.{◌≡◌, ◌↔◌, ◌⊎◌, inl, inr, ℕ, List, [], ◌∷◌, ◌++◌, refl, sym, ap, subst, ◌∙◌, Result, Ok, Err, OnErr, OnOk}
+use Rattle.std.proofs.Common.{◌≡◌, ◌↔◌, ◌⊎◌, inl, inr, ℕ, List, [], ◌∷◌, ◌++◌, map, refl, sym, ap, subst, ◌∙◌, Result, Ok, Err, OnErr, OnOk}
 use Rattle.std.specs.List.{Contains, flat_map}
 use Rattle.std.proofs.lemmas.List.Elements.{Contains-append_cases, Contains-append_left, Contains-append_right}
 use Rattle.css_model.specs.declared.sheet.DeclItem.{DeclItem}
@@ -9,8 +9,10 @@ use Rattle.css_model.specs.declared.sheet.SelItem.{SelItem}
 use Rattle.css_model.specs.Sheets.RuleParts.{RuleParts}
 use Rattle.list_facts.proofs.Members.{Contains-cons_cases, Contains-here, Contains-nil, Contains-there}
 use Rattle.rule_tables.specs.declared.entries.Entry.{Entry}
-use Rattle.rule_tables.specs.Entries.{Puts, PutsSome, decl_entries, selector_entries}
-use Rattle.rule_tables.specs.Tables.{Cover, Labelled, PutsRule, PutsRules, PutsSomeOf, StandFor, TableParts, entries_by_decl, entries_by_selector, labelled, with_label}
+use Rattle.rule_tables.specs.Digests.{selector_digest, decl_digest}
+use Rattle.rule_tables.specs.Entries.{Puts, PutsSome, TakesOut, decl_entries, entry, selector_entries}
+use Rattle.rule_tables.specs.Tables.{Cover, HaveOtherLabels, Labelled, PutsRule, PutsRules, PutsSomeOf, StandFor, TableParts, TakesRule, entries_by_decl, entries_by_selector, labelled, with_label}
+use Rattle.rule_tables.proofs.EntrySets.{unmapped}
 
 -- ---- Lists of entries, by the rules that they come from
 
@@ -55,6 +57,27 @@ pub still_some : (old new : TableParts) (r : RuleParts) (label : ℕ) → PutsSo
 still_some old new r label puts rules cover = record {
   selectors = kept entries_by_selector old.selectors new.selectors rules (λ e h. (puts.selectors e).0 h) cover.selectors;
   decls = kept entries_by_decl old.decls new.decls rules (λ e h. (puts.decls e).0 h) cover.decls;
+}
+
+-- a rule with another label has other entries
+module _ {S : Type 0} (digest : S → ℕ) where
+  label_of : (label : ℕ) (parts : List S) (e : Entry) → Contains (map (λ s. entry (digest s) label) parts) e → e.label ≡ label
+  label_of label parts e h = let w : (s : S) × Contains parts s × (entry (digest s) label ≡ e) = unmapped (λ s. entry (digest s) label) parts e h in sym (ap (λ (x : Entry). x.label) w.2)
+
+of_others : (f : Labelled → List Entry) (old new gone : List Entry) (label : ℕ) (rules : List Labelled) → ((x : Labelled) (e : Entry) → Contains (f x) e → e.label ≡ x.label) →
+    ((e : Entry) → Contains gone e → e.label ≡ label) → HaveOtherLabels rules label → TakesOut old gone new → ((e : Entry) → Contains (flat_map f rules) e → Contains old e) →
+    (e : Entry) → Contains (flat_map f rules) e → Contains new e
+of_others f old new gone label rules own labelled_alike other takes covers e h = (takes e).1 (covers e h, λ k. from (of_flat f rules e h) (labelled_alike e k))
+  where
+    from : (x : Labelled) × Contains rules x × Contains (f x) e → e.label ≡ label → ⊥
+    from (x, among, brings) same = other x among (sym (own x e brings) ∙ same)
+
+pub still_others : (old new : TableParts) (r : RuleParts) (label : ℕ) → TakesRule old r label new → (rules : List Labelled) → HaveOtherLabels rules label → Cover old rules → Cover new rules
+still_others old new r label takes rules other cover = record {
+  selectors = of_others entries_by_selector old.selectors new.selectors (selector_entries label r.selectors) label rules (λ x e h. label_of (λ (s : SelItem). selector_digest s.selector) x.label x.rule.selectors e h)
+      (λ e h. label_of (λ (s : SelItem). selector_digest s.selector) label r.selectors e h) other takes.selectors cover.selectors;
+  decls = of_others entries_by_decl old.decls new.decls (decl_entries label r.decls) label rules (λ x e h. label_of (λ (d : DeclItem). decl_digest d.decl) x.label x.rule.decls e h)
+      (λ e h. label_of (λ (d : DeclItem). decl_digest d.decl) label r.decls e h) other takes.decls cover.decls;
 }
 
 pub by_result : {A E P Q X : Type 0} (r : Result A E) → OnOk r P → OnErr r Q → (P → X) → (Q → X) → X
@@ -177,4 +200,10 @@ module _ (old new : TableParts) (r : RuleParts) (label : ℕ) (a b : List Entry)
   rule_partly_put g h = record {
     selectors = along PutsSome (selector_entries label) a old.selectors new.selectors ss r.selectors is_a is_ss g;
     decls = along PutsSome (decl_entries label) b old.decls new.decls ds r.decls is_b is_ds h;
+  }
+
+  pub rule_taken : TakesOut a (selector_entries label ss) new.selectors → TakesOut b (decl_entries label ds) new.decls → TakesRule old r label new
+  rule_taken g h = record {
+    selectors = along TakesOut (selector_entries label) a old.selectors new.selectors ss r.selectors is_a is_ss g;
+    decls = along TakesOut (decl_entries label) b old.decls new.decls ds r.decls is_b is_ds h;
   }

@@ -25,6 +25,10 @@ Puts {X} old more new = (x : X) → Contains new x ↔ (Contains old x ⊎ Conta
 abbrev pub PutsSome : {X : Type 0} → List X → List X → List X → Type 0
 PutsSome {X} old more new = (x : X) → (Contains old x → Contains new x) × (Contains new x → Contains old x ⊎ Contains more x)
 
+-- the new set has the old elements but these
+abbrev pub TakesOut : {X : Type 0} → List X → List X → List X → Type 0
+TakesOut {X} old gone new = (x : X) → Contains new x ↔ (Contains old x × ¬ Contains gone x)
+
 -- the new set of labels has the old ones and those that stand under a digest
 abbrev pub PutsUnder : List Entry → ℕ → List ℕ → List ℕ → Type 0
 PutsUnder entries digest old new = (label : ℕ) → Contains new label ↔ (Contains old label ⊎ Contains entries (entry digest label))

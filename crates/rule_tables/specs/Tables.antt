@@ -1,5 +1,5 @@
 -- Tables of the rules of a sheet by their parts (own).
-use Rattle.std.specs.Prelude.{◌↔◌, ◌⊎◌, ℕ, List, [], ◌∷◌, map}
+use Rattle.std.specs.Prelude.{◌≢◌, ◌↔◌, ◌⊎◌, ℕ, List, [], ◌∷◌, map}
 use Rattle.std.specs.List.{Contains, flat_map}
 use Rattle.css_model.specs.declared.sheet.Decl.{Decl}
 use Rattle.css_model.specs.declared.sheet.DeclItem.{DeclItem}
@@ -12,7 +12,7 @@ use Rattle.css_model.specs.Sheets.StyleRule.{HaveSameSelectors, selectors_of}
 use Rattle.rule_tables.specs.declared.entries.Entry.{Entry}
 use Rattle.rule_tables.specs.Digests.{selector_digest, decl_digest}
 use Rattle.step_laws.specs.Steps.{decls_of}
-use Rattle.rule_tables.specs.Entries.{Puts, PutsSome, decl_entries, entry, selector_entries}
+use Rattle.rule_tables.specs.Entries.{Puts, PutsSome, TakesOut, decl_entries, entry, selector_entries}
 
 -- the entries of both tables, in order
 pub record TableParts : Type 0 where
@@ -52,6 +52,10 @@ pub record StandFor (tables : TableParts) (rules : List Labelled) : Type 0 where
 pub record Cover (tables : TableParts) (rules : List Labelled) : Type 0 where
   pub selectors : (e : Entry) → Contains (flat_map entries_by_selector rules) e → Contains tables.selectors e
   pub decls : (e : Entry) → Contains (flat_map entries_by_decl rules) e → Contains tables.decls e
+
+-- none of these rules has the label
+abbrev pub HaveOtherLabels : List Labelled → ℕ → Type 0
+HaveOtherLabels rules label = (x : Labelled) → Contains rules x → x.label ≢ label
 
 -- ---- Partners
 
@@ -106,3 +110,8 @@ pub record PutsRule (old : TableParts) (r : RuleParts) (label : ℕ) (new : Tabl
 pub record PutsSomeOf (old : TableParts) (r : RuleParts) (label : ℕ) (new : TableParts) : Type 0 where
   pub selectors : PutsSome old.selectors (selector_entries label r.selectors) new.selectors
   pub decls : PutsSome old.decls (decl_entries label r.decls) new.decls
+
+-- the new tables have the old entries but those of this rule with this label
+pub record TakesRule (old : TableParts) (r : RuleParts) (label : ℕ) (new : TableParts) : Type 0 where
+  pub selectors : TakesOut old.selectors (selector_entries label r.selectors) new.selectors
+  pub decls : TakesOut old.decls (decl_entries label r.decls) new.decls

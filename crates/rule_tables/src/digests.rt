@@ -4,8 +4,8 @@ ghost use Rattle.std.specs.Prelude.{◌≡◌, IfOk};
 ghost use Rattle.rule_tables.specs.Digests as spec;
 ghost use Rattle.rule_tables.specs.Tables as tables;
 
-use crate::mixing::Mixer;
 use css_model::{Decl, DeclItem, SelItem, Selector};
+use mixing::Mixer;
 use std::alloc::{AllocError, Global};
 use std::hash::Hash;
 

@@ -63,6 +63,45 @@ pub(crate) fn put_decls(
     Ok(())
 }
 
+/// The entry of a digest with a label.
+fn entry_of(digest: u32, label: u64) -> Entry
+    ensures { result ≡ spec.entry digest label }
+{
+    Entry {
+        digest: u64::from(digest),
+        label,
+    }
+}
+
+/// Takes an entry out, if it is there.
+fn take(entries: &mut BTreeSet<Entry>, entry: Entry)
+    ensures { spec.TakesOut entries.old.keys (entry ∷ []) entries.new.keys }
+{
+    entries.remove(&entry);
+}
+
+/// Takes the entries of selectors out.
+pub(crate) fn take_selectors(entries: &mut BTreeSet<Entry>, selectors: &[SelItem], label: u64)
+    ensures { spec.TakesOut entries.old.keys (spec.selector_entries label selectors.now) entries.new.keys }
+{
+    let mut rest = selectors;
+    'rest: while let Some((first, behind)) = rest.split_first() {
+        take(entries, entry_of(selector_digest(&first.selector), label));
+        rest = behind;
+    }
+}
+
+/// Takes the entries of declarations out.
+pub(crate) fn take_decls(entries: &mut BTreeSet<Entry>, decls: &[DeclItem], label: u64)
+    ensures { spec.TakesOut entries.old.keys (spec.decl_entries label decls.now) entries.new.keys }
+{
+    let mut rest = decls;
+    'rest: while let Some((first, behind)) = rest.split_first() {
+        take(entries, entry_of(decl_digest(&first.decl), label));
+        rest = behind;
+    }
+}
+
 /// Puts a label in, if it is not there.
 fn put_label(found: &mut BTreeSet<u64>, label: u64) -> Result<(), AllocError>
     ensures { OnOk result (spec.Puts found.old.keys (label ∷ []) found.new.keys) }

@@ -4,7 +4,6 @@
 mod digests;
 mod entries;
 mod laws;
-mod mixing;
 mod pairs;
 mod partners;
 mod tables;

@@ -7,7 +7,7 @@ ghost use Rattle.rule_tables.specs.Pairs as pairs;
 ghost use Rattle.rule_tables.specs.Tables as spec;
 
 use crate::digests::{decl_digest, selector_digest};
-use crate::entries::{Entry, put_decls, put_selectors};
+use crate::entries::{Entry, put_decls, put_selectors, take_decls, take_selectors};
 use crate::pairs::{LabelledRules, is_pair_under};
 use crate::partners::{is_rarer, list_labels, put_shared, put_under_decls};
 use css_model::{Decl, Item, Rule, Selector};
@@ -16,7 +16,8 @@ use std::collections::BTreeSet;
 use std::marker::Model;
 
 /// The rules of a sheet by the digests of their selectors and of their declarations. Each rule has a label, which
-/// tells it from the others. Entries of rules that are gone may stay, since each rule that is found is tested.
+/// tells it from the others. Entries of rules that are gone may stay, since each rule that is found is tested. Whoever
+/// takes a rule out of the sheet takes its entries out by `remove`: what stays makes each look longer.
 #[derive(Debug, Drop)]
 pub struct Tables {
     selectors: BTreeSet<Entry>,
@@ -83,6 +84,17 @@ impl Tables {
             → spec.Cover self.new (spec.with_label rule.now label ∷ rules)) }
     {
         self.put_rule(rule, label)
+    }
+
+    /// Takes the entries of a rule with its label out, and no others: what the tables cover they still cover, where none
+    /// of it has the label. Takes no memory.
+    pub fn remove(&mut self, rule: &Rule, label: u64)
+        ensures exact { spec.TakesRule self.old rule.now label self.new }
+        ensures still { (rules : List spec.Labelled) → spec.HaveOtherLabels rules label → spec.Cover self.old rules
+            → spec.Cover self.new rules }
+    {
+        take_selectors(&mut self.selectors, &rule.selectors, label);
+        take_decls(&mut self.decls, &rule.decls, label);
     }
 
     /// The labels of the rules that can be partners of a rule in a step of two rules, ascending: of those that the

@@ -17,15 +17,16 @@ returns-clause-state c =
     λ answers source state takes.
     subst (λ (p : PlanParts). IsState answers source p → ((e : Edit) → IsStep p.board.items c.args.step.now e → Takes answers source p.board.items (edited e p.board.items)) → HasStep p.board.items c.args.step.now → length p.board.items + 1 < max_items → IsState answers source made)
     c.self.view_is
-    (λ s t has few. taken_state c.taken_is_known.ensures c.sheets_have_room.ensures c.cover_goes_on.ensures c.homes_go_on.ensures c.steps_make_of.ensures c.each_is_made_of_itself.ensures answers source old made c.wake_moved.new.waiting c.args.step.now has.0 has.1 few (record {
+    (λ s t has few. taken_state c.taken_is_known.ensures c.sheets_have_room.ensures c.cover_goes_on.ensures c.homes_go_on.ensures c.steps_make_of.ensures c.each_is_made_of_itself.ensures answers source old made c.wake_moved.new.waiting c.uncover.new.tables c.args.step.now has.0 has.1 few (record {
       items = c.in_ok-board.ensures.items has.0 has.1;
       marked = c.in_ok-greet.ensures.marked;
       kept = c.in_ok-board.ensures.marks has.0 has.1;
       later = c.in_ok-board.ensures.more;
       led = c.in_ok-wake_moved.ensures.stay;
       awake = c.in_ok-wake_moved.ensures.awake has.0 (subst (λ (xs : List Item). IsStep xs c.args.step.now has.0) (sym c.sheet.ensures) has.1);
+      covered = c.uncover.ensures has.0 has.1;
       greeted = subst (λ (n : ℕ). AreGreeted n made.board.marks made.board.items made.tables made.leads made.homes) c.next-next.ensures c.in_ok-greet.ensures.greeted;
-      stay = subst (λ (n : ℕ). StayBefore n old.tables c.wake_moved.new.waiting old.homes made.tables made.leads made.homes) c.next-next.ensures c.in_ok-greet.ensures.stay;
+      stay = subst (λ (n : ℕ). StayBefore n c.uncover.new.tables c.wake_moved.new.waiting old.homes made.tables made.leads made.homes) c.next-next.ensures c.in_ok-greet.ensures.stay;
       entries = refl;
     }) (t has.0 has.1) s)
     state takes c.requires.is_step c.requires.items

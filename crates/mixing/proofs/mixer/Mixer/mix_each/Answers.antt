@@ -1,6 +1,6 @@
 use Rattle.std.proofs.Common.{take_all, rules}
 use Rattle.std.proofs.hash.Loops.{byte_more}
-use Rattle.rule_tables.proofs.mixing.Mixer.mix_each.Goals as goal
+use Rattle.mixing.proofs.mixer.Mixer.mix_each.Goals as goal
 
 pub loop-byte-preserved : goal.loop-byte-preserved
 loop-byte-preserved c = search (rules, byte_more)

@@ -1,6 +1,6 @@
 use Rattle.std.proofs.Common.{◌∙◌, ap}
-use Rattle.rule_tables.specs.Digests.{mixed, write}
-use Rattle.rule_tables.proofs.mixing.MixerHasher.write_u8.Goals as goal
+use Rattle.mixing.specs.Mixer.{mixed, write}
+use Rattle.mixing.proofs.mixer.MixerHasher.write_u8.Goals as goal
 
 pub returns : goal.returns
 unfolding write

@@ -1,21 +1,21 @@
-//! A hasher for digests. It is fast at the short writes that selectors and declarations make.
+//! A hasher of one number. It is fast at the short writes that texts of code points make.
 
 ghost use Rattle.std.specs.Prelude.{◌≡◌, fold, length};
 ghost use Rattle.std.specs.Int.{from_le_bytes, w32, w64};
-ghost use Rattle.rule_tables.specs.Digests as spec;
+ghost use Rattle.mixing.specs.Mixer as spec;
 
 use std::hash::Hasher;
 
-/// What was fed so far. Whoever picks what is fed can make digests collide; then only more is found and tested.
+/// What was fed so far. Whoever picks what is fed can make it collide, so it serves only where that costs time.
 #[derive(Clone, Copy)]
-pub(crate) struct Mixer {
+pub struct Mixer {
     state: u64,
 }
 
 impl Mixer {
-    /// A hasher that was fed nothing.
-    #[tactic(auto, unfolding(crate::specs::Digests::initial))]
-    pub(crate) fn new() -> Mixer
+    /// A hasher that was fed nothing. Takes no memory.
+    #[tactic(auto, unfolding(crate::specs::Mixer::initial))]
+    pub fn new() -> Mixer
         ensures { result ≡ spec.initial }
     {
         Mixer {
@@ -24,7 +24,7 @@ impl Mixer {
     }
 
     /// Feeds one number.
-    #[tactic(auto, unfolding(crate::specs::Digests::mixed))]
+    #[tactic(auto, unfolding(crate::specs::Mixer::mixed))]
     fn mix(&mut self, number: u64)
         ensures { self.new ≡ spec.mixed self.old number }
     {
@@ -41,8 +41,8 @@ impl Mixer {
     }
 
     /// The upper half of what a hasher gives.
-    #[tactic(auto, unfolding(crate::specs::Digests::finished))]
-    pub(crate) fn digest(&self) -> u32
+    #[tactic(auto, unfolding(crate::specs::Mixer::finished))]
+    pub fn digest(&self) -> u32
         ensures { result ≡ spec.finished self.now }
     {
         (self.state >> 32) as u32
@@ -65,6 +65,14 @@ fn number_of_eight(bytes: &[u8]) -> u64
     u64::from_le_bytes([
         bytes[0], bytes[1], bytes[2], bytes[3], bytes[4], bytes[5], bytes[6], bytes[7],
     ])
+}
+
+impl Default for Mixer {
+    ghost is_default = { λ m. m ≡ spec.initial };
+
+    fn default() -> Mixer {
+        Mixer::new()
+    }
 }
 
 impl Hasher for Mixer {

@@ -1,7 +1,7 @@
 use Rattle.std.proofs.Common.{◌∙◌, ap, rules, sym}
-use Rattle.rule_tables.specs.Digests.{mixed}
-use Rattle.rule_tables.proofs.Writes.{eight, four, others}
-use Rattle.rule_tables.proofs.mixing.MixerHasher.write.Goals as goal
+use Rattle.mixing.specs.Mixer.{mixed}
+use Rattle.mixing.proofs.Writes.{eight, four, others}
+use Rattle.mixing.proofs.mixer.MixerHasher.write.Goals as goal
 
 pub returns-in-4 : goal.returns-in-4
 returns-in-4 c = c.mix.ensures ∙ ap (mixed c.args.self.now) c.number_of_four.ensures ∙ sym (four c.args.self.now c.args.bytes.now (search rules))

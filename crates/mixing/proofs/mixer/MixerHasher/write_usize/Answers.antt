@@ -1,8 +1,8 @@
 use Rattle.std.proofs.Common.{◌∙◌, ap, rules, sym}
 use Rattle.std.proofs.lemmas.Nat.{from_le_bytes-to_le_bytes_8}
 use Rattle.std.specs.Hash.{le_bytes}
-use Rattle.rule_tables.specs.Digests.{mixed, write}
-use Rattle.rule_tables.proofs.mixing.MixerHasher.write_u64.Goals as goal
+use Rattle.mixing.specs.Mixer.{mixed, write}
+use Rattle.mixing.proofs.mixer.MixerHasher.write_usize.Goals as goal
 
 pub returns : goal.returns
 unfolding write le_bytes

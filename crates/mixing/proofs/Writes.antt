@@ -1,8 +1,8 @@
 -- What a write feeds, by how many bytes it has.
 use Rattle.std.proofs.Common.{◌≡◌, ℕ, ◌==◌, false, List, length, fold}
 use Rattle.std.specs.Int.{from_le_bytes, w32, w64}
-use Rattle.rule_tables.specs.declared.mixing.Mixer.{Mixer}
-use Rattle.rule_tables.specs.Digests.{mixed, write}
+use Rattle.mixing.specs.declared.mixer.Mixer.{Mixer}
+use Rattle.mixing.specs.Mixer.{mixed, write}
 
 module _ (m : Mixer) (bytes : List ℕ) where
   pub four : length bytes ≡ 4 → write m bytes ≡ mixed m (from_le_bytes w32 bytes)

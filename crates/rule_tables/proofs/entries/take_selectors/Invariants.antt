@@ -1,0 +1,10 @@
+use Rattle.std.proofs.Common.{List, length}
+use Rattle.rule_tables.specs.declared.entries.Entry.{Entry}
+use Rattle.rule_tables.specs.Entries.{TakesOut, selector_entries}
+use Rattle.rule_tables.proofs.entries.take_selectors.Given as goal
+
+abbrev pub invariant-rest : goal.invariant-rest
+invariant-rest l = (final : List Entry) → TakesOut l.entries.keys (selector_entries l.label l.rest) final → TakesOut l.initial.entries.keys (selector_entries l.label l.initial.rest) final
+
+abbrev pub decreases-rest : goal.decreases-rest
+decreases-rest l = length l.rest
