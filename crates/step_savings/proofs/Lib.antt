@@ -1,3 +1,5 @@
+mod CutWeights
+mod JoinWeights
 mod LastCommon
 mod PartWeights
 mod ToldApart

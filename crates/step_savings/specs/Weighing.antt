@@ -10,9 +10,10 @@ use Rattle.css_model.specs.Sheets.Sound.{IsSoundSelector, IsSoundDeclaration}
 use Rattle.step_savings.specs.declared.savings.Parts.{Parts}
 use Rattle.order_laws.specs.Members.{has_decl}
 use Rattle.step_laws.specs.RuleParting.{rule_or_none, without_decls}
-use Rattle.step_laws.specs.Sizes.{weight, rules_weight}
+use Rattle.step_laws.specs.Sizes.{weight, rule_weight, rules_weight, brought_weight}
 use Rattle.step_laws.specs.declared.step.Step.{Step}
-use Rattle.step_laws.specs.declared.step.Step.TheVariants.{Share}
+use Rattle.step_laws.specs.declared.step.Step.TheVariants.{CutDecl, CutSel, JoinSelUp, JoinSelDown, JoinDeclUp, JoinDeclDown, Share}
+use Rattle.step_laws.specs.Steps.{edit_of}
 
 -- the rule of these parts
 abbrev pub rule_of : Parts → RuleParts
@@ -37,7 +38,17 @@ rest_of r other = rule_or_none (without_decls other.decls r)
 abbrev pub rest_weight : List ℕ → RuleParts → RuleParts → ℕ
 rest_weight source r other = rules_weight source (rest_of r other)
 
--- the weight of what a step leaves of its rules as it was: of a share what each of them has alone
+-- the weight of two rules
+abbrev pub both_weight : List ℕ → RuleParts → RuleParts → ℕ
+both_weight source upper lower = rule_weight source upper + rule_weight source lower
+
+-- The weight of what need not be counted, since it stands before a step and after it: of a share what each of its rules
+-- has alone, of other steps all that they put in.
 abbrev pub stays_weight : List ℕ → Step → RuleParts → RuleParts → ℕ
 stays_weight source (Share x y) upper lower = rest_weight source upper lower + rest_weight source lower upper
-stays_weight source _ upper lower = 0
+stays_weight source (CutDecl n i) upper lower = brought_weight source (edit_of (CutDecl n i) upper lower).changes
+stays_weight source (CutSel n i) upper lower = brought_weight source (edit_of (CutSel n i) upper lower).changes
+stays_weight source (JoinSelUp x y) upper lower = brought_weight source (edit_of (JoinSelUp x y) upper lower).changes
+stays_weight source (JoinSelDown x y) upper lower = brought_weight source (edit_of (JoinSelDown x y) upper lower).changes
+stays_weight source (JoinDeclUp x y) upper lower = brought_weight source (edit_of (JoinDeclUp x y) upper lower).changes
+stays_weight source (JoinDeclDown x y) upper lower = brought_weight source (edit_of (JoinDeclDown x y) upper lower).changes

@@ -19,7 +19,7 @@ use crate::members::are_decls_among;
 use crate::rules::{items_of, rule_at};
 use crate::weights::{
     Lengths, common_decls_weight, decls_among_weight, decls_weight, new_selectors_weight,
-    selectors_weight,
+    selectors_among_weight, selectors_weight,
 };
 use css_model::{DeclItem, Rule, SelItem, Sheet};
 use step_laws::Step;
@@ -29,21 +29,6 @@ use step_laws::Step;
 struct Parts<'a> {
     selectors: &'a [SelItem],
     decls: &'a [DeclItem],
-}
-
-/// The weight of a rule with these weights of its selectors and of its declarations: of one without
-/// either, which is gone, nothing.
-fn left_weight(selectors: u64, decls: u64) -> u64
-    requires above { selectors ≤ max_bytes + max_bytes }
-    requires below { decls ≤ max_bytes + max_bytes }
-    ensures exact { result ≡ (if selectors == 0 || decls == 0 then 0 else selectors + decls) }
-    ensures small { result ≤ 4 * max_bytes }
-{
-    if selectors == 0 || decls == 0 {
-        0
-    } else {
-        selectors + decls
-    }
 }
 
 /// The weight of the selectors of the upper rule, and of those of the lower one that the upper one lacks.
@@ -61,104 +46,152 @@ fn both_selectors_weight<L: Lengths>(lengths: &L, upper: &[SelItem], lower: &[Se
     whole + more
 }
 
-/// The weight of the selectors without the one of this number.
-#[tactic(auto, using(crate::proofs::PartWeights::others_weigh_as, crate::proofs::PartWeights::before_weighs, crate::proofs::PartWeights::behind_weighs, list_facts::proofs::Elements::all_take, list_facts::proofs::Elements::all_drop))]
-fn other_selectors_weight<L: Lengths>(lengths: &L, items: &[SelItem], number: u32) -> u64
+/// The selector of this number.
+fn selector_at(items: &[SelItem], number: u32) -> &SelItem
+    requires { number < length items.now }
+    ensures { slice_get items.now number ≡ Some result.now }
+{
+    &items[number as usize]
+}
+
+/// The declaration of this number.
+fn decl_at(items: &[DeclItem], number: u32) -> &DeclItem
+    requires { number < length items.now }
+    ensures { slice_get items.now number ≡ Some result.now }
+{
+    &items[number as usize]
+}
+
+/// What the selector of this number adds to the weight of the others.
+#[tactic(auto, using(crate::proofs::CutWeights::selector_is_sound, crate::proofs::CutWeights::decl_is_sound))]
+fn one_selector_weight<L: Lengths>(lengths: &L, items: &[SelItem], number: u32) -> u64
     requires sound { AllByRecursion (IsSoundSelector (L.source lengths.now)) items.now }
     requires small { sizes.weight (printed_selector (L.source lengths.now)) items.now ≤ max_bytes }
     requires part { number < length items.now }
-    ensures exact { result ≡ sizes.weight (printed_selector (L.source lengths.now)) (remove items.now number) }
-    ensures small { result ≤ max_bytes + max_bytes }
+    ensures exact { result + sizes.weight (printed_selector (L.source lengths.now)) (remove items.now number) ≡ sizes.weight (printed_selector (L.source lengths.now)) items.now }
+    ensures small { result ≤ 2 * max_bytes }
 {
-    let number = number as usize;
-    let before = selectors_weight(lengths, &items[..number]);
-    let behind = selectors_weight(lengths, &items[number + 1..]);
-    before + behind
+    let item = selector_at(items, number);
+    lengths.selector(item) + 1
 }
 
-/// The weight of the declarations without the one of this number.
-#[tactic(auto, using(crate::proofs::PartWeights::others_weigh_as, crate::proofs::PartWeights::before_weighs, crate::proofs::PartWeights::behind_weighs, list_facts::proofs::Elements::all_take, list_facts::proofs::Elements::all_drop))]
-fn other_decls_weight<L: Lengths>(lengths: &L, items: &[DeclItem], number: u32) -> u64
+/// What the declaration of this number adds to the weight of the others.
+#[tactic(auto, using(crate::proofs::CutWeights::selector_is_sound, crate::proofs::CutWeights::decl_is_sound))]
+fn one_decl_weight<L: Lengths>(lengths: &L, items: &[DeclItem], number: u32) -> u64
     requires sound { AllByRecursion (IsSoundDeclaration (L.source lengths.now)) items.now }
     requires small { sizes.weight (printed_declaration (L.source lengths.now)) items.now ≤ max_bytes }
     requires part { number < length items.now }
-    ensures exact { result ≡ sizes.weight (printed_declaration (L.source lengths.now)) (remove items.now number) }
-    ensures small { result ≤ max_bytes + max_bytes }
+    ensures exact { result + sizes.weight (printed_declaration (L.source lengths.now)) (remove items.now number) ≡ sizes.weight (printed_declaration (L.source lengths.now)) items.now }
+    ensures small { result ≤ 2 * max_bytes }
 {
-    let number = number as usize;
-    let before = decls_weight(lengths, &items[..number]);
-    let behind = decls_weight(lengths, &items[number + 1..]);
-    before + behind
+    let item = decl_at(items, number);
+    lengths.decl(item) + 1
 }
 
-/// The weight of what a cut leaves of a rule.
-#[tactic(auto, using(crate::proofs::PartWeights::left_weighs_as))]
+/// The weight of a rule.
+fn rule_weight<L: Lengths>(lengths: &L, rule: &Parts) -> u64
+    requires weighable { weighing.IsWeighable (L.source lengths.now) (weighing.rule_of rule.now) }
+    ensures exact { result ≡ sizes.rule_weight (L.source lengths.now) (weighing.rule_of rule.now) }
+    ensures small { result ≤ 2 * max_bytes }
+{
+    let selectors = selectors_weight(lengths, rule.selectors);
+    let decls = decls_weight(lengths, rule.decls);
+    selectors + decls
+}
+
+/// Whether the cut of a declaration leaves nothing of a rule.
+#[tactic(auto, using(crate::proofs::CutWeights::no_selectors_leave_none, crate::proofs::CutWeights::last_decl_leaves_none, crate::proofs::CutWeights::decl_leaves_rule))]
+fn decl_cut_leaves_none(rule: &Parts, decl: u32) -> bool
+    requires { decl < length rule.now.decls.now }
+    ensures none { result ≡ true → parting.rule_or_none (record { selectors = rule.now.selectors.now; decls = remove rule.now.decls.now decl }) ≡ [] }
+    ensures some { result ≡ false → parting.rule_or_none (record { selectors = rule.now.selectors.now; decls = remove rule.now.decls.now decl }) ≡ item.Rule (record { selectors = rule.now.selectors.now; decls = remove rule.now.decls.now decl }) ∷ [] }
+{
+    if rule.selectors.is_empty() {
+        return true;
+    }
+    rule.decls.len() < 2
+}
+
+/// Whether the cut of a selector leaves nothing of a rule.
+#[tactic(auto, using(crate::proofs::CutWeights::no_decls_leave_none, crate::proofs::CutWeights::last_selector_leaves_none, crate::proofs::CutWeights::selector_leaves_rule))]
+fn selector_cut_leaves_none(rule: &Parts, sel: u32) -> bool
+    requires { sel < length rule.now.selectors.now }
+    ensures none { result ≡ true → parting.rule_or_none (record { selectors = remove rule.now.selectors.now sel; decls = rule.now.decls.now }) ≡ [] }
+    ensures some { result ≡ false → parting.rule_or_none (record { selectors = remove rule.now.selectors.now sel; decls = rule.now.decls.now }) ≡ item.Rule (record { selectors = remove rule.now.selectors.now sel; decls = rule.now.decls.now }) ∷ [] }
+{
+    if rule.decls.is_empty() {
+        return true;
+    }
+    rule.selectors.len() < 2
+}
+
+/// What a rule weighs more than what the cut of a declaration leaves of it.
+#[tactic(auto, using(crate::proofs::CutWeights::decl_cut_weighs, crate::proofs::CutWeights::none_weighs))]
 fn cut_decl_weight<L: Lengths>(lengths: &L, rule: &Parts, decl: u32) -> u64
     requires weighable { weighing.IsWeighable (L.source lengths.now) (weighing.rule_of rule.now) }
     requires part { decl < length rule.now.decls.now }
-    ensures exact { result ≡ sizes.rules_weight (L.source lengths.now) (parting.rule_or_none (record { selectors = rule.now.selectors.now; decls = remove rule.now.decls.now decl })) }
-    ensures small { result ≤ 4 * max_bytes }
+    ensures exact { result + sizes.rules_weight (L.source lengths.now) (parting.rule_or_none (record { selectors = rule.now.selectors.now; decls = remove rule.now.decls.now decl })) ≡ sizes.rule_weight (L.source lengths.now) (weighing.rule_of rule.now) }
+    ensures small { result ≤ 2 * max_bytes }
 {
-    let selectors = selectors_weight(lengths, rule.selectors);
-    let decls = other_decls_weight(lengths, rule.decls, decl);
-    left_weight(selectors, decls)
+    if decl_cut_leaves_none(rule, decl) {
+        return rule_weight(lengths, rule);
+    }
+    one_decl_weight(lengths, rule.decls, decl)
 }
 
-/// The weight of what a cut leaves of a rule.
-#[tactic(auto, using(crate::proofs::PartWeights::left_weighs_as))]
+/// What a rule weighs more than what the cut of a selector leaves of it.
+#[tactic(auto, using(crate::proofs::CutWeights::selector_cut_weighs, crate::proofs::CutWeights::none_weighs))]
 fn cut_selector_weight<L: Lengths>(lengths: &L, rule: &Parts, sel: u32) -> u64
     requires weighable { weighing.IsWeighable (L.source lengths.now) (weighing.rule_of rule.now) }
     requires part { sel < length rule.now.selectors.now }
-    ensures exact { result ≡ sizes.rules_weight (L.source lengths.now) (parting.rule_or_none (record { selectors = remove rule.now.selectors.now sel; decls = rule.now.decls.now })) }
-    ensures small { result ≤ 4 * max_bytes }
+    ensures exact { result + sizes.rules_weight (L.source lengths.now) (parting.rule_or_none (record { selectors = remove rule.now.selectors.now sel; decls = rule.now.decls.now })) ≡ sizes.rule_weight (L.source lengths.now) (weighing.rule_of rule.now) }
+    ensures small { result ≤ 2 * max_bytes }
 {
-    let selectors = other_selectors_weight(lengths, rule.selectors, sel);
-    let decls = decls_weight(lengths, rule.decls);
-    left_weight(selectors, decls)
+    if selector_cut_leaves_none(rule, sel) {
+        return rule_weight(lengths, rule);
+    }
+    one_selector_weight(lengths, rule.selectors, sel)
 }
 
-/// The weight of a rule with these selectors and the declarations of both.
-#[tactic(auto, using(crate::proofs::PartWeights::joined_weigh))]
-fn join_selectors_weight<L: Lengths>(
-    lengths: &L,
-    stay: &[SelItem],
-    upper: &[DeclItem],
-    lower: &[DeclItem],
-) -> u64
-    requires sound { AllByRecursion (IsSoundSelector (L.source lengths.now)) stay.now }
-    requires sound_upper { AllByRecursion (IsSoundDeclaration (L.source lengths.now)) upper.now }
-    requires sound_lower { AllByRecursion (IsSoundDeclaration (L.source lengths.now)) lower.now }
-    requires small { sizes.weight (printed_selector (L.source lengths.now)) stay.now ≤ max_bytes }
-    requires small_upper { sizes.weight (printed_declaration (L.source lengths.now)) upper.now ≤ max_bytes }
-    requires small_lower { sizes.weight (printed_declaration (L.source lengths.now)) lower.now ≤ max_bytes }
-    ensures exact { result ≡ sizes.rule_weight (L.source lengths.now) (record { selectors = stay.now; decls = upper.now ++ lower.now }) }
-    ensures small { result ≤ 4 * max_bytes }
+/// What two rules weigh more than one with the selectors of the upper one and the declarations of both.
+fn join_selectors_up_weight<L: Lengths>(lengths: &L, upper: &Parts, lower: &Parts) -> u64
+    requires lower { weighing.IsWeighable (L.source lengths.now) (weighing.rule_of lower.now) }
+    ensures exact { result + sizes.rule_weight (L.source lengths.now) (record { selectors = upper.now.selectors.now; decls = upper.now.decls.now ++ lower.now.decls.now }) ≡ weighing.both_weight (L.source lengths.now) (weighing.rule_of upper.now) (weighing.rule_of lower.now) }
+    ensures small { result ≤ 2 * max_bytes }
 {
-    let selectors = selectors_weight(lengths, stay);
-    let above = decls_weight(lengths, upper);
-    let below = decls_weight(lengths, lower);
-    selectors + (above + below)
+    selectors_weight(lengths, lower.selectors)
 }
 
-/// The weight of a rule with the selectors of both and these declarations.
-fn join_decls_weight<L: Lengths>(
-    lengths: &L,
-    upper: &[SelItem],
-    lower: &[SelItem],
-    stay: &[DeclItem],
-) -> u64
-    requires sound { AllByRecursion (IsSoundDeclaration (L.source lengths.now)) stay.now }
-    requires sound_upper { AllByRecursion (IsSoundSelector (L.source lengths.now)) upper.now }
-    requires sound_lower { AllByRecursion (IsSoundSelector (L.source lengths.now)) lower.now }
-    requires small { sizes.weight (printed_declaration (L.source lengths.now)) stay.now ≤ max_bytes }
-    requires small_upper { sizes.weight (printed_selector (L.source lengths.now)) upper.now ≤ max_bytes }
-    requires small_lower { sizes.weight (printed_selector (L.source lengths.now)) lower.now ≤ max_bytes }
-    ensures exact { result ≡ sizes.rule_weight (L.source lengths.now) (record { selectors = upper.now ++ filter (λ s. not (members.has_selector upper.now s.selector)) lower.now; decls = stay.now }) }
-    ensures small { result ≤ 4 * max_bytes }
+/// What two rules weigh more than one with the selectors of the lower one and the declarations of both.
+fn join_selectors_down_weight<L: Lengths>(lengths: &L, upper: &Parts, lower: &Parts) -> u64
+    requires upper { weighing.IsWeighable (L.source lengths.now) (weighing.rule_of upper.now) }
+    ensures exact { result + sizes.rule_weight (L.source lengths.now) (record { selectors = lower.now.selectors.now; decls = upper.now.decls.now ++ lower.now.decls.now }) ≡ weighing.both_weight (L.source lengths.now) (weighing.rule_of upper.now) (weighing.rule_of lower.now) }
+    ensures small { result ≤ 2 * max_bytes }
 {
-    let selectors = both_selectors_weight(lengths, upper, lower);
-    let decls = decls_weight(lengths, stay);
-    selectors + decls
+    selectors_weight(lengths, upper.selectors)
+}
+
+/// What two rules weigh more than one with the selectors of both and the declarations of the upper one.
+fn join_decls_up_weight<L: Lengths>(lengths: &L, upper: &Parts, lower: &Parts) -> u64
+    requires lower { weighing.IsWeighable (L.source lengths.now) (weighing.rule_of lower.now) }
+    ensures exact { result + sizes.rule_weight (L.source lengths.now) (record { selectors = parting.both_selectors (weighing.rule_of upper.now) (weighing.rule_of lower.now); decls = upper.now.decls.now }) ≡ weighing.both_weight (L.source lengths.now) (weighing.rule_of upper.now) (weighing.rule_of lower.now) }
+    ensures small { result ≤ 2 * max_bytes }
+{
+    let common = selectors_among_weight(lengths, lower.selectors, upper.selectors);
+    let decls = decls_weight(lengths, lower.decls);
+    common + decls
+}
+
+/// What two rules weigh more than one with the selectors of both and the declarations of the lower one.
+fn join_decls_down_weight<L: Lengths>(lengths: &L, upper: &Parts, lower: &Parts) -> u64
+    requires upper { weighing.IsWeighable (L.source lengths.now) (weighing.rule_of upper.now) }
+    requires lower { weighing.IsWeighable (L.source lengths.now) (weighing.rule_of lower.now) }
+    ensures exact { result + sizes.rule_weight (L.source lengths.now) (record { selectors = parting.both_selectors (weighing.rule_of upper.now) (weighing.rule_of lower.now); decls = lower.now.decls.now }) ≡ weighing.both_weight (L.source lengths.now) (weighing.rule_of upper.now) (weighing.rule_of lower.now) }
+    ensures small { result ≤ 2 * max_bytes }
+{
+    let common = selectors_among_weight(lengths, lower.selectors, upper.selectors);
+    let decls = decls_weight(lengths, upper.decls);
+    common + decls
 }
 
 /// Whether nothing is left of a rule without what it has in common with another one.
@@ -171,17 +204,6 @@ fn is_gone(rule: &Parts, other: &Parts) -> bool
         return true;
     }
     are_decls_among(rule.decls, other.decls)
-}
-
-/// The weight of a rule.
-fn rule_weight<L: Lengths>(lengths: &L, rule: &Parts) -> u64
-    requires weighable { weighing.IsWeighable (L.source lengths.now) (weighing.rule_of rule.now) }
-    ensures exact { result ≡ sizes.rule_weight (L.source lengths.now) (weighing.rule_of rule.now) }
-    ensures small { result ≤ 2 * max_bytes }
-{
-    let selectors = selectors_weight(lengths, rule.selectors);
-    let decls = decls_weight(lengths, rule.decls);
-    selectors + decls
 }
 
 /// What a rule weighs more than what is left of it without what it has in common with another one.
@@ -209,61 +231,41 @@ fn shared_weight<L: Lengths>(lengths: &L, upper: &Parts, lower: &Parts) -> u64
     selectors + decls
 }
 
-/// The weight of what a step makes of an upper and a lower rule, or of one that is cut, which then stands
-/// twice here; but for what a share leaves of its rules.
+/// The weight of what a share puts in besides what it leaves of its rules; of other steps nothing.
 fn brought_weight<L: Lengths>(lengths: &L, step: &Step, upper: &Parts, lower: &Parts) -> u64
     requires upper { weighing.IsWeighable (L.source lengths.now) (weighing.rule_of upper.now) }
     requires lower { weighing.IsWeighable (L.source lengths.now) (weighing.rule_of lower.now) }
-    requires part { HasPart step.now (weighing.rule_of upper.now) }
     ensures exact { result + weighing.stays_weight (L.source lengths.now) step.now (weighing.rule_of upper.now) (weighing.rule_of lower.now) ≡ sizes.brought_weight (L.source lengths.now) (edit_of step.now (weighing.rule_of upper.now) (weighing.rule_of lower.now)).changes }
+    ensures small { result ≤ 4 * max_bytes }
+{
+    match step {
+        Step::Share { .. } => shared_weight(lengths, upper, lower),
+        Step::CutDecl { .. }
+        | Step::CutSel { .. }
+        | Step::JoinSelUp { .. }
+        | Step::JoinSelDown { .. }
+        | Step::JoinDeclUp { .. }
+        | Step::JoinDeclDown { .. } => 0,
+    }
+}
+
+/// The weight of the rules that a step takes, but for what stays of it.
+fn taken_weight<L: Lengths>(lengths: &L, step: &Step, upper: &Parts, lower: &Parts) -> u64
+    requires upper { weighing.IsWeighable (L.source lengths.now) (weighing.rule_of upper.now) }
+    requires lower { weighing.IsWeighable (L.source lengths.now) (weighing.rule_of lower.now) }
+    requires part { HasPart step.now (weighing.rule_of upper.now) }
+    ensures exact { result + weighing.stays_weight (L.source lengths.now) step.now (weighing.rule_of upper.now) (weighing.rule_of lower.now) ≡ sizes.taken_weight (L.source lengths.now) step.now (weighing.rule_of upper.now) (weighing.rule_of lower.now) }
     ensures small { result ≤ 4 * max_bytes }
 {
     match *step {
         Step::CutDecl { decl, .. } => cut_decl_weight(lengths, upper, decl),
         Step::CutSel { sel, .. } => cut_selector_weight(lengths, upper, sel),
-        Step::JoinSelUp { .. } => join_selectors_weight(
-            lengths,
-            upper.selectors,
-            upper.decls,
-            lower.decls,
-        ),
-        Step::JoinSelDown { .. } => join_selectors_weight(
-            lengths,
-            lower.selectors,
-            upper.decls,
-            lower.decls,
-        ),
-        Step::JoinDeclUp { .. } => join_decls_weight(
-            lengths,
-            upper.selectors,
-            lower.selectors,
-            upper.decls,
-        ),
-        Step::JoinDeclDown { .. } => join_decls_weight(
-            lengths,
-            upper.selectors,
-            lower.selectors,
-            lower.decls,
-        ),
-        Step::Share { .. } => shared_weight(lengths, upper, lower),
-    }
-}
-
-/// The weight of the rules that a step takes, but for what a share leaves of them.
-fn taken_weight<L: Lengths>(lengths: &L, step: &Step, upper: &Parts, lower: &Parts) -> u64
-    requires upper { weighing.IsWeighable (L.source lengths.now) (weighing.rule_of upper.now) }
-    requires lower { weighing.IsWeighable (L.source lengths.now) (weighing.rule_of lower.now) }
-    ensures exact { result + weighing.stays_weight (L.source lengths.now) step.now (weighing.rule_of upper.now) (weighing.rule_of lower.now) ≡ sizes.taken_weight (L.source lengths.now) step.now (weighing.rule_of upper.now) (weighing.rule_of lower.now) }
-    ensures small { result ≤ 4 * max_bytes }
-{
-    match step {
-        Step::CutDecl { .. } | Step::CutSel { .. } => rule_weight(lengths, upper),
+        Step::JoinSelUp { .. } => join_selectors_up_weight(lengths, upper, lower),
+        Step::JoinSelDown { .. } => join_selectors_down_weight(lengths, upper, lower),
+        Step::JoinDeclUp { .. } => join_decls_up_weight(lengths, upper, lower),
+        Step::JoinDeclDown { .. } => join_decls_down_weight(lengths, upper, lower),
         Step::Share { .. } => lost_weight(lengths, upper, lower)
             + lost_weight(lengths, lower, upper),
-        Step::JoinSelUp { .. }
-        | Step::JoinSelDown { .. }
-        | Step::JoinDeclUp { .. }
-        | Step::JoinDeclDown { .. } => rule_weight(lengths, upper) + rule_weight(lengths, lower),
     }
 }
 

@@ -86,6 +86,28 @@ pub(crate) fn new_selectors_weight<L: Lengths>(
     total
 }
 
+/// The weight of those of the selectors that are among the others.
+pub(crate) fn selectors_among_weight<L: Lengths>(
+    lengths: &L,
+    items: &[SelItem],
+    others: &[SelItem],
+) -> u64
+    requires sound { AllByRecursion (IsSoundSelector (L.source lengths.now)) items.now }
+    requires small { sizes.weight (printed_selector (L.source lengths.now)) items.now ≤ max_bytes }
+    ensures exact { result ≡ sizes.weight (printed_selector (L.source lengths.now)) (filter (λ s. members.has_selector others.now s.selector) items.now) }
+    ensures small { result ≤ max_bytes }
+{
+    let mut total: u64 = 0;
+    let mut rest = items;
+    'rest: while let Some((first, behind)) = rest.split_first() {
+        if has_selector(others, &first.selector) {
+            total += lengths.selector(first) + 1;
+        }
+        rest = behind;
+    }
+    total
+}
+
 /// The weight of those of the declarations that are among the others.
 pub(crate) fn decls_among_weight<L: Lengths>(
     lengths: &L,
