@@ -1,3 +1,4 @@
+mod Differing
 mod Finding
 mod Looking
 mod NamedSteps

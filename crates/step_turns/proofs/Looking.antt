@@ -1,6 +1,5 @@
 -- The first of the turns behind another one, while steps are looked at.
-use Rattle.std.proofs.Common.{◌≡◌, ◌⊎◌, ◌↔◌, ℕ, ◌+◌, ◌<◌, ◌≤◌, Bool, true, false, List, [], ◌∷◌, Option, Some, None, IfSome, length, refl, sym, ap, subst, inl, inr, ◌∙◌, arith}
-use Rattle.std.specs.Prelude.{slice_get, slice_index}
+use Rattle.std.proofs.Common.{◌≡◌, ◌⊎◌, ℕ, ◌+◌, ◌<◌, ◌≤◌, List, [], ◌∷◌, Option, Some, None, refl, sym, ap, subst, inl, inr, ◌∙◌, arith}
 use Rattle.std.specs.List.{Contains}
 use Rattle.std.proofs.lemmas.Bool.{cases_lt}
 use Rattle.cascade_laws.proofs.ForCallers.{some-same}
@@ -18,7 +17,7 @@ use Rattle.step_laws.specs.Sizes.{Saves, size}
 use Rattle.step_laws.specs.Steps.{HasStep, IsStep, first_item, last_item}
 use Rattle.step_turns.specs.Looking.{AreLater, Covers, FoundParts, IsAmong, IsWith, Keeps, KeepsLast, Reaches, ReachesLast}
 use Rattle.plan_board.specs.MarkList.{labels_of}
-use Rattle.step_turns.specs.Named.{IsLaterTurn, IsLedBeside, IsStepOf}
+use Rattle.step_turns.specs.Named.{IsLaterTurn, IsLedBeside}
 use Rattle.wall_laws.specs.Renumbering.{IsOfTwo}
 
 -- ---- The sooner of two leads

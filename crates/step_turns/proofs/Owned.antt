@@ -1,13 +1,11 @@
 -- The steps in the scope of a lead: cuts of its item, and steps with partners.
-use Rattle.std.proofs.Common.{◌≡◌, ◌≢◌, ◌⊎◌, ℕ, ◌<◌, ◌≤◌, Bool, true, false, List, [], ◌∷◌, Option, Some, None, length, map, refl, sym, ap, subst, inl, inr, ◌∙◌, arith}
+use Rattle.std.proofs.Common.{◌≡◌, ◌≢◌, ◌⊎◌, ℕ, ◌<◌, ◌≤◌, List, [], ◌∷◌, Option, Some, length, refl, sym, ap, subst, inl, inr, ◌∙◌, arith}
 use Rattle.std.specs.Prelude.{nat_lt, slice_get, slice_index}
 use Rattle.std.specs.List.{Contains}
 use Rattle.std.proofs.lemmas.Bool.{cases_lt, cond_both, ltb-false, ltb-true}
 use Rattle.std.proofs.lemmas.Option.{slice_get_within}
-use Rattle.css_model.specs.declared.sheet.DeclItem.{DeclItem}
 use Rattle.css_model.specs.declared.sheet.Item.{Item}
 use Rattle.css_model.specs.declared.sheet.Item.TheVariants.{Rule}
-use Rattle.css_model.specs.declared.sheet.SelItem.{SelItem}
 use Rattle.css_model.specs.Sheets.RuleParts.{RuleParts}
 use Rattle.css_model.specs.Sheets.Sound.{IsSoundRule}
 use Rattle.hold_laws.specs.Births.{later_born, owner}
@@ -27,7 +25,7 @@ use Rattle.rule_tables.specs.Tables.{CanBePartners, Cover, Labelled, TableParts,
 use Rattle.step_laws.proofs.ForCallers.{rule_sound}
 use Rattle.step_laws.specs.declared.step.Step.{Step}
 use Rattle.step_laws.specs.declared.step.Step.TheVariants.{CutDecl, CutSel, JoinSelUp, JoinSelDown, JoinDeclUp, JoinDeclDown, Share}
-use Rattle.step_laws.specs.Steps.{HasStep, IsStep, first_item, last_item}
+use Rattle.step_laws.specs.Steps.{IsStep, first_item, last_item}
 use Rattle.step_savings.proofs.ForCallers.{first_rule, last_rule}
 use Rattle.step_turns.specs.Looking.{Covers, FoundParts, IsWith, Reaches}
 use Rattle.plan_board.specs.MarkList.{births_of, labels_of}

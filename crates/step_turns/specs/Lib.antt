@@ -1,4 +1,5 @@
 pub mod Looking
 pub mod Marked
 pub mod Named
+pub mod Once
 pub mod Seconds

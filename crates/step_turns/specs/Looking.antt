@@ -1,7 +1,6 @@
 -- The first of the turns behind another one, while steps are looked at (own).
 use Rattle.std.specs.Prelude.{◌≡◌, ◌⊎◌, ℕ, ◌<◌, List, Option, Some, slice_get}
 use Rattle.std.specs.List.{Contains}
-use Rattle.css_model.specs.declared.sheet.Item.{Item}
 use Rattle.hold_laws.specs.Turns.{named}
 use Rattle.lead_plan.specs.declared.lead.Lead.{Lead}
 use Rattle.lead_plan.specs.Told.{lead_told}

@@ -1,6 +1,6 @@
 //! Whether a step is one of a board's sheet, with tables of its rules.
 
-ghost use Rattle.std.specs.Prelude.{◌≡◌, ◌↔◌, ◌+◌, ◌≤◌, ◌<◌, IfNone, IfSome, IsTrue, Some, drop, length, map, slice_get};
+ghost use Rattle.std.specs.Prelude.{◌≡◌, ◌↔◌, ◌+◌, ◌≤◌, ◌<◌, IfNone, IfSome, IsTrue, Some, true, drop, length, map, slice_get};
 ghost use Rattle.std.specs.List.{Contains, remove};
 ghost use Rattle.css_model.specs.declared.sheet.Item.TheVariants as item;
 ghost use Rattle.css_model.specs.Documents.SelectorParts.{SelectorParts};
@@ -13,6 +13,7 @@ ghost use Rattle.rule_tables.specs.Tables.{Cover, with_label};
 ghost use Rattle.step_laws.specs.declared.step.Step.TheVariants as kinds;
 ghost use Rattle.step_laws.specs.Steps.{HasStep, decls_of};
 ghost use Rattle.step_turns.specs.Marked.{rules_of};
+ghost use Rattle.step_turns.specs.Once.{DeclsStandOnce, PartsStandOnce, SelectorsStandOnce};
 
 use css_model::{Decl, DeclItem, Item, Rule, SelItem, Selector, Sheet};
 use merge_steps::is_step;
@@ -109,11 +110,15 @@ fn selectors_behind(items: &[SelItem], number: usize) -> &[SelItem]
     &items[number + 1..]
 }
 
-/// Whether a declaration stands twice in a rule, once at this number.
-fn is_decl_again(decls: &[DeclItem], number: u32, decl: &Decl) -> bool
-    requires { number < length decls.now }
+/// Whether a declaration stands twice in a rule, once at this number. `once` says that it is known not to.
+fn is_decl_again(decls: &[DeclItem], number: u32, decl: &Decl, once: bool) -> bool
+    requires there { number < length decls.now }
+    requires once { once ≡ true → Contains (map (λ x. x.decl) (remove decls.now number)) decl.now → ⊥ }
     ensures { IsTrue result ↔ Contains (map (λ x. x.decl) (remove decls.now number)) decl.now }
 {
+    if once {
+        return false;
+    }
     let number = number as usize;
     if is_decl_among(&decls[..number], decl) {
         return true;
@@ -121,11 +126,15 @@ fn is_decl_again(decls: &[DeclItem], number: u32, decl: &Decl) -> bool
     is_decl_among(decls_behind(decls, number), decl)
 }
 
-/// Whether a selector stands twice in a rule, once at this number.
-fn is_selector_again(selectors: &[SelItem], number: u32, selector: &Selector) -> bool
-    requires { number < length selectors.now }
+/// Whether a selector stands twice in a rule, once at this number. `once` says that it is known not to.
+fn is_selector_again(selectors: &[SelItem], number: u32, selector: &Selector, once: bool) -> bool
+    requires there { number < length selectors.now }
+    requires once { once ≡ true → Contains (map (λ x. x.selector) (remove selectors.now number)) selector.now → ⊥ }
     ensures { IsTrue result ↔ Contains (map (λ x. x.selector) (remove selectors.now number)) selector.now }
 {
+    if once {
+        return false;
+    }
     let number = number as usize;
     if is_selector_among(&selectors[..number], selector) {
         return true;
@@ -179,10 +188,11 @@ fn all_stand_with_selector(
     true
 }
 
-/// Whether a declaration of a rule can be cut.
-fn can_cut_decl(board: &Board, tables: &Tables, number: u32, decl: u32) -> bool
+/// Whether a declaration of a rule can be cut. `once` says that each is known to stand in its rule once.
+fn can_cut_decl(board: &Board, tables: &Tables, number: u32, decl: u32, once: bool) -> bool
     requires few { length board.now.items ≤ max_items }
     requires cover { Cover tables.now (rules_of board.now) }
+    requires once { once ≡ true → DeclsStandOnce board.now.items number }
     ensures { IsTrue result ↔ HasStep board.now.items (kinds.CutDecl number decl) }
 {
     decl_cuts_are_told();
@@ -194,16 +204,17 @@ fn can_cut_decl(board: &Board, tables: &Tables, number: u32, decl: u32) -> bool
     };
     let _marks = board.marks();
     let own = board.mark(number).label;
-    if is_decl_again(&rule.decls, decl, &cut.decl) {
+    if is_decl_again(&rule.decls, decl, &cut.decl, once) {
         return true;
     }
     all_stand_with_decl(board, tables, own, &rule.selectors, &cut.decl)
 }
 
-/// Whether a selector of a rule can be cut.
-fn can_cut_selector(board: &Board, tables: &Tables, number: u32, sel: u32) -> bool
+/// Whether a selector of a rule can be cut. `once` says that each is known to stand in its rule once.
+fn can_cut_selector(board: &Board, tables: &Tables, number: u32, sel: u32, once: bool) -> bool
     requires few { length board.now.items ≤ max_items }
     requires cover { Cover tables.now (rules_of board.now) }
+    requires once { once ≡ true → SelectorsStandOnce board.now.items number }
     ensures { IsTrue result ↔ HasStep board.now.items (kinds.CutSel number sel) }
 {
     selector_cuts_are_told();
@@ -215,22 +226,24 @@ fn can_cut_selector(board: &Board, tables: &Tables, number: u32, sel: u32) -> bo
     };
     let _marks = board.marks();
     let own = board.mark(number).label;
-    if is_selector_again(&rule.selectors, sel, &cut.selector) {
+    if is_selector_again(&rule.selectors, sel, &cut.selector, once) {
         return true;
     }
     all_stand_with_selector(board, tables, own, &cut.selector, &rule.decls)
 }
 
 /// Whether a step is one of a board's sheet. Takes no memory. The time is that of the parts of its rules, and of a cut
-/// that of the rules with these parts.
-pub(crate) fn is_step_of(board: &Board, tables: &Tables, step: &Step) -> bool
+/// that of the rules with these parts. `once` says that the parts of the kind that it cuts are known to stand in their rule
+/// once, so that none is looked for among the others.
+pub(crate) fn is_step_of(board: &Board, tables: &Tables, step: &Step, once: bool) -> bool
     requires few { length board.now.items ≤ max_items }
     requires cover { Cover tables.now (rules_of board.now) }
+    requires once { once ≡ true → PartsStandOnce board.now.items step.now }
     ensures { IsTrue result ↔ HasStep board.now.items step.now }
 {
     match *step {
-        Step::CutDecl { item, decl } => can_cut_decl(board, tables, item, decl),
-        Step::CutSel { item, sel } => can_cut_selector(board, tables, item, sel),
+        Step::CutDecl { item, decl } => can_cut_decl(board, tables, item, decl, once),
+        Step::CutSel { item, sel } => can_cut_selector(board, tables, item, sel, once),
         _ => is_step(board.sheet(), step),
     }
 }

@@ -2,6 +2,7 @@
 #![tactic(auto)]
 
 mod cuts;
+mod doubles;
 mod found;
 mod naming;
 mod next;

@@ -131,7 +131,7 @@ fn tested(
     ensures saves { IfSome result (λ k. (e : Edit) → IsStep board.now.items step e → Saves source.now board.now.items e saving) }
     ensures none { IfNone result ((e : Edit) → IsStep board.now.items step e → Saves source.now board.now.items e saving → 0 < saving → ⊥) }
 {
-    if !is_step_of(board, tables, &step) {
+    if !is_step_of(board, tables, &step, false) {
         return None;
     }
     if saving == 0 {

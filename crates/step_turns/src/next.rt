@@ -13,9 +13,11 @@ ghost use Rattle.step_laws.specs.Steps.{first_item, last_item};
 ghost use Rattle.step_turns.specs.Looking.{AreLater, Covers, IsWith, Keeps};
 ghost use Rattle.plan_board.specs.MarkList.{births_of, labels_of};
 ghost use Rattle.step_turns.specs.Marked.{rules_of};
+ghost use Rattle.step_turns.specs.Once.{DeclsStandOnce, SelectorsStandOnce};
 ghost use Rattle.wall_laws.specs.Renumbering.{IsOfTwo};
 
 use crate::cuts::find_rule;
+use crate::doubles::{decls_stand_once, selectors_stand_once};
 use crate::found::Found;
 use crate::trying::try_step;
 use css_model::Rule;
@@ -34,10 +36,12 @@ fn try_decl_cuts(
     after: &Lead,
     number: u32,
     count: u32,
+    once: bool,
     found: &mut Found,
 ) -> Result<(), AllocError>
     requires plannable { IsPlannable source.now board.now.items }
     requires cover { Cover tables.now (rules_of board.now) }
+    requires once { once ≡ true → DeclsStandOnce board.now.items number }
     requires later { AreLater source.now board.now after.now found.old }
     requires few { length found.old.leads ≤ room }
     ensures keeps { OnOk result (Keeps found.old found.new) }
@@ -47,7 +51,7 @@ fn try_decl_cuts(
 {
     for decl in 0..count {
         let step = Step::CutDecl { item: number, decl };
-        try_step(board, tables, source, after, &step, found)?;
+        try_step(board, tables, source, after, &step, once, found)?;
     }
     Ok(())
 }
@@ -60,10 +64,12 @@ fn try_selector_cuts(
     after: &Lead,
     number: u32,
     count: u32,
+    once: bool,
     found: &mut Found,
 ) -> Result<(), AllocError>
     requires plannable { IsPlannable source.now board.now.items }
     requires cover { Cover tables.now (rules_of board.now) }
+    requires once { once ≡ true → SelectorsStandOnce board.now.items number }
     requires later { AreLater source.now board.now after.now found.old }
     requires few { length found.old.leads ≤ room }
     ensures keeps { OnOk result (Keeps found.old found.new) }
@@ -73,7 +79,7 @@ fn try_selector_cuts(
 {
     for sel in 0..count {
         let step = Step::CutSel { item: number, sel };
-        try_step(board, tables, source, after, &step, found)?;
+        try_step(board, tables, source, after, &step, once, found)?;
     }
     Ok(())
 }
@@ -94,6 +100,7 @@ fn selector_count(rule: &Rule) -> usize
 
 /// The first turn of the cuts of a rule.
 fn try_cuts(
+    alloc: Global,
     board: &Board,
     tables: &Tables,
     source: &KnownLengths<'_>,
@@ -115,8 +122,10 @@ fn try_cuts(
     parts_are_few();
     let decls = decl_count(rule) as u32;
     let selectors = selector_count(rule) as u32;
-    try_decl_cuts(board, tables, source, after, number, decls, found)?;
-    try_selector_cuts(board, tables, source, after, number, selectors, found)
+    let once = decls_stand_once(alloc, rule)?;
+    try_decl_cuts(board, tables, source, after, number, decls, once, found)?;
+    let once = selectors_stand_once(alloc, rule)?;
+    try_selector_cuts(board, tables, source, after, number, selectors, once, found)
 }
 
 /// Puts the turns of the steps of two items.
@@ -139,15 +148,15 @@ fn try_joins(
     ensures few { length found.new.leads ≤ room }
 {
     let step = Step::JoinSelUp { upper, lower };
-    try_step(board, tables, source, after, &step, found)?;
+    try_step(board, tables, source, after, &step, false, found)?;
     let step = Step::JoinSelDown { upper, lower };
-    try_step(board, tables, source, after, &step, found)?;
+    try_step(board, tables, source, after, &step, false, found)?;
     let step = Step::JoinDeclUp { upper, lower };
-    try_step(board, tables, source, after, &step, found)?;
+    try_step(board, tables, source, after, &step, false, found)?;
     let step = Step::JoinDeclDown { upper, lower };
-    try_step(board, tables, source, after, &step, found)?;
+    try_step(board, tables, source, after, &step, false, found)?;
     let step = Step::Share { upper, lower };
-    try_step(board, tables, source, after, &step, found)
+    try_step(board, tables, source, after, &step, false, found)
 }
 
 /// Whether an item owns no step with another one, where a lead leads the steps that it owns.
@@ -228,7 +237,8 @@ fn try_partners(
 
 /// The next turns in the scope of a lead, if there are some: of the steps that save something and are in it, the first ones
 /// whose turns come later than the lead's, and the first of the others, if there are more. `at` is the label of the item
-/// with the birth `after.owner`; where no item has it, there is no turn. The tables cover the rules of the sheet, with the labels of their items. The error comes where memory is short.
+/// with the birth `after.owner`; where no item has it, there is no turn. The tables cover the rules of the sheet, with the
+/// labels of their items. The error comes where memory is short.
 /// The time is that of the item's parts and of the rules with one of them.
 pub fn next_leads(
     alloc: Global,
@@ -259,7 +269,9 @@ pub fn next_leads(
     let Some(rule) = find_rule(board.sheet(), number) else {
         return Ok(found);
     };
-    try_cuts(board, tables, source, after, number, rule, &mut found)?;
+    try_cuts(
+        alloc, board, tables, source, after, number, rule, &mut found,
+    )?;
     let partners = tables.partners(alloc, rule)?;
     try_partners(board, tables, source, after, number, &partners, &mut found)?;
     Ok(found)

@@ -1,11 +1,12 @@
 //! A step is tried, while steps are looked at.
 
-ghost use Rattle.std.specs.Prelude.{◌≤◌, OnOk, length};
+ghost use Rattle.std.specs.Prelude.{◌≡◌, ◌≤◌, OnOk, length, true};
 ghost use Rattle.lead_plan.specs.Weights.{room};
 ghost use Rattle.plan_laws.specs.Plannable.{IsPlannable};
 ghost use Rattle.rule_tables.specs.Tables.{Cover};
 ghost use Rattle.step_turns.specs.Looking.{AreLater, Covers, Keeps};
 ghost use Rattle.step_turns.specs.Marked.{rules_of};
+ghost use Rattle.step_turns.specs.Once.{PartsStandOnce};
 
 use crate::cuts::is_step_of;
 use crate::found::Found;
@@ -19,17 +20,20 @@ use std::alloc::AllocError;
 use step_laws::Step;
 
 /// Puts the turn of a step to those that were found, if that is one of the sheet in the scope of the lead `after`, saves
-/// something and comes later than the lead.
+/// something and comes later than the lead. `once` says that the parts of the kind that it cuts are known to stand in their
+/// rule once.
 pub(crate) fn try_step(
     board: &Board,
     tables: &Tables,
     source: &KnownLengths<'_>,
     after: &Lead,
     step: &Step,
+    once: bool,
     found: &mut Found,
 ) -> Result<(), AllocError>
     requires plannable { IsPlannable source.now board.now.items }
     requires cover { Cover tables.now (rules_of board.now) }
+    requires once { once ≡ true → PartsStandOnce board.now.items step.now }
     requires later { AreLater source.now board.now after.now found.old }
     requires few { length found.old.leads ≤ room }
     ensures keeps { OnOk result (Keeps found.old found.new) }
@@ -37,7 +41,7 @@ pub(crate) fn try_step(
     ensures later { OnOk result (AreLater source.now board.now after.now found.new) }
     ensures few { length found.new.leads ≤ room }
 {
-    if !is_step_of(board, tables, step) {
+    if !is_step_of(board, tables, step, once) {
         return Ok(());
     }
     if !is_beside(board, after, step) {

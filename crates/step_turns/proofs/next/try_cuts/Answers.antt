@@ -1,12 +1,17 @@
-use Rattle.std.proofs.Common.{◌≤◌, length, arith}
+use Rattle.std.proofs.Common.{◌≤◌, length, subst, arith}
+use Rattle.css_model.specs.declared.sheet.DeclItem.{DeclItem}
+use Rattle.css_model.specs.declared.sheet.SelItem.{SelItem}
 use Rattle.css_model.specs.Sheets.Limits.{max_bytes}
+use Rattle.css_model.specs.Sheets.RuleParts.{RuleParts}
 use Rattle.step_laws.specs.declared.step.Step.TheVariants.{CutDecl}
 use Rattle.step_turns.specs.Looking.{Keeps}
 use Rattle.step_turns.proofs.Looking.{all_cuts, keeps_both, kept_covers}
 use Rattle.step_turns.proofs.NamedSteps.{rule_is_small}
 use Rattle.step_turns.proofs.Owned.{decl_inside, selector_inside}
+use Rattle.step_turns.proofs.Rules.{one_rule}
 use Rattle.step_turns.proofs.Results.{on_ok, on_both}
 use Rattle.step_turns.proofs.next.try_cuts.Goals as goal
+use Rattle.step_turns.specs.Once.{StandOnce}
 
 pub overflow_cast-decls : goal.overflow_cast-decls
 overflow_cast-decls c =
@@ -15,6 +20,14 @@ overflow_cast-decls c =
 pub overflow_cast-selectors : goal.overflow_cast-selectors
 overflow_cast-selectors c =
     let m : length c.args.rule.now.selectors ≤ max_bytes = (rule_is_small c.parts_are_few.ensures c.args.source.now c.args.board.now.items c.requires.plannable c.args.number c.args.rule.now c.requires.rule).1 in omega (arith, m)
+
+pub try_decl_cuts-requires-clause-once : goal.try_decl_cuts-requires-clause-once
+try_decl_cuts-requires-clause-once c = λ once r at.
+    subst (λ (q : RuleParts). StandOnce (λ (x : DeclItem). x.decl) q.decls) (one_rule c.args.board.now.items c.args.number c.args.rule.now r c.requires.rule at) (c.in_ok-once.ensures once)
+
+pub try_selector_cuts-requires-clause-once : goal.try_selector_cuts-requires-clause-once
+try_selector_cuts-requires-clause-once c = λ once r at.
+    subst (λ (q : RuleParts). StandOnce (λ (x : SelItem). x.selector) q.selectors) (one_rule c.args.board.now.items c.args.number c.args.rule.now r c.requires.rule at) (c.in_ok-once-2.ensures once)
 
 pub returns-clause-keeps : goal.returns-clause-keeps
 returns-clause-keeps c = on_ok c.try_selector_cuts.result (Keeps c.try_decl_cuts.new.found c.try_selector_cuts.new.found) _

@@ -1,4 +1,3 @@
-use Rattle.std.proofs.Common.{ℕ}
 use Rattle.step_laws.specs.declared.step.Step.TheVariants.{JoinSelUp, JoinSelDown, JoinDeclUp, JoinDeclDown, Share}
 use Rattle.step_turns.specs.Looking.{Covers, Keeps}
 use Rattle.step_turns.proofs.Looking.{all_joins, keeps_both, kept_covers}

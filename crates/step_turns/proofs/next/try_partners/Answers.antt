@@ -1,6 +1,5 @@
-use Rattle.std.proofs.Common.{inr}
 use Rattle.std.proofs.lemmas.List.{nil_from_length}
-use Rattle.step_turns.proofs.Looking.{all_partners, keeps_both, keeps_itself, partner_more}
+use Rattle.step_turns.proofs.Looking.{all_partners, keeps_both, partner_more}
 use Rattle.step_turns.proofs.next.try_partners.Goals as goal
 
 pub rest-preserved : goal.rest-preserved

@@ -1,4 +1,4 @@
-use Rattle.std.proofs.Common.{◌<◌, ℕ, arith}
+use Rattle.std.proofs.Common.{◌<◌, arith}
 use Rattle.step_laws.specs.declared.step.Step.TheVariants.{CutSel}
 use Rattle.step_turns.proofs.Looking.{cut_more, keeps_both, keeps_itself}
 use Rattle.step_turns.proofs.next.try_selector_cuts.Goals as goal
