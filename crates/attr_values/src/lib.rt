@@ -9,7 +9,6 @@ mod start;
 mod value;
 
 pub use passing::passes_as_asked;
-pub use separators::has_unused;
 pub use solve::{Fits, ValueError, candidate_passes, solve_value};
 
 #[cfg(test)]

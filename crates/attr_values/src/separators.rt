@@ -1,6 +1,6 @@
 //! What keeps the pieces of a value apart: a code point that no test names, and a white space.
 
-ghost use Rattle.std.specs.Prelude.{◌≡◌, ◌≤◌, ◌+◌, ◌-◌, ◌==◌, ◌||◌, ◌↔◌, false, ℕ, IfOk, OnOk, IsTrue, MatchOption, slice_index_or};
+ghost use Rattle.std.specs.Prelude.{◌≡◌, ◌≤◌, ◌+◌, ◌-◌, ◌==◌, ◌||◌, false, ℕ, IfOk, OnOk, MatchOption, slice_index_or};
 ghost use Rattle.std.specs.List.{list_all};
 ghost use Rattle.attr_values.specs.Separators.{
   holds,
@@ -25,14 +25,6 @@ const FIRST_SEPARATOR: u32 = 'a' as u32;
 
 /// How many code points there are.
 const CODE_POINTS: u32 = char::MAX as u32 + 1;
-
-/// Whether some code point from `a` on stands in the value of no test, as `solve_value` asks.
-pub fn has_unused(alloc: Global, tests: &[(AttrTest, bool)]) -> Result<bool, AllocError>
-    ensures { IfOk result (λ unused. IsTrue unused ↔ HasUnused tests.now) }
-{
-    let unused = first_unused(alloc, tests)?;
-    Ok(unused.is_some())
-}
 
 /// The least code point from `a` on that stands in the value of no test, if there is one.
 pub(crate) fn first_unused(

@@ -65,8 +65,7 @@ pub fn candidate_passes()
 
 /// How one attribute passes tests as they are asked, each of which is asked to hold where its flag is
 /// true, and asked not to hold where it is false (Selectors 3, sections 6.3.1, 6.3.2 and 6.6.7). The
-/// names in the tests do not count. Some code point from `a` on has to stand in the value of no test,
-/// which `has_unused` tells.
+/// names in the tests do not count. Some code point from `a` on has to stand in the value of no test.
 ///
 /// `Absent` exactly where no test is asked to hold. `Nothing` exactly where some is and no text passes
 /// as asked. Otherwise a value that does, of code points: the value of the first Equal that is asked
@@ -76,7 +75,8 @@ pub fn candidate_passes()
 /// has to begin with, each Part, the words between white spaces, and the longest Suffix.
 ///
 /// `SpacesTaken` comes before all of this, exactly where a Word is asked to hold, no Equal is, and each
-/// white space stands in the value of a Part that is asked not to hold.
+/// white space stands in the value of a Part that is asked not to hold. `NoMemory` comes where memory is
+/// short.
 pub fn solve_value(alloc: Global, tests: &[(AttrTest, bool)]) -> Result<Fits, ValueError>
     requires { HasUnused tests.now }
     ensures { IsSolved result tests.now }

@@ -1,6 +1,10 @@
-use crate::{Fits, ValueError, has_unused, solve_value};
+ghost use Rattle.std.specs.Prelude.{◌↔◌, IsTrue, IfOk};
+ghost use Rattle.attr_values.specs.Separators.{HasUnused};
+
+use crate::separators::first_unused;
+use crate::{Fits, ValueError, solve_value};
 use css_model::{AttrTest, Op, Text};
-use std::alloc::Global;
+use std::alloc::{AllocError, Global};
 use std::process::Abort;
 use std::test::Fail;
 
@@ -31,6 +35,14 @@ fn test(alloc: Global, piece: &str) -> Result<(AttrTest, bool), Fail> {
     let name = Text::new(Vec::new(alloc));
     let value = Text::new(codes);
     Ok((AttrTest { name, op, value }, wanted))
+}
+
+/// Whether some code point from `a` on stands in the value of no test, as `solve_value` asks.
+fn has_unused(alloc: Global, tests: &[(AttrTest, bool)]) -> Result<bool, AllocError>
+    ensures { IfOk result (λ unused. IsTrue unused ↔ HasUnused tests.now) }
+{
+    let unused = first_unused(alloc, tests)?;
+    Ok(unused.is_some())
 }
 
 /// What is answered for a list of tests, with `,` between them.

@@ -2,29 +2,13 @@
 ghost use Rattle.std.specs.Prelude.{◌≡◌};
 ghost use Rattle.cnf.specs.Lits.{is_among, are_below};
 ghost use Rattle.cnf.specs.Propagation.{is_consistent, is_distinct};
-ghost use Rattle.rup_check.specs.Checks.{are_steps, is_step};
+ghost use Rattle.rup_check.specs.Checks.{is_step};
 ghost use Rattle.rup_check.specs.Reading.{is_plain};
 
-use crate::log::Log;
-use cnf::{Clause, Lit};
-
-/// Whether a log can be checked: the variables of its steps are those of its formula, and in none of
-/// them a literal stands beside its negation. Takes no memory.
-pub fn can_be_checked(log: &Log) -> bool
-    ensures { result ≡ are_steps log.now.formula.vars log.now.steps.items }
-{
-    are_steps(log.formula.vars(), &log.steps)
-}
-
-/// Whether each of these clauses can be a step over so many variables. Takes no memory.
-fn are_steps(vars: u32, steps: &[Clause]) -> bool
-    ensures { result ≡ are_steps vars steps.now }
-{
-    steps.iter().all(|step| is_step(vars, &step.lits))
-}
+use cnf::Lit;
 
 /// Whether a clause can be a step over so many variables. Takes no memory.
-fn is_step(vars: u32, clause: &[Lit]) -> bool
+pub(crate) fn is_step(vars: u32, clause: &[Lit]) -> bool
     ensures { result ≡ is_step vars clause.now }
 {
     are_below(clause, vars) && is_consistent(clause)

@@ -1,6 +1,9 @@
 //! What the check says of small logs.
+ghost use Rattle.std.specs.Prelude.{◌≡◌};
+ghost use Rattle.rup_check.specs.Checks.{are_steps};
+
 use super::*;
-use crate::steps::are_below;
+use crate::steps::{are_below, is_step};
 use cnf::{Clause, Formula, Lit};
 use std::alloc::{AllocError, Global};
 use std::test::Fail;
@@ -71,15 +74,21 @@ fn log(alloc: Global, row: &Row) -> Result<Log, AllocError> {
     Ok(log)
 }
 
+// Whether these clauses can be the steps of a log, as `check_log` asks.
+fn are_steps(vars: u32, steps: &[Clause]) -> bool
+    ensures { result ≡ are_steps vars steps.now }
+{
+    steps.iter().all(|step| is_step(vars, &step.lits))
+}
+
 #[test]
 fn follows_small_logs(rt: HostRuntime) -> Result<(), Fail> {
     let alloc = rt.alloc();
     for row in ROWS {
         let log = log(alloc, &row)?;
-        assert!(rt; can_be_checked(&log));
-        if can_be_checked(&log) {
-            assert_eq!(rt; check_log(alloc, &log)?, row.3);
-        }
+        let can_be_checked = are_steps(log.formula.vars(), &log.steps);
+        assert!(rt; can_be_checked);
+        assert_eq!(rt; check_log(alloc, &log)?, row.3);
     }
     Ok(())
 }

@@ -146,7 +146,12 @@ fn comes_before_kept(sheet: &Ordered<'_>, p: &Placed<'_>, number: usize) -> bool
 }
 
 /// Whether a pair weighs with another one, and comes before it in one of two sheets alone.
-pub fn is_reversed(old: &Ordered<'_>, new: &Ordered<'_>, p: &Placed<'_>, q: &Placed<'_>) -> bool
+pub(crate) fn is_reversed(
+    old: &Ordered<'_>,
+    new: &Ordered<'_>,
+    p: &Placed<'_>,
+    q: &Placed<'_>,
+) -> bool
     requires first { KeepsLimits p.now.pair.selector }
     requires second { KeepsLimits q.now.pair.selector }
     ensures { result ≡ reversing.is_reversed old.now.items.now new.now.items.now p.now.pair q.now.pair }
@@ -155,7 +160,7 @@ pub fn is_reversed(old: &Ordered<'_>, new: &Ordered<'_>, p: &Placed<'_>, q: &Pla
 }
 
 /// Whether a pair weighs with the kept item of this number, and comes before it in one of two sheets alone.
-pub fn is_reversed_kept(
+pub(crate) fn is_reversed_kept(
     old: &Ordered<'_>,
     new: &Ordered<'_>,
     p: &Placed<'_>,

@@ -15,14 +15,12 @@ mod reversing;
 mod sorting;
 mod taking;
 
-pub use comparing::{
-    Ordered, is_kept, is_reversed, is_reversed_kept, kept_before, weigh, weighs_kept,
-};
+pub use comparing::{Ordered, is_kept, kept_before, weigh, weighs_kept};
 pub use entries::{Counterpart, Reversal};
 pub use laws::{allowed_steps_are_free, other_steps_are_blocked};
 pub use moving::move_rule;
 pub use pair_index::PairIndex;
-pub use pairs::{Placed, has_pair, last_pairs};
+pub use pairs::{Placed, last_pairs};
 pub use permitting::{Allowed, judged, moved_of, permitted};
 pub use places::{Moved, Other, PairPlace, Reversed};
 pub use reversing::{narrow_all, narrow_place, ordered, reversed};

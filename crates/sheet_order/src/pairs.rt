@@ -63,13 +63,6 @@ impl<'a> Placed<'a> {
     }
 }
 
-/// Whether a pair is among these.
-pub fn has_pair(pairs: &[Placed<'_>], p: &Placed<'_>) -> bool
-    ensures { result ≡ order.has_pair pairs.now p.now.pair }
-{
-    pairs.iter().any(|q| q.is_same(p))
-}
-
 /// The selectors of a rule with their numbers: of equal ones the first.
 fn first_selectors<'a>(
     alloc: Global,
