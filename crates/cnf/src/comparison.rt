@@ -1,3 +1,5 @@
+//! The gate that compares a number with a bound.
+
 ghost use Rattle.std.specs.Prelude.{◌≡◌, ◌≤◌, ◌<◌, ◌+◌, ◌^◌, nat_le, length, IsTrue, IfOk, OnOk, None};
 ghost use Rattle.cnf.specs.Lits.{is_below, are_below};
 ghost use Rattle.cnf.specs.Numbers.{with_digit, with_compared_digit, with_comparison, with_found, with_at_least};

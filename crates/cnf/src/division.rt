@@ -1,3 +1,5 @@
+//! The gate that divides a number by a constant.
+
 ghost use Rattle.std.specs.Prelude.{◌≡◌, ◌≢◌, ◌≤◌, ◌<◌, ◌+◌, ◌-◌, ◌^◌, ◌∷◌, nat_le, length, reverse, IsTrue, IfOk, OnOk, None};
 ghost use Rattle.cnf.specs.Lits.{is_below, are_below};
 ghost use Rattle.cnf.specs.Numbers.{with_at_least, remainder_digits, scaled_columns, with_reduced, with_next_digit, with_division};

@@ -1,3 +1,5 @@
+//! Formulas in conjunctive normal form, and how they grow.
+
 ghost use Rattle.std.specs.Prelude.{◌≡◌, ◌+◌, ◌<◌, ◌≤◌, ◌^◌, ◌↔◌, [], length, slice_get, slice_index, slice_range, IsTrue, OnOk, OnErr, Some};
 ghost use Rattle.cnf.specs.Layout.{start_of, RiseTo};
 

@@ -1,3 +1,5 @@
+//! Gates over literals: that exactly one is true, whether all are, and literals that are fixed.
+
 ghost use Rattle.std.specs.Prelude.{◌≡◌, ◌≤◌, ◌^◌, [], ◌∷◌, map, length, IsTrue, IfOk, OnOk};
 ghost use Rattle.cnf.specs.Gates.{with_clauses, with_exactly_one, with_and_gate, with_or_gate, with_true, with_false};
 ghost use Rattle.cnf.specs.Lits.{is_below, are_below, negation};

@@ -1,3 +1,5 @@
+//! The laws of formulas and gates, each as the contract of a function that does nothing.
+
 ghost use Rattle.std.specs.Prelude.{◌≡◌, ◌≢◌, ◌+◌, ◌*◌, ◌/◌, ◌%◌, ◌^◌, ◌<◌, ◌≤◌, ◌↔◌, ℕ, max, List, ◌++◌, length, slice_index_or, Bool, not, false, IsTrue, count_by};
 ghost use Rattle.std.specs.List.{list_all};
 ghost use Rattle.cnf.specs.Budgets.{no_limit};

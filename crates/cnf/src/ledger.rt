@@ -1,3 +1,5 @@
+//! Numbers in binary, clauses, and ledgers of learned clauses.
+
 ghost use Rattle.std.specs.Prelude.{◌≡◌, ◌↔◌, IfOk, IsTrue};
 
 use crate::lit::Lit;

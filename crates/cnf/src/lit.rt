@@ -1,3 +1,5 @@
+//! Literals: a variable, or its negation.
+
 ghost use Rattle.std.specs.Prelude.{◌≡◌, ◌/◌, List, Bool, not};
 
 /// A literal: twice the number of a variable, plus 1 for the negation of the variable.

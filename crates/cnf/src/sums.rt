@@ -1,3 +1,5 @@
+//! The gate that adds two numbers.
+
 ghost use Rattle.std.specs.Prelude.{◌≡◌, ◌≤◌, ◌<◌, ◌+◌, ◌^◌, ◌∷◌, drop, max, length, IsTrue, IfOk, OnOk, None};
 ghost use Rattle.std.specs.List.{list_all};
 ghost use Rattle.cnf.specs.Gates.{with_clauses};

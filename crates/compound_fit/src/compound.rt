@@ -66,7 +66,7 @@ impl From<AllocError> for FitError {
 /// one is refused the first of those names that is not. The features have no text.
 ///
 /// `SpacesTaken` comes before all of this, exactly where `solve_value` gives it for an attribute other
-/// than `id`.
+/// than `id`. `NoMemory` comes where memory is short.
 pub fn fit(alloc: Global, x: &Compound, y: Option<&Compound>) -> Result<Option<Features>, FitError>
     requires ids { HasPlainIds (x.now ++ simples_of (option_copied y)) }
     requires unused { (name : List ℕ)

@@ -39,7 +39,7 @@ impl FitTable {
     /// The table of two selectors: what `fit` gives for both targets, then for each other compound of x
     /// alone, for each other compound of y alone, and for each other compound of x with each other one
     /// of y, in the order of their chains. What `fit` asks of compounds is asked of each of these.
-    /// `SpacesTaken` exactly where `fit` gives it for one of them.
+    /// `SpacesTaken` exactly where `fit` gives it for one of them; `NoMemory` where memory is short.
     pub fn new(alloc: Global, x: &Selector, y: &Selector) -> Result<FitTable, FitError>
         requires { All IsFittable (groups x.now.chain y.now.chain) }
         ensures ok { IfOk result (λ t. IsTable t x.now y.now) }

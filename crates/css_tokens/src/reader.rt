@@ -78,8 +78,11 @@ impl<'a> Tokens<'a> {
         Tokens { source, at }
     }
 
-    /// The next token; `None` exactly at the end. After a fault the same fault is answered again. Takes no
-    /// memory.
+    /// The next token (CSS Syntax 3, section 4); `None` exactly at the end. A fault comes exactly where no token
+    /// can be read, with its place in bytes from 0: `BadString` where a newline stands inside a string without a
+    /// backslash before it, at the quote; `BadUrl` where a url has a code point that it may not hold, at its name;
+    /// `EndInside` where the text ends inside a comment, a string, a url or an escape, at the comment or the token.
+    /// After a fault the same fault is answered again. Takes no memory.
     pub fn next(&mut self) -> Result<Option<Token>, TokenFault>
         ensures { Gives (left self.old) result (left self.new) }
     {

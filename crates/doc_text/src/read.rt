@@ -57,6 +57,7 @@ impl From<AllocError> for DocError {
 /// Otherwise, `Ok` exactly where this is the text that `print_doc` gives for an example that keeps the rules
 /// (`KeepsRules`), and it is that example. `BadLine` names the first line, from 1, with which no such text begins; or
 /// the last line, where more is needed: a line end, a line for the root, or a marked line. It is 1 for the empty text.
+/// `NoMemory` comes where memory is short.
 pub fn read_doc(alloc: Global, text: &[u8]) -> Result<Example, DocError>
     ensures { IsRead result text.now }
 {

@@ -14,15 +14,15 @@ pub fn opened_blocks_are_sheets()
     read_is_sound();
 }
 
-/// Where the kept items of a sheet stay, the same blocks are opened; so those of the sheet that was read serve to print a sheet that
-/// is made of its parts.
+/// Where the kept items of a sheet stay, the same blocks are opened; so those of the sheet that was read serve to
+/// print a sheet that is made of its parts.
 pub fn blocks_stay()
     ensures blocks { BlocksStay }
     ensures printed { PrintedByOldBlocks }
 {}
 
-/// Where the items of a sheet become shorter by so many bytes, and each opened body no longer, their text with these bodies becomes
-/// shorter by as many.
+/// Where the items of a sheet become shorter by so many bytes, and each opened body no longer, their text with these
+/// bodies becomes shorter by as many.
 pub fn merged_is_no_longer()
     ensures { MergedIsNoLonger }
 {}

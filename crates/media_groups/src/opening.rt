@@ -200,8 +200,9 @@ pub fn reading_of<'a>(
     Reading::new(alloc, source)
 }
 
-/// The blocks of media of a sheet, read from this source, that are opened, in their order: `@media` rules behind the last
-/// `@import` whose bodies are sheets of their own. The pieces of such a sheet are places in the bytes of its body.
+/// The blocks of media of a sheet, read from this source, that are opened, in their order: `@media` rules (CSS
+/// Conditional Rules 3, section 2) behind the last `@import` whose bodies are sheets of their own. Which ones are
+/// opened is own. The pieces of such a sheet are places in the bytes of its body. `AllocError` where memory is short.
 pub fn open_media(alloc: Global, sheet: &Sheet, source: &[u8]) -> Result<Vec<Media>, AllocError>
     requires { sheet_of source.now ≡ Ok sheet.now.items }
     ensures { IfOk result (λ media. media.items ≡ spec.opened_of sheet.now.items source.now) }

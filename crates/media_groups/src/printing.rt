@@ -157,8 +157,8 @@ fn begins_at(place: u32, item: &Item) -> bool
     }
 }
 
-/// Writes an item: where the first of these blocks begins there, it is written opened, with the first of these sheets as its body.
-/// Gives how many of the blocks it was.
+/// Writes an item: where the first of these blocks begins there, it is written opened, with the first of these sheets
+/// as its body. Gives how many of the blocks it was.
 fn put_next(
     alloc: Global,
     out: &mut Vec<u8>,
@@ -218,8 +218,8 @@ fn put_before_mark(text: &mut Vec<u8>) -> Result<(), AllocError>
     Ok(())
 }
 
-/// The printed text of a sheet that is sound for a source, among the items of which these blocks are opened, in their order, with the
-/// sheet of the same place in `merged` as the body of each.
+/// The printed text of a sheet that is sound for a source, among the items of which these blocks are opened, in their
+/// order, with the sheet of the same place in `merged` as the body of each.
 pub fn print_opened(
     alloc: Global,
     sheet: &Sheet,

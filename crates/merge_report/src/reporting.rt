@@ -29,9 +29,9 @@ fn sheet_of_text(alloc: Global, text: &[u8]) -> Result<Sheet, AllocError>
     }
 }
 
-/// The report of the text that a source was merged to: its numbers, and each step of it that still saves something, with
-/// its cause by the answers that are held afterwards; those inside opened blocks come last. It asks for more pairs than merging does. All that was answered
-/// stays, also after `AllocError`.
+/// The report of the text that a source was merged to: its numbers, and each step of it that still saves something,
+/// with its cause by the answers that are held afterwards; those inside opened blocks come last. It asks for more
+/// pairs than merging does. All that was answered stays, also after `AllocError`.
 pub fn merge_report(
     alloc: Global,
     pairs: &mut Pairs,

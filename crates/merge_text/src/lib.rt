@@ -1,5 +1,5 @@
-//! The text of a merged sheet, from bytes to bytes: reads, opens blocks of media, takes steps until nothing is left to do, in the sheet
-//! and in each opened body, and prints.
+//! The text of a merged sheet, from bytes to bytes: reads, opens blocks of media, takes steps until nothing is left
+//! to do, in the sheet and in each opened body, and prints.
 #![tactic(auto)]
 
 mod bodies;

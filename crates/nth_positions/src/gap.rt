@@ -1,3 +1,5 @@
+//! Gaps between siblings, and how far one has to be looked at.
+
 ghost use Rattle.std.specs.Prelude.{◌≡◌, ◌<◌, ◌≤◌, ◌+◌, ◌^◌, ◌↔◌, ℕ, List, Contains};
 ghost use Rattle.css_model.specs.declared.position.AnB.{AnB};
 ghost use Rattle.css_model.specs.Documents.Matching.{IsNth};

@@ -1,3 +1,5 @@
+//! How far gaps have to be looked at for some positions, and how many binary digits that takes.
+
 ghost use Rattle.std.specs.Prelude.{◌≡◌, ◌<◌, ◌≤◌, ◌*◌, ◌^◌, ℕ, true, List, All, Contains, count_by, unsigned_abs};
 ghost use Rattle.std.specs.Int.{◌∣◌};
 ghost use Rattle.css_model.specs.declared.position.AnB.{AnB};

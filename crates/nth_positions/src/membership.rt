@@ -1,3 +1,5 @@
+//! Whether a position is one that an An+B stands for.
+
 ghost use Rattle.std.specs.Prelude.{IsTrue, ◌↔◌, ◌≡◌, ◌≢◌, ℕ, pos, ◌*ℤ◌, ◌≤ℤ◌, ◌<◌, ◌^◌, unsigned_abs};
 ghost use Rattle.css_model.specs.Documents.Matching.{IsNth};
 

@@ -1,3 +1,5 @@
+//! The An+B notation, from its text.
+
 ghost use Rattle.std.specs.Prelude.{◌≡◌, ℕ, ◌+◌, ◌<◌, ◌≤◌, ◌↔◌, IsTrue, List, Ok, Err, Some, map, min, neg_ℤ, pos, take, drop, length, option_copied};
 ghost use Rattle.std.specs.List.{AllPass, prefix_len};
 ghost use Rattle.std.specs.Char.{is_ascii_digit, to_ascii_lowercase};

@@ -1,5 +1,6 @@
-//! From plans to what is written, where blocks of media are opened: the text of a sheet that was read and merged, and each opened body
-//! of it by itself, is one whose sheet has the same winners in every scene, and in which nothing is left to do either.
+//! From plans to what is written, where blocks of media are opened: the text of a sheet that was read and merged, and
+//! each opened body of it by itself, is one whose sheet has the same winners in every scene, and in which nothing is
+//! left to do either.
 #![tactic(auto)]
 
 mod bodies;

@@ -1,3 +1,5 @@
+//! The family of a name, and whether two names are related.
+
 ghost use Rattle.std.specs.Prelude.{◌≡◌, ◌↔◌, IfOk, IsTrue, codes};
 ghost use Rattle.css_model.specs.Lists.{begins_with};
 ghost use Rattle.css_model.specs.Cascade.Family.{Related, family_of, related, related_families};

@@ -1,3 +1,5 @@
+//! The table of families, and the family that it names for a part.
+
 ghost use Rattle.std.specs.Prelude.{◌≡◌, ◌==◌, false, None, find, map, zip};
 ghost use Rattle.std.specs.List.{list_all, list_any};
 ghost use Rattle.std.specs.Option.{option_copied};

@@ -165,19 +165,20 @@ fn too_long() -> SheetFault
     }
 }
 
-/// Compares two style sheets, of which the first one has the first `split` bytes of the text and the second one the others, and
-/// prints what is found: `same` where they style every page alike; `missing RULE` with a pair that the second one lacks, and
-/// `extra RULE` with one that it has besides, as a rule; `kept N` where the kept items of this number, from 1, differ, or are in
-/// another order with a pair; `reversed`, two pairs in another order, each as a rule, and a document in which the marked element
-/// matches both selectors; `unsure R` where two selectors are not compared, with the number of the reason; and `unsure spent`
-/// where the budget of the pairs was spent for them. Numbers and rules are those of the sheets, or of the bodies of opened blocks of
-/// media in which it is found. Each line ends with a line feed.
+/// Compares two style sheets, of which the first one has the first `split` bytes of the text and the second one the
+/// others, and prints what is found: `same` where they style every page alike; `missing RULE` with a pair that the
+/// second one lacks, and `extra RULE` with one that it has besides, as a rule; `kept N` where the kept items of this
+/// number, from 1, differ, or are in another order with a pair; `reversed`, two pairs in another order, each as a
+/// rule, and a document in which the marked element matches both selectors; `unsure R` where two selectors are not
+/// compared, with the number of the reason; and `unsure spent` where the budget of the pairs was spent for them.
+/// Numbers and rules are those of the sheets, or of the bodies of opened blocks of media in which it is found. Each
+/// line ends with a line feed.
 ///
-/// `text` is any list of bytes. `First` comes exactly where it has more than 2,097,152 bytes, as a first sheet that is too long;
-/// then `NoSplit` exactly where it has fewer than `split` bytes; then `First` exactly where the first sheet has a fault, with its
-/// place in bytes from 0, and then `Second` where the second one has, with the place in its own bytes.
-/// `NoMemory` comes where memory is short. The answers for selectors are asked of `pairs`, where they stand afterwards; all that was
-/// held there stays, also after an error.
+/// `text` is any list of bytes. `First` comes exactly where it has more than 2,097,152 bytes, as a first sheet that
+/// is too long; then `NoSplit` exactly where it has fewer than `split` bytes; then `First` exactly where the first
+/// sheet has a fault, with its place in bytes from 0, and then `Second` where the second one has, with the place in
+/// its own bytes. `NoMemory` comes where memory is short. The answers for selectors are asked of `pairs`, where they
+/// stand afterwards; all that was held there stays, also after an error.
 #[tactic(auto, using(sheet_order::proofs::ForCallers::stays_itself))]
 pub fn same_lines(
     alloc: Global,

@@ -272,7 +272,12 @@ fn too_many_pairs(items: &[Item]) -> Option<u32>
     None
 }
 
-/// Reads a style sheet. Each piece of it is a range of `source`, in bytes from 0.
+/// Reads a style sheet (CSS Syntax 3, sections 3.2, 4 and 5.4). Each piece of it is a range of `source`, in bytes from 0.
+///
+/// `Ok` comes only where the sheet has no fault, and `Fault` only where it has this one, with its place in bytes from 0.
+/// Faults are looked for one after the other, each over the whole sheet, and the first one is told: `TooLong`;
+/// `NotUtf8`; the first `BadString`, `BadUrl` or `EndInside` in the place of a token; `TooDeep`; `EndInside` of a
+/// bracket; `Namespace`; `TooManyItems`; `TooManyPairs`. `NoMemory` comes where memory is short.
 pub fn read_sheet(alloc: Global, source: &[u8]) -> Result<Sheet, SheetError>
     ensures { Answers (λ s. s.items) result (sheet_of source.now) }
 {

@@ -1,3 +1,5 @@
+//! The numbers that a made sheet is made of.
+
 ghost use Rattle.std.specs.Prelude.{◌≡◌, ◌<◌, ◌^◌};
 ghost use Rattle.trial_gen.specs.Draws.{drawn, next};
 

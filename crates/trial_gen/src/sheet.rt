@@ -1,3 +1,5 @@
+//! The rules of a made sheet.
+
 ghost use Rattle.std.specs.Prelude.{◌≡◌, ◌≤◌, ◌++◌, ◌%◌, decimal, IfOk, OnOk};
 ghost use Rattle.trial_gen.specs.Made.{declaration_text, made_sheet, property, rule_text, selector_text};
 
