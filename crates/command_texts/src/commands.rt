@@ -15,6 +15,8 @@ bytes than N, 11 the second sheet is refused.
     { cat page.txt; echo; cat sheet.css; } | cssmin style
     cat sheet.css sheet.min.css | cssmin same $(wc -c <sheet.css)
 
+`cssmin min --help` tells more of `min`, and so it is for each command.
+
 No file names are taken: name the sheet by `<`, and the target by `>`, which
 must be another file.";
 

@@ -11,7 +11,7 @@ use command_words::Topic;
 use std::alloc::{AllocError, Global};
 
 /// The version of the program.
-pub const VERSION: &str = "0.3.0";
+pub const VERSION: &str = "1.0.0";
 
 /// What `clap` has to tell of words, if anything: why it refuses them, or the help or the version that they ask
 /// for. The first word is the name of the program.
