@@ -1,0 +1,63 @@
+#!/usr/bin/env python3
+"""Runs a command, as `rt ci`, and prints behind its output what each crate took: its proof, its tests and its edits.
+
+usage: python3 .ci/times.py COMMAND..
+
+Times are seconds of processor time, as /proc tells them every two seconds, so what ends sooner is missed. Where there is no
+/proc, nothing is told. Its status is that of the command.
+"""
+
+import collections
+import os
+import subprocess
+import sys
+import time
+
+KINDS = ("proof", "tests", "edits")
+
+
+def checks():
+    """The checks that run: of each its process, its crate, its kind and its seconds so far."""
+    for pid in filter(str.isdigit, os.listdir("/proc")):
+        try:
+            with open(f"/proc/{pid}/cmdline", "rb") as file:
+                words = file.read().decode(errors="replace").split("\0")
+            if os.path.basename(words[0]) != "rattle" or "--crate-name" not in words:
+                continue
+            with open(f"/proc/{pid}/stat", encoding="utf-8", errors="replace") as file:
+                fields = file.read().rpartition(")")[2].split()
+            edited = os.path.basename(os.readlink(f"/proc/{pid}/cwd")).startswith("rt-edit-")
+        except (OSError, IndexError):
+            continue
+        kind = "edits" if edited else "tests" if "--test" in words else "proof"
+        seconds = (int(fields[11]) + int(fields[12])) / os.sysconf("SC_CLK_TCK")
+        yield (pid, fields[19]), words[words.index("--crate-name") + 1], kind, seconds
+
+
+def table(seen):
+    """The lines of the table, the crate that took most first."""
+    crates = collections.defaultdict(collections.Counter)
+    for crate, kind, seconds in seen.values():
+        crates[crate][kind] += seconds
+    rows = sorted(crates.items(), key=lambda row: -sum(row[1].values()))
+    for crate, took in rows:
+        yield f"{crate:24}" + "".join(f"{took[kind]:8.0f}" for kind in KINDS)
+    yield f"{'all':24}" + "".join(f"{sum(took[kind] for _, took in rows):8.0f}" for kind in KINDS)
+
+
+def main():
+    start, seen = time.time(), {}
+    with subprocess.Popen(sys.argv[1:]) as command:
+        while command.poll() is None:
+            if os.path.isdir("/proc/self"):
+                seen.update((process, (crate, kind, seconds)) for process, crate, kind, seconds in checks())
+            time.sleep(2)
+    if seen:
+        print(f"{'seconds of processor time':24}" + "".join(f"{kind:>8}" for kind in KINDS))
+        print("\n".join(table(seen)))
+    print(f"{(time.time() - start) / 60:.1f} minutes on {os.cpu_count()} processors", flush=True)
+    return command.returncode
+
+
+if __name__ == "__main__":
+    sys.exit(main())
