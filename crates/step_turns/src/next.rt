@@ -19,7 +19,7 @@ ghost use Rattle.wall_laws.specs.Renumbering.{IsOfTwo};
 use crate::cuts::find_rule;
 use crate::doubles::{decls_stand_once, selectors_stand_once};
 use crate::found::Found;
-use crate::trying::try_step;
+use crate::trying::{try_both, try_step};
 use css_model::Rule;
 use lead_plan::{Lead, Scope};
 use merge_plan::KnownLengths;
@@ -147,14 +147,12 @@ fn try_joins(
     ensures later { OnOk result (AreLater source.now board.now after.now found.new) }
     ensures few { length found.new.leads ≤ room }
 {
-    let step = Step::JoinSelUp { upper, lower };
-    try_step(board, tables, source, after, &step, false, found)?;
-    let step = Step::JoinSelDown { upper, lower };
-    try_step(board, tables, source, after, &step, false, found)?;
-    let step = Step::JoinDeclUp { upper, lower };
-    try_step(board, tables, source, after, &step, false, found)?;
-    let step = Step::JoinDeclDown { upper, lower };
-    try_step(board, tables, source, after, &step, false, found)?;
+    let up = Step::JoinSelUp { upper, lower };
+    let down = Step::JoinSelDown { upper, lower };
+    try_both(board, tables, source, after, &up, &down, found)?;
+    let up = Step::JoinDeclUp { upper, lower };
+    let down = Step::JoinDeclDown { upper, lower };
+    try_both(board, tables, source, after, &up, &down, found)?;
     let step = Step::Share { upper, lower };
     try_step(board, tables, source, after, &step, false, found)
 }

@@ -4,6 +4,7 @@ ghost use Rattle.std.specs.Prelude.{◌≡◌, ◌≤◌, OnOk, length, true};
 ghost use Rattle.lead_plan.specs.Weights.{room};
 ghost use Rattle.plan_laws.specs.Plannable.{IsPlannable};
 ghost use Rattle.rule_tables.specs.Tables.{Cover};
+ghost use Rattle.step_laws.specs.Steps.{HasStep};
 ghost use Rattle.step_turns.specs.Looking.{AreLater, Covers, Keeps};
 ghost use Rattle.step_turns.specs.Marked.{rules_of};
 ghost use Rattle.step_turns.specs.Once.{PartsStandOnce};
@@ -56,4 +57,32 @@ pub(crate) fn try_step(
         return Ok(());
     }
     found.put(lead)
+}
+
+/// Puts the turns of two steps of which the sheet has both or none, each by `try_step`.
+pub(crate) fn try_both(
+    board: &Board,
+    tables: &Tables,
+    source: &KnownLengths<'_>,
+    after: &Lead,
+    first: &Step,
+    second: &Step,
+    found: &mut Found,
+) -> Result<(), AllocError>
+    requires plannable { IsPlannable source.now board.now.items }
+    requires cover { Cover tables.now (rules_of board.now) }
+    requires alike { HasStep board.now.items second.now → HasStep board.now.items first.now }
+    requires later { AreLater source.now board.now after.now found.old }
+    requires few { length found.old.leads ≤ room }
+    ensures keeps { OnOk result (Keeps found.old found.new) }
+    ensures first { OnOk result (Covers source.now board.now after.now found.new first.now) }
+    ensures second { OnOk result (Covers source.now board.now after.now found.new second.now) }
+    ensures later { OnOk result (AreLater source.now board.now after.now found.new) }
+    ensures few { length found.new.leads ≤ room }
+{
+    if !is_step_of(board, tables, first, false) {
+        return Ok(());
+    }
+    try_step(board, tables, source, after, first, false, found)?;
+    try_step(board, tables, source, after, second, false, found)
 }
