@@ -1,13 +1,13 @@
 -- What is left of rules is tested by their parts.
-use Rattle.std.proofs.Common.{◌≡◌, ◌↔◌, ◌⊎◌, Bool, true, false, cond, not, ◌&&◌, ◌||◌, List, [], ◌∷◌, ◌++◌, refl, sym, ap, ap₂, ◌∙◌, subst, inl, inr, arith}
-use Rattle.std.specs.Prelude.{if◌then◌else◌, Option, Some, None}
+use Rattle.std.proofs.Common.{◌≡◌, ◌↔◌, ◌⊎◌, Bool, true, false, cond, not, ◌&&◌, ◌||◌, List, [], ◌∷◌, ◌++◌, refl, sym, ap, ap₂, ◌∙◌, subst, inl, inr}
+use Rattle.std.specs.Prelude.{if◌then◌else◌, Option, Some}
 use Rattle.std.specs.Bool.{beq}
-use Rattle.std.specs.List.{filter, list_any}
-use Rattle.std.proofs.lemmas.Bool.{false≢true, cond_both, or_cases, or_left, or_right}
+use Rattle.std.specs.List.{filter}
+use Rattle.std.proofs.lemmas.Bool.{false≢true, or_cases, or_left, or_right}
 use Rattle.std.proofs.lemmas.List.Folds.{list_any-append}
 use Rattle.std.proofs.lemmas.Map.Views.{any-filter_same}
 use Rattle.css_model.proofs.ForCallers.{decl_decides, selector_decides}
-use Rattle.css_model.specs.Cascade.Order.{Pair, HasPair, IsBefore}
+use Rattle.css_model.specs.Cascade.Order.{Pair, HasPair}
 use Rattle.css_model.specs.declared.sheet.Decl.{Decl}
 use Rattle.css_model.specs.declared.sheet.DeclItem.{DeclItem}
 use Rattle.css_model.specs.declared.sheet.Item.{Item}
@@ -18,7 +18,6 @@ use Rattle.css_model.specs.Sheets.RuleParts.{RuleParts}
 use Rattle.order_laws.proofs.ForCallers.{has_append}
 use Rattle.order_laws.specs.Members.{has_decl, has_selector, same_decl, same_selector}
 use Rattle.step_laws.specs.RuleParting.{each_last, item_if_any, rule_or_none}
-use Rattle.window_order.proofs.LastFound.{no}
 use Rattle.window_order.proofs.StandingTests.{in_item_is, rule_before_is}
 use Rattle.window_order.specs.Left.{made_of, rest_of, rule_of}
 use Rattle.window_order.specs.Orders.{IsOrder}
@@ -257,13 +256,6 @@ pub any_order : (rule : Option LeftRule) (r : LeftRule) (p q : Pair) (order : Pa
 any_order rule r p q order is told = (
   subst (λ (o : Option LeftRule). IsOrder (made_of o) p q order) (sym is) told,
   subst (λ (o : Option LeftRule). IsOrder (rest_of o) p q order) (sym is) (order_in_rest (rule_of r) p q order told),
-)
-
--- of none
-pub none_has : (rule : Option LeftRule) (p : Pair) → rule ≡ None → ((false ≡ true) ↔ HasPair (made_of rule) p) × ((false ≡ true) ↔ HasPair (rest_of rule) p)
-none_has rule p is = (
-  subst (λ (o : Option LeftRule). (false ≡ true) ↔ HasPair (made_of o) p) (sym is) (no (nowhere p)),
-  subst (λ (o : Option LeftRule). (false ≡ true) ↔ HasPair (rest_of o) p) (sym is) (no (nowhere p)),
 )
 
 -- of two pairs in a rule

@@ -1,4 +1,4 @@
-use Rattle.window_order.proofs.LeftTests.{any_has, none_has}
+use Rattle.window_order.proofs.LeftTests.{any_has}
 use Rattle.window_order.proofs.left.is_in_any.Goals as goal
 
 pub returns-in-Some-clause-made : goal.returns-in-Some-clause-made

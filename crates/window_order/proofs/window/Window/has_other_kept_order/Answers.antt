@@ -1,4 +1,4 @@
-use Rattle.std.proofs.Common.{◌≡◌, ℕ, ◌-◌, List, Some, ◌+◌, arith, ap, ◌∙◌, subst, sym}
+use Rattle.std.proofs.Common.{◌≡◌, ◌-◌, List, Some, ◌+◌, arith, ap, ◌∙◌, subst, sym}
 use Rattle.std.specs.Prelude.{slice_get}
 use Rattle.css_model.specs.declared.sheet.Item.{Item}
 use Rattle.window_order.proofs.Ranges.{at_range}
