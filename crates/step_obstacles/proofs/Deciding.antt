@@ -24,7 +24,7 @@ use Rattle.step_laws.specs.declared.step.Step.{Step}
 use Rattle.step_laws.specs.Free as steps
 use Rattle.step_laws.specs.Left.{StepsAreOneEdit}
 use Rattle.step_laws.specs.Steps.{HasStep, IsStep, last_item}
-use Rattle.step_obstacles.proofs.KeptPlaces.{at_range, kept_at, kept_found, kept_middle, number_is, range_at}
+use Rattle.step_obstacles.proofs.KeptPlaces.{kept_at, kept_found, kept_middle, number_is, range_at}
 use Rattle.sheet_order.specs.Taking.{moved_of}
 use Rattle.step_obstacles.proofs.Looking.{member_at}
 use Rattle.step_obstacles.proofs.Moving.{are_moving}
@@ -36,6 +36,7 @@ use Rattle.step_obstacles.specs.Turns.{OfItem, OfSelectors, OfWindow, is_common,
 use Rattle.wall_laws.specs.Holding.{Hindrance, OfPair, OfKept, Hinders}
 use Rattle.window_laws.specs.StepWindows.{StepsHaveWindows, window_start, middle_start, first_left, last_left, first_part, middle_part, last_part}
 use Rattle.window_laws.specs.Windows.{IsWindow, WindowsTellPairs, WindowsTellKept}
+use Rattle.window_order.proofs.ForCallers.{at_range}
 use Rattle.window_order.specs.declared.window.Window.{Window}
 use Rattle.window_order.specs.Reversed.{IsReversed, IsKeptReversed, behind_of, first_of, kept_number, middle_of, new_of, old_of}
 

@@ -8,14 +8,9 @@ use Rattle.css_model.specs.declared.sheet.Item.{Item}
 use Rattle.css_model.specs.declared.sheet.Item.TheVariants.{Rule, KeptRule, KeptBlock}
 use Rattle.css_model.specs.Sheets.KeptItems.{is_kept, kept_before, kept_items}
 use Rattle.list_facts.proofs.SliceRange.{slice_range_parts}
+use Rattle.window_order.proofs.ForCallers.{get_drop}
 
 -- ---- Elements of parts
-
-pub get_drop : {X : Type 0} (xs : List X) (n i : ℕ) → slice_get (drop n xs) i ≡ slice_get xs (n + i)
-get_drop {X} [] zero i = let e : 0 + i ≡ i = omega arith in ap (slice_get []) (sym e)
-get_drop {X} [] (suc n) i = refl
-get_drop {X} (x ∷ xs) zero i = let e : 0 + i ≡ i = omega arith in ap (slice_get (x ∷ xs)) (sym e)
-get_drop {X} (x ∷ xs) (suc n) i = let e : suc n + i ≡ suc (n + i) = omega arith in get_drop xs n i ∙ ap (slice_get (x ∷ xs)) (sym e)
 
 get_take : {X : Type 0} (xs : List X) (n i : ℕ) (x : X) → slice_get (take n xs) i ≡ Some x → (slice_get xs i ≡ Some x) × (i < n)
 get_take {X} [] zero i x at = absurd (let e : None ≡ Some x = at in cc)
@@ -24,21 +19,11 @@ get_take {X} (y ∷ xs) zero i x at = absurd (let e : None ≡ Some x = at in cc
 get_take {X} (y ∷ xs) (suc n) zero x at = (at, omega arith)
 get_take {X} (y ∷ xs) (suc n) (suc i) x at = let h : (slice_get xs i ≡ Some x) × (i < n) = get_take xs n i x at in (h.0, let less = h.1 in omega (arith, less))
 
-take_get : {X : Type 0} (xs : List X) (n i : ℕ) → i < n → slice_get (take n xs) i ≡ slice_get xs i
-take_get {X} [] zero i less = refl
-take_get {X} [] (suc n) i less = refl
-take_get {X} (y ∷ xs) zero i less = absurd (omega arith)
-take_get {X} (y ∷ xs) (suc n) zero less = refl
-take_get {X} (y ∷ xs) (suc n) (suc i) less = take_get xs n i (omega arith)
-
 pub range_at : {X : Type 0} (xs : List X) (i k j : ℕ) (x : X) → i ≤ k → slice_get (slice_range xs i k) j ≡ Some x → (slice_get xs (i + j) ≡ Some x) × (i + j < k)
 range_at {X} xs i k j x order at =
     let h : (slice_get (drop i xs) j ≡ Some x) × (j < k - i) = get_take (drop i xs) (k - i) j x at in
     let less = h.1 in
     (sym (get_drop xs i j) ∙ h.0, omega (arith, less, order))
-
-pub at_range : {X : Type 0} (xs : List X) (i k j : ℕ) (x : X) → i + j < k → slice_get xs (i + j) ≡ Some x → slice_get (slice_range xs i k) j ≡ Some x
-at_range {X} xs i k j x less at = take_get (drop i xs) (k - i) j (omega (arith, less)) ∙ get_drop xs i j ∙ at
 
 -- ---- Kept items
 

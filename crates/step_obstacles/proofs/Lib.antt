@@ -3,6 +3,7 @@ mod Deciding
 pub mod ForCallers
 mod HeldAnswers
 mod KeptPlaces
+mod LeftParts
 mod Looking
 mod Masked
 mod Moving

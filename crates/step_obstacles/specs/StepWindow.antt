@@ -19,6 +19,7 @@ use Rattle.step_obstacles.specs.Blocked.{IsToldOf}
 use Rattle.step_obstacles.specs.Turns.{OfWindow, is_common}
 use Rattle.window_laws.specs.StepWindows.{window_start, middle_start, first_left, last_left}
 use Rattle.window_order.specs.declared.window.Window.{Window}
+use Rattle.window_order.specs.Left.{items_of}
 
 -- a window is that of a step with this edit
 pub record IsWindowFor (items : List Item) (k : Step) (e : Edit) (w : Window) : Type 0 where
@@ -26,8 +27,8 @@ pub record IsWindowFor (items : List Item) (k : Step) (e : Edit) (w : Window) : 
   pub start_is : w.start ≡ window_start k
   pub middle_is : w.middle ≡ middle_start k
   pub last_is : w.last ≡ last_item k
-  pub first_is : w.first_left.now ≡ first_left e.changes
-  pub last_left_is : w.last_left.now ≡ last_left e.changes
+  pub first_is : items_of w.first_left ≡ first_left e.changes
+  pub last_left_is : items_of w.last_left ≡ last_left e.changes
 
 -- a pair is one of a rule, with a common declaration
 pub record IsOfSource (s : Source) (p : Pair) : Type 0 where

@@ -19,9 +19,9 @@ ghost use Rattle.window_laws.specs.StepWindows as windows;
 
 use crate::decl_masks::{bits_of, masks_of};
 use crate::facing::Source;
+use crate::left_parts::left_by;
 use crate::window_search::in_window;
-use css_model::{Item, Rule, Sheet};
-use merge_steps::{Change, changes};
+use css_model::Sheet;
 use obstacles::Obstacle;
 use overlap::Pairs;
 use print_laws::selectors_are_in_the_profile;
@@ -47,43 +47,17 @@ fn starts_of(step: &Step) -> (usize, usize)
     }
 }
 
-/// What stands in the place of the first item of two.
-fn first_left(changes: &[Change]) -> &[Item]
-    ensures { result.now ≡ windows.first_left changes.now }
+/// The window of a step. No part of a rule is copied.
+pub fn window_of<'a>(sheet: &'a Sheet, masks: &'a [u64], step: &Step) -> Window<'a>
+    requires is_step { HasStep sheet.now.items step.now }
+    requires masks { masks.now ≡ map item_mask sheet.now.items }
+    ensures items { result.items.now ≡ sheet.now.items }
+    ensures window { (e : Edit) → IsStep sheet.now.items step.now e → IsWindowFor sheet.now.items step.now e result }
 {
-    match changes {
-        [above, _, ..] => above.by.as_slice(),
-        _ => &[],
-    }
-}
-
-/// What stands in the place of the last item.
-fn last_left(changes: &[Change]) -> &[Item]
-    ensures { result.now ≡ windows.last_left changes.now }
-{
-    match changes {
-        [_, below, ..] => below.by.as_slice(),
-        [only] => only.by.as_slice(),
-        [] => &[],
-    }
-}
-
-/// The window of a step that makes these changes.
-pub fn window_of<'a>(
-    items: &'a [Item],
-    masks: &'a [u64],
-    step: &Step,
-    changes: &'a [Change],
-) -> Window<'a>
-    requires is_step { HasStep items.now step.now }
-    requires masks { masks.now ≡ map item_mask items.now }
-    requires changes { (e : Edit) → IsStep items.now step.now e → changes.now ≡ e.changes }
-    ensures { (e : Edit) → IsStep items.now step.now e → IsWindowFor items.now step.now e result }
-{
+    let items = sheet.items.as_slice();
     let (start, middle) = starts_of(step);
     let (_, last) = items_of(step);
-    let first_left = first_left(changes);
-    let last_left = last_left(changes);
+    let (first_left, last_left) = left_by(sheet, step);
     Window {
         items,
         masks,
@@ -223,8 +197,8 @@ fn by_moved(
 
 /// What blocks a step of a sheet, and `None` where it is free, by the answers for pairs of selectors, which are
 /// asked for. All that was answered stays, and the budget, also after `AllocError`. The time is that of a look at
-/// each moved pair with each pair of the items from the step's first to its last one, and the memory that of what
-/// becomes of these two; of a cut it is all items above.
+/// each moved pair with each pair of the items from the step's first to its last one, of a cut of all items above. The
+/// memory is that of the masks of what is moved, besides that of answers: no part of a rule is copied.
 pub(crate) fn step_obstacle(
     alloc: Global,
     pairs: &mut Pairs,
@@ -245,9 +219,7 @@ pub(crate) fn step_obstacle(
     steps_have_windows();
     windows_tell_pairs();
     windows_tell_kept();
-    let changes = changes(alloc, sheet, step)?;
-    let items = sheet.items.as_slice();
-    let window = window_of(items, masks, step, &changes);
+    let window = window_of(sheet, masks, step);
     let moved = moved_of(step);
     by_moved(alloc, pairs, &window, sheet, &moved, begins_below(step))
 }

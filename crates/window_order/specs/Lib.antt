@@ -1,5 +1,6 @@
 pub mod Between
 pub mod Found
+pub mod Left
 pub mod Orders
 pub mod Reversed
 pub mod Standing

@@ -5,6 +5,7 @@ use Rattle.css_model.specs.Cascade.Order.{Pair, HasPair, IsBefore, IsBeforeKept}
 use Rattle.css_model.specs.Sheets.KeptItems.{kept_before}
 use Rattle.order_laws.specs.Reversing.{Differ}
 use Rattle.window_order.specs.declared.window.Window.{Window}
+use Rattle.window_order.specs.Left.{items_of}
 
 -- ---- The parts
 
@@ -25,7 +26,7 @@ abbrev pub old_of : Window → List Item
 old_of w = first_of w ++ (middle_of w ++ last_of w)
 
 abbrev pub new_of : Window → List Item
-new_of w = w.first_left.now ++ (middle_of w ++ w.last_left.now)
+new_of w = items_of w.first_left ++ (middle_of w ++ items_of w.last_left)
 
 -- ---- What is reversed
 

@@ -15,7 +15,7 @@ pub(crate) struct PairEnds {
 }
 
 /// How two pairs stand in items of which some lie above the others.
-fn joined(above: PairOrder, below: PairOrder) -> PairOrder
+pub(crate) fn joined(above: PairOrder, below: PairOrder) -> PairOrder
     ensures { result ≡ orders.joined above below }
 {
     match below {

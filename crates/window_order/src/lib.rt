@@ -3,6 +3,7 @@
 
 mod ends;
 mod kept;
+mod left;
 mod masked;
 mod order;
 mod pair;
@@ -11,6 +12,7 @@ mod standing;
 mod weighing;
 mod window;
 
+pub use left::{Left, LeftDecls, LeftRule, LeftSelectors};
 pub use pair::PairRef;
 pub use weighing::{decls_weigh, same_specificity, weighs_kept};
 pub use window::Window;

@@ -6,6 +6,7 @@ ghost use Rattle.css_model.specs.Cascade.Order.{HasPair, IsBefore, IsBeforeKept}
 ghost use Rattle.css_model.specs.Sheets.KeptItems.{is_kept};
 ghost use Rattle.related_props.specs.Masks.{item_mask};
 ghost use Rattle.order_laws.specs.Reversing.{Differ};
+ghost use Rattle.window_order.specs.Left as left;
 ghost use Rattle.window_order.specs.Orders as orders;
 ghost use Rattle.window_order.specs.Reversed as reversed;
 
@@ -80,11 +81,11 @@ impl<'a> Window<'a> {
 
     /// How they do afterwards.
     fn new_ends(&self, p: &PairRef<'_>, q: &PairRef<'_>) -> PairEnds
-        ensures { orders.AreEnds self.now.first_left.now self.now.last_left.now p.now q.now result }
+        ensures { orders.AreEnds (left.items_of self.now.first_left) (left.items_of self.now.last_left) p.now q.now result }
     {
         PairEnds {
-            above: order_in(self.first_left, p, q),
-            below: order_in(self.last_left, p, q),
+            above: self.first_left.order_of(p, q),
+            below: self.last_left.order_of(p, q),
         }
     }
 
@@ -134,11 +135,11 @@ impl<'a> Window<'a> {
 
     /// Whether it does so afterwards.
     fn new_kept_ends(&self, p: &PairRef<'_>) -> KeptEnds
-        ensures { orders.AreKeptEnds self.now.first_left.now self.now.last_left.now p.now result }
+        ensures { orders.AreKeptEnds (left.items_of self.now.first_left) (left.items_of self.now.last_left) p.now result }
     {
         KeptEnds {
-            above: stands_in(self.first_left, p),
-            below: stands_in(self.last_left, p),
+            above: self.first_left.has_pair(p),
+            below: self.last_left.has_pair(p),
         }
     }
 

@@ -53,7 +53,7 @@ pub(crate) fn stands_in(items: &[Item], p: &PairRef<'_>) -> bool
 }
 
 /// Whether the last of a declaration stands before the last of another one.
-fn decl_before(decls: &[DeclItem], first: &Decl, second: &Decl) -> bool
+pub(crate) fn decl_before(decls: &[DeclItem], first: &Decl, second: &Decl) -> bool
     ensures { result ≡ standing.decl_before decls.now first.now second.now }
 {
     let mut rest = decls;

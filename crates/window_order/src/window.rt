@@ -4,7 +4,9 @@ ghost use Rattle.std.specs.Prelude.{◌≡◌, ◌≤◌, ◌<◌, [], length, m
 ghost use Rattle.css_model.specs.Sheets.KeptItems.{kept_items};
 ghost use Rattle.related_props.specs.Masks.{item_mask};
 ghost use Rattle.window_order.specs.Between.{AreBetween};
+ghost use Rattle.window_order.specs.Left.{items_of};
 
+use crate::left::Left;
 use css_model::Item;
 
 /// The items of a sheet from the first to the last one that a step changes, in three parts: the first item, if there
@@ -23,14 +25,14 @@ pub struct Window<'a> {
     /// The last item.
     pub last: usize,
     /// What stands in the place of the first item.
-    pub first_left: &'a [Item],
+    pub first_left: Left<'a>,
     /// What stands in the place of the last item.
-    pub last_left: &'a [Item],
+    pub last_left: Left<'a>,
     ghost masked: { masks.now ≡ map item_mask items.now },
     ghost start_first: { start ≤ middle },
     ghost middle_first: { middle ≤ last },
     ghost within: { last < length items.now },
     ghost between: { AreBetween items.now start middle last },
     ghost first_plain: { kept_items (slice_range items.now start middle) ≡ [] },
-    ghost left_plain: { kept_items first_left.now ≡ [] },
+    ghost left_plain: { kept_items (items_of first_left) ≡ [] },
 }

@@ -1,16 +1,12 @@
-use Rattle.std.proofs.Common.{◌≡◌, ◌∙◌, List, ap, subst, sym}
+use Rattle.std.proofs.Common.{subst, sym}
 use Rattle.std.specs.Prelude.{IfOk}
-use Rattle.css_model.specs.declared.sheet.Item.{Item}
-use Rattle.css_model.specs.Sheets.SheetParts.{SheetParts}
-use Rattle.order_laws.specs.Edits.{Edit}
 use Rattle.sheet_order.specs.declared.places.Moved.{Moved}
 use Rattle.sheet_order.specs.Taking.{moved_of}
-use Rattle.step_laws.specs.Steps.{IsStep}
 use Rattle.step_obstacles.proofs.Askable.{askable}
 use Rattle.step_obstacles.proofs.Deciding.{told_blocked, told_free}
 use Rattle.step_obstacles.proofs.Moving.{are_there}
 use Rattle.step_obstacles.proofs.step_search.step_obstacle.Goals as goal
-use Rattle.step_obstacles.specs.StepWindow.{AreThere, IsToldBy, IsWindowFor}
+use Rattle.step_obstacles.specs.StepWindow.{AreThere, IsToldBy}
 
 pub by_moved-requires-clause-askable : goal.by_moved-requires-clause-askable
 by_moved-requires-clause-askable c = askable c.parts_are_few.ensures c.selectors_are_in_the_profile.ensures.all c.args.sheet.now.items c.requires.planned
@@ -20,18 +16,12 @@ by_moved-requires-clause-there c = subst (AreThere c.args.sheet.now.items) (sym 
 
 pub returns-clause-free : goal.returns-clause-free
 returns-clause-free c =
-    let same : c.as_slice-items.result.now ≡ c.args.sheet.now.items = c.as_slice-items.ensures.value ∙ ap (λ (s : SheetParts). s.items) c.sheet.view_is in
-    let is : (e : Edit) → IsStep c.args.sheet.now.items c.args.step.now e → IsWindowFor c.args.sheet.now.items c.args.step.now e c.window_of-window.result =
-    subst (λ (xs : List Item). (e : Edit) → IsStep xs c.args.step.now e → IsWindowFor xs c.args.step.now e c.window_of-window.result) same c.window_of-window.ensures in
     let told : IfOk c.by_moved.result (λ found. IsToldBy c.by_moved.new.pairs.answers c.args.sheet.now.items (moved_of c.args.step.now) c.window_of-window.result found) =
     subst (λ (m : Moved). IfOk c.by_moved.result (λ found. IsToldBy c.by_moved.new.pairs.answers c.args.sheet.now.items m c.window_of-window.result found)) c.moved_of-moved.ensures c.by_moved.ensures.told in
-    told_free c.steps_have_windows.ensures c.windows_tell_pairs.ensures c.windows_tell_kept.ensures c.args.sheet.now.items c.args.step.now c.by_moved.new.pairs.answers c.window_of-window.result is c.by_moved.result told
+    told_free c.steps_have_windows.ensures c.windows_tell_pairs.ensures c.windows_tell_kept.ensures c.args.sheet.now.items c.args.step.now c.by_moved.new.pairs.answers c.window_of-window.result c.window_of-window.ensures.window c.by_moved.result told
 
 pub returns-clause-blocked : goal.returns-clause-blocked
 returns-clause-blocked c =
-    let same : c.as_slice-items.result.now ≡ c.args.sheet.now.items = c.as_slice-items.ensures.value ∙ ap (λ (s : SheetParts). s.items) c.sheet.view_is in
-    let is : (e : Edit) → IsStep c.args.sheet.now.items c.args.step.now e → IsWindowFor c.args.sheet.now.items c.args.step.now e c.window_of-window.result =
-    subst (λ (xs : List Item). (e : Edit) → IsStep xs c.args.step.now e → IsWindowFor xs c.args.step.now e c.window_of-window.result) same c.window_of-window.ensures in
     let told : IfOk c.by_moved.result (λ found. IsToldBy c.by_moved.new.pairs.answers c.args.sheet.now.items (moved_of c.args.step.now) c.window_of-window.result found) =
     subst (λ (m : Moved). IfOk c.by_moved.result (λ found. IsToldBy c.by_moved.new.pairs.answers c.args.sheet.now.items m c.window_of-window.result found)) c.moved_of-moved.ensures c.by_moved.ensures.told in
-    told_blocked c.steps_have_windows.ensures c.windows_tell_pairs.ensures c.windows_tell_kept.ensures c.args.sheet.now.items c.args.step.now c.by_moved.new.pairs.answers c.window_of-window.result is c.steps_are_one_edit.ensures c.requires.is_step c.by_moved.result told
+    told_blocked c.steps_have_windows.ensures c.windows_tell_pairs.ensures c.windows_tell_kept.ensures c.args.sheet.now.items c.args.step.now c.by_moved.new.pairs.answers c.window_of-window.result c.window_of-window.ensures.window c.steps_are_one_edit.ensures c.requires.is_step c.by_moved.result told

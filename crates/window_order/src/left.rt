@@ -1,0 +1,230 @@
+//! What stands in the place of an item after a step: parts of rules of the sheet, where they stand.
+
+ghost use Rattle.std.specs.Prelude.{◌≡◌, ◌++◌, ◌↔◌, ◌∷◌, ◌&&◌, ◌||◌, [], IsTrue, true};
+ghost use Rattle.std.specs.Bool.{beq};
+ghost use Rattle.css_model.specs.declared.sheet.Item.TheVariants as item;
+ghost use Rattle.css_model.specs.Cascade.Order.{HasPair};
+ghost use Rattle.order_laws.specs.Members as members;
+ghost use Rattle.window_order.specs.Left as left;
+ghost use Rattle.window_order.specs.Orders as orders;
+ghost use Rattle.window_order.specs.Standing as standing;
+
+use crate::ends::joined;
+use crate::order::PairOrder;
+use crate::pair::PairRef;
+use crate::standing::decl_before;
+use css_model::{Decl, DeclItem, SelItem, Selector};
+use step_savings::{has_decl, has_selector};
+
+/// Selectors that stand in rules of a sheet.
+#[derive(Clone, Copy)]
+pub enum LeftSelectors<'a> {
+    /// These.
+    All(&'a [SelItem]),
+    /// These, then the others.
+    Both(&'a [SelItem], &'a [SelItem]),
+    /// These, then those of the others that are not among them.
+    Joined(&'a [SelItem], &'a [SelItem]),
+}
+
+/// Declarations that stand in rules of a sheet.
+#[derive(Clone, Copy)]
+pub enum LeftDecls<'a> {
+    /// These.
+    All(&'a [DeclItem]),
+    /// These, then the others.
+    Both(&'a [DeclItem], &'a [DeclItem]),
+    /// Those of these that are among the others, each once, where it stands last.
+    Common(&'a [DeclItem], &'a [DeclItem]),
+    /// Those of these that are not among the others.
+    Others(&'a [DeclItem], &'a [DeclItem]),
+}
+
+/// A rule of parts that stand in rules of a sheet.
+#[derive(Clone, Copy)]
+pub struct LeftRule<'a> {
+    /// Its selectors.
+    pub selectors: LeftSelectors<'a>,
+    /// Its declarations.
+    pub decls: LeftDecls<'a>,
+}
+
+/// What stands in the place of an item after a step: at most two rules.
+#[derive(Clone, Copy)]
+pub struct Left<'a> {
+    /// A rule that the step makes.
+    pub made: Option<LeftRule<'a>>,
+    /// Below it what the step leaves of the item: no rule where it has no selector or no declaration.
+    pub rest: Option<LeftRule<'a>>,
+}
+
+/// Whether a selector is among those of two lists.
+fn has_either(first: &[SelItem], second: &[SelItem], selector: &Selector) -> bool
+    ensures { result ≡ (members.has_selector first.now selector.now || members.has_selector second.now selector.now) }
+{
+    has_selector(first, selector) || has_selector(second, selector)
+}
+
+/// Whether a selector is among some that are left.
+fn has_left_selector(selectors: &LeftSelectors<'_>, selector: &Selector) -> bool
+    ensures { result ≡ members.has_selector (left.selectors_of selectors.now) selector.now }
+{
+    match *selectors {
+        LeftSelectors::All(list) => has_selector(list, selector),
+        LeftSelectors::Both(first, second) => has_either(first, second, selector),
+        LeftSelectors::Joined(first, second) => has_either(first, second, selector),
+    }
+}
+
+/// Whether a declaration is among those of two lists.
+fn has_decl_in_either(first: &[DeclItem], second: &[DeclItem], decl: &Decl) -> bool
+    ensures { result ≡ (members.has_decl first.now decl.now || members.has_decl second.now decl.now) }
+{
+    has_decl(first, decl) || has_decl(second, decl)
+}
+
+/// Whether it is in the first list, and in the others where that is wanted, or not.
+fn has_decl_where(wanted: bool, list: &[DeclItem], others: &[DeclItem], decl: &Decl) -> bool
+    ensures { result ≡ (beq (members.has_decl others.now decl.now) wanted && members.has_decl list.now decl.now) }
+{
+    has_decl(others, decl) == wanted && has_decl(list, decl)
+}
+
+/// Whether a declaration is among some that are left.
+fn has_left_decl(decls: &LeftDecls<'_>, decl: &Decl) -> bool
+    ensures { result ≡ members.has_decl (left.decls_of decls.now) decl.now }
+{
+    match *decls {
+        LeftDecls::All(list) => has_decl(list, decl),
+        LeftDecls::Both(first, second) => has_decl_in_either(first, second, decl),
+        LeftDecls::Common(list, others) => has_decl_where(true, list, others, decl),
+        LeftDecls::Others(list, others) => has_decl_where(false, list, others, decl),
+    }
+}
+
+/// Whether a declaration stands in the first list, and another one in the second.
+fn are_apart(first: &[DeclItem], second: &[DeclItem], decl: &Decl, other: &Decl) -> bool
+    ensures { result ≡ (members.has_decl first.now decl.now && members.has_decl second.now other.now) }
+{
+    has_decl(first, decl) && has_decl(second, other)
+}
+
+/// Whether the last of a declaration stands before the last of another one in two lists, the second one below.
+fn before_in_both(first: &[DeclItem], second: &[DeclItem], decl: &Decl, other: &Decl) -> bool
+    ensures { result ≡ standing.decl_before (first.now ++ second.now) decl.now other.now }
+{
+    if has_decl(second, decl) {
+        return decl_before(second, decl, other);
+    }
+    if are_apart(first, second, decl, other) {
+        return true;
+    }
+    decl_before(first, decl, other)
+}
+
+/// Whether two declarations are both in a list where that is wanted, or are both not.
+fn are_both(wanted: bool, list: &[DeclItem], decl: &Decl, other: &Decl) -> bool
+    ensures { result ≡ (beq (members.has_decl list.now decl.now) wanted && beq (members.has_decl list.now other.now) wanted) }
+{
+    has_decl(list, decl) == wanted && has_decl(list, other) == wanted
+}
+
+/// Whether the last of a declaration stands before the last of another one in the first list, and both are in the
+/// others where that is wanted, or are both not.
+fn before_where(
+    wanted: bool,
+    list: &[DeclItem],
+    others: &[DeclItem],
+    decl: &Decl,
+    other: &Decl,
+) -> bool
+    ensures { result ≡ ((beq (members.has_decl others.now decl.now) wanted && beq (members.has_decl others.now other.now) wanted) && standing.decl_before list.now decl.now other.now) }
+{
+    are_both(wanted, others, decl, other) && decl_before(list, decl, other)
+}
+
+/// Whether the last of a declaration stands before the last of another one among some that are left.
+fn left_decl_before(decls: &LeftDecls<'_>, decl: &Decl, other: &Decl) -> bool
+    ensures { result ≡ standing.decl_before (left.decls_of decls.now) decl.now other.now }
+{
+    match *decls {
+        LeftDecls::All(list) => decl_before(list, decl, other),
+        LeftDecls::Both(first, second) => before_in_both(first, second, decl, other),
+        LeftDecls::Common(list, others) => before_where(true, list, others, decl, other),
+        LeftDecls::Others(list, others) => before_where(false, list, others, decl, other),
+    }
+}
+
+/// Whether a pair stands in a rule that is left.
+fn is_in_left(rule: &LeftRule<'_>, p: &PairRef<'_>) -> bool
+    ensures { result ≡ standing.is_in_rule (left.rule_of rule.now) p.now }
+{
+    has_left_decl(&rule.decls, p.decl) && has_left_selector(&rule.selectors, p.selector)
+}
+
+/// Whether two pairs stand in it, the last of the first before the last of the second, where the first one does.
+fn left_before(rule: &LeftRule<'_>, p: &PairRef<'_>, q: &PairRef<'_>, second: bool) -> bool
+    requires first { standing.is_in_rule (left.rule_of rule.now) p.now ≡ true }
+    requires second { second ≡ standing.is_in_rule (left.rule_of rule.now) q.now }
+    ensures { result ≡ standing.rule_before (left.rule_of rule.now) p.now q.now }
+{
+    second && left_decl_before(&rule.decls, p.decl, q.decl)
+}
+
+/// How two pairs stand in a rule that is left.
+fn order_in_left(rule: &LeftRule<'_>, p: &PairRef<'_>, q: &PairRef<'_>) -> PairOrder
+    ensures { orders.IsOrder (item.Rule (left.rule_of rule.now) ∷ []) p.now q.now result }
+{
+    let second = is_in_left(rule, q);
+    if is_in_left(rule, p) {
+        if left_before(rule, p, q, second) {
+            PairOrder::Before
+        } else {
+            PairOrder::NotBefore
+        }
+    } else if second {
+        PairOrder::Second
+    } else {
+        PairOrder::Neither
+    }
+}
+
+/// Whether a pair stands in a rule that is there or not, made or left.
+fn is_in_any(rule: &Option<LeftRule<'_>>, p: &PairRef<'_>) -> bool
+    ensures made { IsTrue result ↔ HasPair (left.made_of rule.now) p.now }
+    ensures rest { IsTrue result ↔ HasPair (left.rest_of rule.now) p.now }
+{
+    match rule {
+        Some(rule) => is_in_left(rule, p),
+        None => false,
+    }
+}
+
+/// How two pairs stand in a rule that is there or not, made or left.
+fn order_in_any(rule: &Option<LeftRule<'_>>, p: &PairRef<'_>, q: &PairRef<'_>) -> PairOrder
+    ensures made { orders.IsOrder (left.made_of rule.now) p.now q.now result }
+    ensures rest { orders.IsOrder (left.rest_of rule.now) p.now q.now result }
+{
+    match rule {
+        Some(rule) => order_in_left(rule, p, q),
+        None => PairOrder::Neither,
+    }
+}
+
+impl<'a> Left<'a> {
+    /// Whether a pair stands in what is left.
+    pub(crate) fn has_pair(&self, p: &PairRef<'_>) -> bool
+        ensures { IsTrue result ↔ HasPair (left.items_of self.now) p.now }
+    {
+        is_in_any(&self.made, p) || is_in_any(&self.rest, p)
+    }
+
+    /// How two pairs stand in what is left.
+    pub(crate) fn order_of(&self, p: &PairRef<'_>, q: &PairRef<'_>) -> PairOrder
+        ensures { orders.IsOrder (left.items_of self.now) p.now q.now result }
+    {
+        let above = order_in_any(&self.made, p, q);
+        let below = order_in_any(&self.rest, p, q);
+        joined(above, below)
+    }
+}
