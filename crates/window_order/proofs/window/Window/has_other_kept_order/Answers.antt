@@ -1,4 +1,4 @@
-use Rattle.std.proofs.Common.{◌-◌, List, subst}
+use Rattle.std.proofs.Common.{List, subst}
 use Rattle.css_model.specs.declared.sheet.Item.{Item}
 use Rattle.window_order.proofs.window.Window.has_other_kept_order.Goals as goal
 use Rattle.window_order.specs.Orders.{HasOtherPlace}
@@ -6,5 +6,5 @@ use Rattle.window_order.specs.Reversed.{first_of, last_of}
 
 pub returns : goal.returns
 returns c =
-    subst (λ (items : List Item). HasOtherPlace c.old_kept_ends-old.result c.new_kept_ends-new.result items (c.args.number - c.args.self.now.middle) c.args.p.now c.has_other_place.result) c.between.ensures c.has_other_place.ensures
-    (first_of c.args.self.now) (last_of c.args.self.now) c.args.self.now.first_left.now c.args.self.now.last_left.now c.old_kept_ends-old.ensures c.new_kept_ends-new.ensures c.args.self.now.first_plain c.args.self.now.left_plain
+    subst (λ (items : List Item). HasOtherPlace c.args.old c.args.new items c.args.place c.args.p.now c.has_other_place.result) c.between.ensures c.has_other_place.ensures
+    (first_of c.args.self.now) (last_of c.args.self.now) c.args.self.now.first_left.now c.args.self.now.last_left.now c.requires.old c.requires.new c.args.self.now.first_plain c.args.self.now.left_plain
