@@ -2,14 +2,15 @@
 
 ghost use Rattle.std.specs.Prelude.{◌≡◌, ℕ, List, IfNone, IfOk, IfSome, map};
 ghost use Rattle.obstacles.specs.Blocking.{IsBlockedBy};
+ghost use Rattle.item_masks.specs.Masks.{item_mask};
 ghost use Rattle.order_laws.specs.Edits.{Edit};
 ghost use Rattle.plan_laws.specs.Plannable.{IsPlannable};
-ghost use Rattle.related_props.specs.Masks.{item_mask};
 ghost use Rattle.step_laws.specs.Free.{Answered, AreAmong, AreTrue, IsFree};
 ghost use Rattle.step_laws.specs.Steps.{HasStep, IsStep};
 
 use crate::obstacle::Obstacle;
 use css_model::Sheet;
+use item_masks::ItemMask;
 use std::alloc::AllocError;
 use step_laws::Step;
 
@@ -30,7 +31,7 @@ pub trait Obstacles {
     fn obstacle(
         &mut self,
         sheet: &Sheet,
-        masks: &[u64],
+        masks: &[ItemMask],
         step: &Step,
     ) -> Result<Option<Obstacle>, AllocError>
         requires is_step { HasStep sheet.now.items step.now }

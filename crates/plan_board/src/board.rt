@@ -3,11 +3,11 @@
 ghost use Rattle.std.specs.Prelude.{◌≡◌, ◌≤◌, ◌<◌, IfOk, IfSome, IfNone, OnErr, Some, length, map, slice_get};
 ghost use Rattle.css_model.specs.Sheets.Limits.{max_items};
 ghost use Rattle.plan_board.specs.MarkList.{AreMarks, Ascends, IsLabelAt, LacksLabel};
-ghost use Rattle.related_props.specs.Masks.{item_mask};
+ghost use Rattle.item_masks.specs.Masks.{item_mask};
 
 use crate::marks::{Mark, Marks};
 use css_model::Sheet;
-use related_props::item_masks;
+use item_masks::{ItemMask, item_masks};
 use std::alloc::{AllocError, Global};
 use std::marker::Model;
 
@@ -16,13 +16,13 @@ use std::marker::Model;
 pub struct Board {
     pub(crate) sheet: Sheet,
     pub(crate) marks: Marks,
-    pub(crate) masks: Vec<u64>,
+    pub(crate) masks: Vec<ItemMask>,
 }
 
 impl Model for Board {
     ghost use Rattle.std.specs.Prelude.{◌≡◌, length, map};
     ghost use Rattle.plan_board.specs.BoardParts.{BoardParts};
-    ghost use Rattle.related_props.specs.Masks.{item_mask};
+    ghost use Rattle.item_masks.specs.Masks.{item_mask};
 
     ghost Value = { BoardParts };
 
@@ -65,7 +65,7 @@ impl Board {
     }
 
     /// The masks of its items, in their order.
-    pub fn masks(&self) -> &[u64]
+    pub fn masks(&self) -> &[ItemMask]
         ensures { result.now ≡ map item_mask self.now.items }
     {
         &self.masks

@@ -5,12 +5,12 @@ ghost use Rattle.css_model.specs.declared.sheet.Item.TheVariants as item;
 ghost use Rattle.css_model.specs.Sheets.RuleParts.{RuleParts};
 ghost use Rattle.plan_board.specs.Marking.{AreRenewed, HasLabelBefore};
 ghost use Rattle.plan_board.specs.Putting.{put_at, items_in, placeholder};
-ghost use Rattle.related_props.specs.Masks.{item_mask};
+ghost use Rattle.item_masks.specs.Masks.{item_mask};
 
 use crate::board::Board;
 use crate::parts::Left;
 use css_model::{Item, Piece, Rule, Sheet};
-use related_props::mask_of_items;
+use item_masks::{ItemMask, rule_mask};
 use std::alloc::AllocError;
 use std::mem;
 
@@ -27,23 +27,23 @@ fn lift_rule(items: &mut Vec<Item>, number: u32) -> Rule
     }
 }
 
-/// The mask of a rule as an item.
-fn rule_mask(rule: &Rule) -> u64
-    ensures { result ≡ item_mask (item.Rule rule.now) }
-{
-    mask_of_items(&rule.decls)
-}
-
 /// Puts the mask of an empty piece in the place of the one of this number.
-fn lift_mask(masks: &mut Vec<u64>, number: u32)
+fn lift_mask(masks: &mut Vec<ItemMask>, number: u32)
     requires { number < length masks.old.items }
     ensures { masks.new.items ≡ slice_set masks.old.items number (item_mask placeholder) }
 {
-    masks[number as usize] = u64::MAX;
+    masks[number as usize] = ItemMask {
+        families: u64::MAX,
+        selectors: 0,
+    };
 }
 
 /// Puts the masks of what a step leaves in the place of the one of this number.
-fn put_masks(mut masks: Vec<u64>, number: u32, left: &Left) -> Result<Vec<u64>, AllocError>
+fn put_masks(
+    mut masks: Vec<ItemMask>,
+    number: u32,
+    left: &Left,
+) -> Result<Vec<ItemMask>, AllocError>
     requires { number < length masks.items }
     ensures { IfOk result (λ new. new.items ≡ put_at number (map item_mask (items_in left.now)) masks.items) }
 {

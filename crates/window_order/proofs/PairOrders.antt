@@ -94,3 +94,7 @@ pub never_other : (first middle last first' last' : List Item) (p q : Pair) (old
 never_other first middle last first' last' p q old new same at at' d = no_order middle p q (λ between is.
     none_differ (comes_before old between) (comes_before new between) (equal (comes_before old between) (comes_before new between) (same between))
     (before_with first middle last p q old between at is) (before_with first' middle last' p q new between at' is) d)
+
+-- of pairs that are the same
+pub ends_of : (first last : List Item) (p q p' q' : Pair) (ends : PairEnds) → p ≡ p' → q ≡ q' → AreEnds first last p q ends → AreEnds first last p' q' ends
+ends_of first last p q p' q' ends left right at = subst (λ (y : Pair). AreEnds first last p' y ends) right (subst (λ (x : Pair). AreEnds first last x q ends) left at)

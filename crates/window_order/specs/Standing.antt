@@ -1,5 +1,5 @@
 -- Whether pairs stand in items, and which comes last before which in an item, as tests that compute (own).
-use Rattle.std.specs.Prelude.{ℕ, Bool, false, not, ◌&&◌, ◌==◌, if◌then◌else◌, List, [], ◌∷◌, bit_and}
+use Rattle.std.specs.Prelude.{Bool, false, not, ◌&&◌, if◌then◌else◌, List, [], ◌∷◌}
 use Rattle.std.specs.List.{list_any}
 use Rattle.css_model.specs.Cascade.Order.{Pair}
 use Rattle.css_model.specs.declared.sheet.Decl.{Decl}
@@ -7,6 +7,8 @@ use Rattle.css_model.specs.declared.sheet.DeclItem.{DeclItem}
 use Rattle.css_model.specs.declared.sheet.Item.{Item}
 use Rattle.css_model.specs.declared.sheet.Item.TheVariants.{Rule, KeptRule, KeptBlock}
 use Rattle.css_model.specs.Sheets.RuleParts.{RuleParts}
+use Rattle.item_masks.specs.Masks.{meets}
+use Rattle.item_masks.specs.declared.mask.ItemMask.{ItemMask}
 use Rattle.order_laws.specs.Members.{same_decl, has_selector, has_decl}
 
 -- a pair stands in a rule
@@ -19,9 +21,9 @@ is_in_item p (Rule r) = is_in_rule r p
 is_in_item p (KeptRule k) = false
 is_in_item p (KeptBlock piece) = false
 
--- by masks of the pair's declaration and of the item
-abbrev pub is_in_masked : ℕ → Pair → Item → ℕ → Bool
-is_in_masked mask p item of_item = not (bit_and of_item mask == 0) && is_in_item p item
+-- by masks of the pair and of the item
+abbrev pub is_in_masked : ItemMask → Pair → Item → ItemMask → Bool
+is_in_masked mask p item of_item = meets of_item mask && is_in_item p item
 
 -- a pair stands in one of the items
 abbrev pub stands : List Item → Pair → Bool

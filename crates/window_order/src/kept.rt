@@ -4,12 +4,13 @@ ghost use Rattle.std.specs.Prelude.{◌≡◌, ◌↔◌, ◌+◌, ◌<◌, IsTr
 ghost use Rattle.css_model.specs.declared.sheet.Item as declared;
 ghost use Rattle.css_model.specs.Cascade.Order.{HasPair};
 ghost use Rattle.css_model.specs.Sheets.KeptItems as keeping;
-ghost use Rattle.related_props.specs.Masks.{decl_mask, item_mask};
+ghost use Rattle.item_masks.specs.Masks.{item_mask};
 ghost use Rattle.window_order.specs.Orders as orders;
 
-use crate::masked::{pair_mask, stands_with_mask};
-use crate::pair::PairRef;
+use crate::masked::stands_by_masks;
+use crate::pair::MaskedPair;
 use css_model::Item;
+use item_masks::ItemMask;
 
 /// Whether a pair stands in the parts at the ends of a window.
 #[derive(Clone, Copy)]
@@ -29,54 +30,48 @@ fn comes_before_kept(ends: KeptEnds, above: bool) -> bool
 }
 
 /// Whether it comes last before it or not both before and after a step, wherever it stands between.
-fn always_same_kept(old: KeptEnds, new: KeptEnds) -> bool
+pub(crate) fn always_same_kept(old: KeptEnds, new: KeptEnds) -> bool
     ensures { IsTrue result ↔ orders.AreAlwaysSameKept old new }
 {
     comes_before_kept(old, false) == comes_before_kept(new, false)
         && comes_before_kept(old, true) == comes_before_kept(new, true)
 }
 
-/// Whether a pair stands in the items below the one of this number, by its mask and theirs.
-fn stands_below(items: &[Item], masks: &[u64], number: usize, mask: u64, p: &PairRef<'_>) -> bool
+/// Whether a pair stands in the items below the one of this number, by the masks.
+fn stands_below(items: &[Item], masks: &[ItemMask], number: usize, p: &MaskedPair<'_>) -> bool
     requires number { number < length items.now }
     requires items { masks.now ≡ map item_mask items.now }
-    requires pair { mask ≡ decl_mask p.now.decl }
     ensures { IsTrue result ↔ HasPair (drop (number + 1) items.now) p.now }
 {
-    stands_with_mask(&items[number + 1..], &masks[number + 1..], mask, p)
+    stands_by_masks(&items[number + 1..], &masks[number + 1..], p)
 }
 
 /// Whether it stands in the items above the one of this number.
-fn stands_above(items: &[Item], masks: &[u64], number: usize, mask: u64, p: &PairRef<'_>) -> bool
+fn stands_above(items: &[Item], masks: &[ItemMask], number: usize, p: &MaskedPair<'_>) -> bool
     requires number { number < length items.now }
     requires items { masks.now ≡ map item_mask items.now }
-    requires pair { mask ≡ decl_mask p.now.decl }
     ensures { IsTrue result ↔ HasPair (take number items.now) p.now }
 {
-    stands_with_mask(&items[..number], &masks[..number], mask, p)
+    stands_by_masks(&items[..number], &masks[..number], p)
 }
 
 /// Whether a pair and the kept item of this number of the middle part have another order with the new parts at the
-/// ends. What lies between is looked at only where it may tell.
+/// ends, by what lies between.
 pub(crate) fn has_other_place(
     old: KeptEnds,
     new: KeptEnds,
     middle: &[Item],
-    masks: &[u64],
+    masks: &[ItemMask],
     number: usize,
-    p: &PairRef<'_>,
+    p: &MaskedPair<'_>,
 ) -> bool
     requires kept { (item : declared.Item) × (slice_get middle.now number ≡ Some item) × (keeping.is_kept item ≡ true) }
     requires items { masks.now ≡ map item_mask middle.now }
     ensures { orders.HasOtherPlace old new middle.now number p.now result }
 {
-    if always_same_kept(old, new) {
+    if stands_below(middle, masks, number, p) {
         return false;
     }
-    let mask = pair_mask(p);
-    if stands_below(middle, masks, number, mask, p) {
-        return false;
-    }
-    let above = stands_above(middle, masks, number, mask, p);
+    let above = stands_above(middle, masks, number, p);
     comes_before_kept(old, above) != comes_before_kept(new, above)
 }

@@ -1,96 +1,75 @@
 //! Whether a pair stands in items with masks, and how two pairs do.
 
-ghost use Rattle.std.specs.Prelude.{◌≡◌, ◌↔◌, IsTrue, ◌≤◌, bit_or, length, map, take, zip};
+ghost use Rattle.std.specs.Prelude.{◌≡◌, ◌↔◌, IsTrue, ◌≤◌, length, map, take, zip};
 ghost use Rattle.std.specs.List.{list_any};
 ghost use Rattle.css_model.specs.Cascade.Order.{HasPair};
-ghost use Rattle.related_props.specs.Masks.{decl_mask, item_mask};
+ghost use Rattle.item_masks.specs.Masks.{item_mask, pair_mask};
 ghost use Rattle.window_order.specs.Found.{IsFound, IsFoundLast};
 ghost use Rattle.window_order.specs.Orders as orders;
 ghost use Rattle.window_order.specs.Standing as standing;
 
 use crate::order::{Found, PairOrder, found_last, second_below};
-use crate::pair::PairRef;
+use crate::pair::MaskedPair;
 use crate::standing::is_in_item;
 use css_model::Item;
-use related_props::decl_mask;
+use item_masks::ItemMask;
 
-/// Whether a pair, whose declaration has a mask, stands in an item with a mask. Most in which it does not are told
-/// by the masks.
-fn is_in_masked(item: &Item, of_item: u64, mask: u64, p: &PairRef<'_>) -> bool
-    ensures { result ≡ standing.is_in_masked mask p.now item.now of_item }
+/// Whether a pair stands in an item with a mask. Nearly all in which it does not are told by the masks.
+fn is_in_masked(item: &Item, of_item: ItemMask, p: &MaskedPair<'_>) -> bool
+    ensures { result ≡ standing.is_in_masked (pair_mask p.now) p.now item.now of_item }
 {
-    of_item & mask != 0 && is_in_item(item, p)
+    of_item.meets(p.mask) && is_in_item(item, &p.pair)
 }
 
 /// Whether it stands in some items with masks.
-fn stands_masked(items: &[Item], masks: &[u64], mask: u64, p: &PairRef<'_>) -> bool
-    ensures { result ≡ list_any (λ x. standing.is_in_masked mask p.now x.0 x.1) (zip items.now masks.now) }
+fn stands_masked(items: &[Item], masks: &[ItemMask], p: &MaskedPair<'_>) -> bool
+    ensures { result ≡ list_any (λ x. standing.is_in_masked (pair_mask p.now) p.now x.0 x.1) (zip items.now masks.now) }
 {
     items
         .iter()
         .zip(masks)
-        .any(|(item, of_item)| is_in_masked(item, *of_item, mask, p))
+        .any(|(item, of_item)| is_in_masked(item, *of_item, p))
 }
 
-/// Whether a pair stands in some items, by its mask and theirs.
-pub(crate) fn stands_with_mask(items: &[Item], masks: &[u64], mask: u64, p: &PairRef<'_>) -> bool
-    requires items { masks.now ≡ map item_mask items.now }
-    requires pair { mask ≡ decl_mask p.now.decl }
-    ensures { IsTrue result ↔ HasPair items.now p.now }
-{
-    stands_masked(items, masks, mask, p)
-}
-
-/// The mask of a pair: that of its declaration.
-pub(crate) fn pair_mask(p: &PairRef<'_>) -> u64
-    ensures { result ≡ decl_mask p.now.decl }
-{
-    decl_mask(p.decl)
-}
-
-/// Whether a pair stands in some items, by their masks.
-pub(crate) fn stands_by_masks(items: &[Item], masks: &[u64], p: &PairRef<'_>) -> bool
+/// Whether it stands in some items, by its mask and theirs.
+pub(crate) fn stands_by_masks(items: &[Item], masks: &[ItemMask], p: &MaskedPair<'_>) -> bool
     requires { masks.now ≡ map item_mask items.now }
     ensures { IsTrue result ↔ HasPair items.now p.now }
 {
-    stands_with_mask(items, masks, pair_mask(p), p)
+    stands_masked(items, masks, p)
 }
 
-/// What an item with a mask tells that has these above it, by the mask of two pairs.
+/// What an item with a mask tells that has these above it. It is looked at only where its mask meets that of one of the
+/// pairs.
 fn found_masked<'a>(
     above: &'a [Item],
     last: &Item,
-    of_last: u64,
-    mask: u64,
-    p: &PairRef<'_>,
-    q: &PairRef<'_>,
+    of_last: ItemMask,
+    p: &MaskedPair<'_>,
+    q: &MaskedPair<'_>,
 ) -> Found<'a>
-    requires last { of_last ≡ item_mask last.now }
-    requires pairs { mask ≡ bit_or (decl_mask p.now.decl) (decl_mask q.now.decl) }
+    requires { of_last ≡ item_mask last.now }
     ensures { IsFoundLast above.now last.now p.now q.now result }
 {
-    if of_last & mask == 0 {
+    if !of_last.meets(p.mask) && !of_last.meets(q.mask) {
         return Found::Neither;
     }
-    found_last(above, last, p, q)
+    found_last(above, last, &p.pair, &q.pair)
 }
 
-/// What the last of some items that has one of two pairs tells of their order, by the mask of both and those of the
-/// items.
+/// What the last of some items that has one of two pairs tells of their order, by the masks.
 fn found_by_masks<'a>(
     items: &'a [Item],
-    masks: &[u64],
-    mask: u64,
-    p: &PairRef<'_>,
-    q: &PairRef<'_>,
+    masks: &[ItemMask],
+    p: &MaskedPair<'_>,
+    q: &MaskedPair<'_>,
 ) -> Found<'a>
-    requires items { masks.now ≡ map item_mask items.now }
-    requires pairs { mask ≡ bit_or (decl_mask p.now.decl) (decl_mask q.now.decl) }
+    requires { masks.now ≡ map item_mask items.now }
     ensures { IsFound items.now p.now q.now result }
 {
     let mut rest = items;
     'rest: while let Some((last, above)) = rest.split_last() {
-        match found_masked(above, last, masks[above.len()], mask, p, q) {
+        match found_masked(above, last, masks[above.len()], p, q) {
             Found::Neither => rest = above,
             found => return found,
         }
@@ -98,32 +77,29 @@ fn found_by_masks<'a>(
     Found::Neither
 }
 
-/// Whether a pair stands in the first of some items, by its mask and theirs.
-fn stands_above(above: &[Item], masks: &[u64], mask: u64, p: &PairRef<'_>) -> bool
+/// Whether a pair stands in the first of some items, by the masks of all.
+fn stands_above(above: &[Item], masks: &[ItemMask], p: &MaskedPair<'_>) -> bool
     requires items { take (length above.now) masks.now ≡ map item_mask above.now }
     requires count { length above.now ≤ length masks.now }
-    requires pair { mask ≡ decl_mask p.now.decl }
     ensures { IsTrue result ↔ HasPair above.now p.now }
 {
-    stands_with_mask(above, &masks[..above.len()], mask, p)
+    stands_by_masks(above, &masks[..above.len()], p)
 }
 
-/// How two pairs stand in some items, by their masks.
+/// How two pairs stand in some items, by the masks.
 pub(crate) fn order_by_masks(
     items: &[Item],
-    masks: &[u64],
-    p: &PairRef<'_>,
-    q: &PairRef<'_>,
+    masks: &[ItemMask],
+    p: &MaskedPair<'_>,
+    q: &MaskedPair<'_>,
 ) -> PairOrder
     requires { masks.now ≡ map item_mask items.now }
     ensures { orders.IsOrder items.now p.now q.now result }
 {
-    let first = pair_mask(p);
-    let both = first | pair_mask(q);
-    match found_by_masks(items, masks, both, p, q) {
+    match found_by_masks(items, masks, p, q) {
         Found::Before => PairOrder::Before,
         Found::NotBefore => PairOrder::NotBefore,
-        Found::Second(above) => second_below(stands_above(above, masks, first, p)),
+        Found::Second(above) => second_below(stands_above(above, masks, p)),
         Found::Neither => PairOrder::Neither,
     }
 }

@@ -1,23 +1,24 @@
 //! What is reversed in the part of a sheet that a step changes.
 
-ghost use Rattle.std.specs.Prelude.{◌≡◌, ◌↔◌, ◌≤◌, IsTrue, Some, true, map, slice_get};
+ghost use Rattle.std.specs.Prelude.{◌≡◌, ◌↔◌, ◌-◌, ◌≤◌, IsTrue, Some, true, map, slice_get};
 ghost use Rattle.css_model.specs.declared.sheet.Item as declared;
 ghost use Rattle.css_model.specs.Cascade.Order.{HasPair, IsBefore, IsBeforeKept};
-ghost use Rattle.css_model.specs.Sheets.KeptItems.{is_kept};
-ghost use Rattle.related_props.specs.Masks.{item_mask};
+ghost use Rattle.css_model.specs.Sheets.KeptItems.{is_kept, kept_before};
+ghost use Rattle.item_masks.specs.Masks.{item_mask};
 ghost use Rattle.order_laws.specs.Reversing.{Differ};
 ghost use Rattle.window_order.specs.Left as left;
 ghost use Rattle.window_order.specs.Orders as orders;
 ghost use Rattle.window_order.specs.Reversed as reversed;
 
 use crate::ends::{PairEnds, always_same, comes_before};
-use crate::kept::{KeptEnds, has_other_place};
+use crate::kept::{KeptEnds, always_same_kept, has_other_place};
 use crate::masked::{order_by_masks, stands_by_masks};
 use crate::order::{PairOrder, order_in};
-use crate::pair::PairRef;
+use crate::pair::{MaskedPair, PairRef, with_mask};
 use crate::standing::stands_in;
 use crate::window::Window;
 use css_model::Item;
+use item_masks::ItemMask;
 
 impl<'a> Window<'a> {
     /// The first item, if there is one.
@@ -49,21 +50,21 @@ impl<'a> Window<'a> {
     }
 
     /// The masks of what lies between.
-    fn between_masks(&self) -> &'a [u64]
+    fn between_masks(&self) -> &'a [ItemMask]
         ensures { result.now ≡ map item_mask (reversed.middle_of self.now) }
     {
         &self.masks[self.middle..self.last]
     }
 
     /// The masks of what lies behind.
-    fn behind_masks(&self) -> &'a [u64]
+    fn behind_masks(&self) -> &'a [ItemMask]
         ensures { result.now ≡ map item_mask (reversed.behind_of self.now) }
     {
         &self.masks[self.last + 1..]
     }
 
     /// Whether a pair stands behind.
-    fn stands_behind(&self, p: &PairRef<'_>) -> bool
+    fn stands_behind(&self, p: &MaskedPair<'_>) -> bool
         ensures { IsTrue result ↔ HasPair (reversed.behind_of self.now) p.now }
     {
         stands_by_masks(self.behind(), self.behind_masks(), p)
@@ -90,37 +91,60 @@ impl<'a> Window<'a> {
     }
 
     /// How they stand in what lies between.
-    fn order_between(&self, p: &PairRef<'_>, q: &PairRef<'_>) -> PairOrder
+    fn order_between(&self, p: &MaskedPair<'_>, q: &MaskedPair<'_>) -> PairOrder
         ensures { orders.IsOrder (reversed.middle_of self.now) p.now q.now result }
     {
         order_by_masks(self.between(), self.between_masks(), p, q)
     }
 
-    /// Whether two pairs have another order in the window afterwards. What lies between is looked at only where it
-    /// may tell.
-    fn has_other_order(&self, p: &PairRef<'_>, q: &PairRef<'_>) -> bool
+    /// Whether two pairs that stand so in the parts at the ends have another order in the window afterwards.
+    fn has_other_order(
+        &self,
+        old: PairEnds,
+        new: PairEnds,
+        p: &MaskedPair<'_>,
+        q: &MaskedPair<'_>,
+    ) -> bool
+        requires old { orders.AreEnds (reversed.first_of self.now) (reversed.last_of self.now) p.now q.now old }
+        requires new { orders.AreEnds (left.items_of self.now.first_left) (left.items_of self.now.last_left) p.now q.now new }
         ensures { IsTrue result ↔ Differ (IsBefore (reversed.old_of self.now) p.now q.now) (IsBefore (reversed.new_of self.now) p.now q.now) }
     {
-        let old = self.old_ends(p, q);
-        let new = self.new_ends(p, q);
-        if always_same(old, new) {
-            return false;
-        }
         let between = self.order_between(p, q);
         comes_before(old, between) != comes_before(new, between)
     }
 
-    /// Whether two pairs have another order in the window afterwards, and neither stands behind it.
-    pub fn is_reversed(&self, p: &PairRef<'_>, q: &PairRef<'_>) -> bool
+    /// Whether they have, and neither stands behind it.
+    fn is_reversed_between(
+        &self,
+        old: PairEnds,
+        new: PairEnds,
+        p: &MaskedPair<'_>,
+        q: &MaskedPair<'_>,
+    ) -> bool
+        requires old { orders.AreEnds (reversed.first_of self.now) (reversed.last_of self.now) p.now q.now old }
+        requires new { orders.AreEnds (left.items_of self.now.first_left) (left.items_of self.now.last_left) p.now q.now new }
         ensures { IsTrue result ↔ reversed.IsReversed self.now p.now q.now }
     {
-        if !self.has_other_order(p, q) {
+        if !self.has_other_order(old, new, p, q) {
             return false;
         }
         if self.stands_behind(p) {
             return false;
         }
         !self.stands_behind(q)
+    }
+
+    /// Whether two pairs have another order in the window afterwards, and neither stands behind it. What lies between
+    /// and behind is looked at only where it may tell.
+    pub fn is_reversed(&self, p: &PairRef<'_>, q: &PairRef<'_>) -> bool
+        ensures { IsTrue result ↔ reversed.IsReversed self.now p.now q.now }
+    {
+        let old = self.old_ends(p, q);
+        let new = self.new_ends(p, q);
+        if always_same(old, new) {
+            return false;
+        }
+        self.is_reversed_between(old, new, &with_mask(p), &with_mask(q))
     }
 
     /// Whether a pair stands in the parts at the ends before the step.
@@ -143,30 +167,67 @@ impl<'a> Window<'a> {
         }
     }
 
-    /// Whether a pair and the kept item of this number have another order in the window afterwards.
-    fn has_other_kept_order(&self, p: &PairRef<'_>, number: usize) -> bool
+    /// The number among the items of the middle part of the kept item of this number.
+    fn place_between(&self, number: usize) -> usize
         requires above { self.now.start ≤ number }
         requires below { number ≤ self.now.last }
         requires kept { (item : declared.Item) × (slice_get self.now.items.now number ≡ Some item) × (is_kept item ≡ true) }
-        ensures { IsTrue result ↔ Differ (IsBeforeKept (reversed.old_of self.now) p.now (reversed.kept_number self.now number)) (IsBeforeKept (reversed.new_of self.now) p.now (reversed.kept_number self.now number)) }
+        ensures place { result ≡ number - self.now.middle }
+        ensures kept { (item : declared.Item) × (slice_get (reversed.middle_of self.now) result ≡ Some item) × (is_kept item ≡ true) }
     {
-        let old = self.old_kept_ends(p);
-        let new = self.new_kept_ends(p);
-        let place = number - self.middle;
+        number - self.middle
+    }
+
+    /// Whether a pair that stands so in the parts at the ends and the kept item of this number of the middle part have
+    /// another order in the window afterwards.
+    fn has_other_kept_order(
+        &self,
+        old: KeptEnds,
+        new: KeptEnds,
+        p: &MaskedPair<'_>,
+        place: usize,
+    ) -> bool
+        requires old { orders.AreKeptEnds (reversed.first_of self.now) (reversed.last_of self.now) p.now old }
+        requires new { orders.AreKeptEnds (left.items_of self.now.first_left) (left.items_of self.now.last_left) p.now new }
+        requires kept { (item : declared.Item) × (slice_get (reversed.middle_of self.now) place ≡ Some item) × (is_kept item ≡ true) }
+        ensures { IsTrue result ↔ Differ (IsBeforeKept (reversed.old_of self.now) p.now (kept_before place (reversed.middle_of self.now))) (IsBeforeKept (reversed.new_of self.now) p.now (kept_before place (reversed.middle_of self.now))) }
+    {
         has_other_place(old, new, self.between(), self.between_masks(), place, p)
     }
 
+    /// Whether they have, and the pair does not stand behind it.
+    fn is_kept_reversed_between(
+        &self,
+        old: KeptEnds,
+        new: KeptEnds,
+        p: &MaskedPair<'_>,
+        place: usize,
+    ) -> bool
+        requires old { orders.AreKeptEnds (reversed.first_of self.now) (reversed.last_of self.now) p.now old }
+        requires new { orders.AreKeptEnds (left.items_of self.now.first_left) (left.items_of self.now.last_left) p.now new }
+        requires kept { (item : declared.Item) × (slice_get (reversed.middle_of self.now) place ≡ Some item) × (is_kept item ≡ true) }
+        ensures { IsTrue result ↔ reversed.IsKeptReversed self.now p.now (kept_before place (reversed.middle_of self.now)) }
+    {
+        if !self.has_other_kept_order(old, new, p, place) {
+            return false;
+        }
+        !self.stands_behind(p)
+    }
+
     /// Whether a pair and the kept item of this number have another order in the window afterwards, and the pair does
-    /// not stand behind it.
+    /// not stand behind it. What lies between and behind is looked at only where it may tell.
     pub fn is_kept_reversed(&self, p: &PairRef<'_>, number: usize) -> bool
         requires above { self.now.start ≤ number }
         requires below { number ≤ self.now.last }
         requires kept { (item : declared.Item) × (slice_get self.now.items.now number ≡ Some item) × (is_kept item ≡ true) }
         ensures { IsTrue result ↔ reversed.IsKeptReversed self.now p.now (reversed.kept_number self.now number) }
     {
-        if !self.has_other_kept_order(p, number) {
+        let old = self.old_kept_ends(p);
+        let new = self.new_kept_ends(p);
+        let place = self.place_between(number);
+        if always_same_kept(old, new) {
             return false;
         }
-        !self.stands_behind(p)
+        self.is_kept_reversed_between(old, new, &with_mask(p), place)
     }
 }

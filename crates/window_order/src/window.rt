@@ -2,12 +2,13 @@
 
 ghost use Rattle.std.specs.Prelude.{◌≡◌, ◌≤◌, ◌<◌, [], length, map, slice_range};
 ghost use Rattle.css_model.specs.Sheets.KeptItems.{kept_items};
-ghost use Rattle.related_props.specs.Masks.{item_mask};
+ghost use Rattle.item_masks.specs.Masks.{item_mask};
 ghost use Rattle.window_order.specs.Between.{AreBetween};
 ghost use Rattle.window_order.specs.Left.{items_of};
 
 use crate::left::Left;
 use css_model::Item;
+use item_masks::ItemMask;
 
 /// The items of a sheet from the first to the last one that a step changes, in three parts: the first item, if there
 /// is one, what lies between, and the last item; and what stands in the places of the first and the last item
@@ -17,7 +18,7 @@ pub struct Window<'a> {
     /// The items of the sheet.
     pub items: &'a [Item],
     /// Their masks.
-    pub masks: &'a [u64],
+    pub masks: &'a [ItemMask],
     /// Where it begins.
     pub start: usize,
     /// Where the middle part begins.

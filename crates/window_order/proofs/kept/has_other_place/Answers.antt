@@ -1,14 +1,10 @@
 use Rattle.std.proofs.Common.{◌∙◌, sym}
 use Rattle.std.proofs.lemmas.Bool.{false≢true}
-use Rattle.window_order.proofs.KeptOrder.{before_kept_with, never_other_place, none_before}
+use Rattle.window_order.proofs.KeptOrder.{before_kept_with, none_before}
 use Rattle.window_order.proofs.LastFound.{no}
 use Rattle.window_order.proofs.PairOrders.{differ_is, tested}
 use Rattle.window_order.proofs.kept.has_other_place.Goals as goal
 use Rattle.window_order.specs.Orders.{comes_before_kept}
-
-pub returns-then-always_same_kept : goal.returns-then-always_same_kept
-returns-then-always_same_kept c =
-    let at = c.requires.kept in never_other_place c.args.middle.now c.args.number at.0 at.1 at.2 c.args.p.now c.args.old c.args.new (c.always_same_kept.ensures.0 c.if-always_same_kept.true)
 
 pub returns-then-stands_below : goal.returns-then-stands_below
 returns-then-stands_below c = λ first last first' last' are are' plain plain'.

@@ -1,10 +1,11 @@
-use Rattle.std.proofs.Common.{◌≡◌, ℕ, List, length, map, ap, sym, slice_set, ◌∙◌}
+use Rattle.std.proofs.Common.{◌≡◌, List, length, map, ap, sym, slice_set, ◌∙◌}
 use Rattle.std.proofs.lemmas.List.{length-set, map-set}
 use Rattle.css_model.specs.declared.sheet.Item.{Item}
 use Rattle.css_model.specs.Sheets.SheetParts.{SheetParts}
 use Rattle.plan_board.specs.Putting.{placeholder}
 use Rattle.plan_board.proofs.board.Board.lift.Goals as goal
-use Rattle.related_props.specs.Masks.{item_mask}
+use Rattle.item_masks.specs.declared.mask.ItemMask.{ItemMask}
+use Rattle.item_masks.specs.Masks.{item_mask}
 
 pub invariant_of-board : goal.invariant_of-board
 invariant_of-board c =
@@ -12,7 +13,7 @@ invariant_of-board c =
     let masked : c.self.inside.masks.items ≡ map item_mask c.sheet.inside.items.items = c.self.invariant.1 ∙ ap (λ (s : SheetParts). map item_mask s.items) (sym c.sheet.view_is) in (
       same ∙ sym (length-set c.sheet.inside.items.items c.args.number placeholder) ∙ sym (ap (λ (items : List Item). length items) c.lift_rule-rule.ensures.items),
       c.lift_mask.ensures
-          ∙ ap (λ (masks : List ℕ). slice_set masks c.args.number (item_mask placeholder)) masked
+          ∙ ap (λ (masks : List ItemMask). slice_set masks c.args.number (item_mask placeholder)) masked
           ∙ sym (map-set item_mask c.sheet.inside.items.items c.args.number placeholder)
           ∙ sym (ap (λ (items : List Item). map item_mask items) c.lift_rule-rule.ensures.items),
     )

@@ -1,4 +1,4 @@
-use Rattle.std.proofs.Common.{◌≡◌, ◌<◌, ℕ, List, length, map, ap, sym, subst, ◌∙◌}
+use Rattle.std.proofs.Common.{◌≡◌, ◌<◌, List, length, map, ap, sym, subst, ◌∙◌}
 use Rattle.css_model.specs.declared.sheet.Item.{Item}
 use Rattle.css_model.specs.Sheets.SheetParts.{SheetParts}
 use Rattle.plan_board.specs.declared.marks.Mark.{Mark}
@@ -7,7 +7,8 @@ use Rattle.plan_board.specs.Marking.{HasLabelBefore}
 use Rattle.plan_board.specs.Putting.{items_in, put_at}
 use Rattle.plan_board.proofs.Puts.{put_length, put_map}
 use Rattle.plan_board.proofs.board.Board.put.Goals as goal
-use Rattle.related_props.specs.Masks.{item_mask}
+use Rattle.item_masks.specs.declared.mask.ItemMask.{ItemMask}
+use Rattle.item_masks.specs.Masks.{item_mask}
 
 pub put-requires-clause-room : goal.put-requires-clause-room
 put-requires-clause-room c = λ more.
@@ -21,7 +22,7 @@ invariant_of-result c =
           ∙ put_length c.args.number (items_in c.args.left) c.in_ok-marks.ensures.marks.made c.sheet.inside.items.items c.self.inside.marks.list c.in_ok-marks.ensures.marks.count_is same
           ∙ sym (ap (λ (items : List Item). length items) c.in_ok-items.ensures),
       c.in_ok-masks.ensures
-          ∙ ap (λ (masks : List ℕ). put_at c.args.number (map item_mask (items_in c.args.left)) masks) masked
+          ∙ ap (λ (masks : List ItemMask). put_at c.args.number (map item_mask (items_in c.args.left)) masks) masked
           ∙ put_map item_mask c.args.number (items_in c.args.left) c.sheet.inside.items.items
           ∙ sym (ap (λ (items : List Item). map item_mask items) c.in_ok-items.ensures),
     )

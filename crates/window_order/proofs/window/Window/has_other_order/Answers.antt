@@ -1,18 +1,13 @@
-use Rattle.window_order.proofs.LastFound.{no}
-use Rattle.window_order.proofs.PairOrders.{before_with, differ_is, never_other, tested}
+use Rattle.window_order.proofs.PairOrders.{before_with, differ_is, tested}
 use Rattle.window_order.proofs.window.Window.has_other_order.Goals as goal
 use Rattle.window_order.specs.Left.{items_of}
 use Rattle.window_order.specs.Orders.{comes_before}
 use Rattle.window_order.specs.Reversed.{first_of, last_of, middle_of}
 
-pub returns-then-always_same : goal.returns-then-always_same
-returns-then-always_same c = no (never_other (first_of c.args.self.now) (middle_of c.args.self.now) (last_of c.args.self.now) (items_of c.args.self.now.first_left) (items_of c.args.self.now.last_left) c.args.p.now c.args.q.now
-    c.old_ends-old.result c.new_ends-new.result (c.always_same.ensures.0 c.if-always_same.true) c.old_ends-old.ensures c.new_ends-new.ensures)
-
 pub returns : goal.returns
 returns c =
     differ_is c.comes_before.result c.comes_before-2.result
-    (tested c.comes_before.result (comes_before c.old_ends-old.result c.order_between-between.result) c.comes_before.ensures
-    (before_with (first_of c.args.self.now) (middle_of c.args.self.now) (last_of c.args.self.now) c.args.p.now c.args.q.now c.old_ends-old.result c.order_between-between.result c.old_ends-old.ensures c.order_between-between.ensures))
-    (tested c.comes_before-2.result (comes_before c.new_ends-new.result c.order_between-between.result) c.comes_before-2.ensures
-    (before_with (items_of c.args.self.now.first_left) (middle_of c.args.self.now) (items_of c.args.self.now.last_left) c.args.p.now c.args.q.now c.new_ends-new.result c.order_between-between.result c.new_ends-new.ensures c.order_between-between.ensures))
+    (tested c.comes_before.result (comes_before c.args.old c.order_between-between.result) c.comes_before.ensures
+    (before_with (first_of c.args.self.now) (middle_of c.args.self.now) (last_of c.args.self.now) c.args.p.now c.args.q.now c.args.old c.order_between-between.result c.requires.old c.order_between-between.ensures))
+    (tested c.comes_before-2.result (comes_before c.args.new c.order_between-between.result) c.comes_before-2.ensures
+    (before_with (items_of c.args.self.now.first_left) (middle_of c.args.self.now) (items_of c.args.self.now.last_left) c.args.p.now c.args.q.now c.args.new c.order_between-between.result c.requires.new c.order_between-between.ensures))
