@@ -8,6 +8,7 @@ mod held;
 mod pair_obstacles;
 mod rule_parts;
 mod searching;
+mod specificities;
 mod step_search;
 mod window_search;
 
