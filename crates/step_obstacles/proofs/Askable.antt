@@ -1,10 +1,12 @@
 -- A sheet that can be planned may be asked and named.
-use Rattle.std.proofs.Common.{◌≡◌, ℕ, zero, suc, ◌+◌, ◌≤◌, List, [], ◌∷◌, length, Some, None, ap, subst, arith}
+use Rattle.std.proofs.Common.{◌≡◌, ℕ, zero, suc, ◌+◌, ◌≤◌, List, [], ◌∷◌, length, get_or, Some, None, ap, subst, arith}
 use Rattle.std.specs.Prelude.{slice_get}
-use Rattle.std.specs.List.{AllByRecursion}
+use Rattle.std.specs.List.{All, AllByRecursion, Contains}
+use Rattle.std.proofs.lemmas.List.Elements.{All-contains_itself}
 use Rattle.cascade_laws.proofs.ForCallers.{some-same}
 use Rattle.css_model.specs.declared.sheet.Item.{Item}
 use Rattle.css_model.specs.declared.sheet.Item.TheVariants.{Rule, KeptRule, KeptBlock}
+use Rattle.css_model.specs.declared.sheet.SelItem.{SelItem}
 use Rattle.css_model.specs.Selectors.Profile.{IsInProfile}
 use Rattle.css_model.specs.Sheets.RuleParts.{RuleParts}
 use Rattle.list_facts.proofs.Elements.{member}
@@ -39,3 +41,8 @@ askable few profile items h = record {
   where
     few_parts : part_count items ≤ size h.0 items
     few_parts = few h.0 items h.1.sound
+
+-- all selectors of a rule of such a sheet are in the profile
+pub all_in_profile : (items : List Item) (n : ℕ) (r : RuleParts) (selectors : List SelItem) → IsAskable items → slice_get items n ≡ Some (Rule r) → selectors ≡ r.selectors → All (λ s. IsInProfile s.selector) selectors
+all_in_profile items n r selectors h at is k d less =
+    h.profile n r (get_or selectors k d) at (subst (λ (xs : List SelItem). Contains xs (get_or selectors k d)) is (All-contains_itself selectors k d less))

@@ -3,6 +3,7 @@ use Rattle.std.proofs.Common.{◌≡◌, ◌⊎◌, ℕ, true, false, List, Some
 use Rattle.std.specs.Prelude.{Option, Result, Ok, Err, IfOk, slice_get}
 use Rattle.std.proofs.lemmas.Bool.{false≢true}
 use Rattle.css_model.specs.Cascade.Order.{Pair}
+use Rattle.css_model.specs.declared.selector.Specificity.{Specificity}
 use Rattle.css_model.specs.declared.sheet.Decl.{Decl}
 use Rattle.css_model.specs.declared.sheet.Item.{Item}
 use Rattle.css_model.specs.declared.sheet.Item.TheVariants.{Rule, KeptRule, KeptBlock}
@@ -12,16 +13,18 @@ use Rattle.css_model.specs.Sheets.KeptItems.{is_kept}
 use Rattle.css_model.specs.Sheets.KeptRuleParts.{KeptRuleParts}
 use Rattle.css_model.specs.Sheets.RuleParts.{RuleParts}
 use Rattle.css_model.specs.Documents.SelectorParts.{SelectorParts}
+use Rattle.css_model.specs.Documents.Specificity.{specificity_of}
 use Rattle.css_model.specs.Selectors.Profile.{IsInProfile}
 use Rattle.obstacles.specs.Blocking.{IsAt, Names}
 use Rattle.obstacles.specs.declared.obstacle.Obstacle.{Obstacle}
 use Rattle.overlap.specs.PairsParts.{Answered}
 use Rattle.step_obstacles.proofs.Looking.{member_at}
+use Rattle.step_obstacles.proofs.PairAnswers.{unlike_passes}
 use Rattle.step_obstacles.specs.Blocked.{AllPass, IsFound, IsTold, IsToldOf}
 use Rattle.step_obstacles.specs.declared.facing.DeclAt.{DeclAt}
 use Rattle.step_obstacles.specs.declared.facing.Facing.{Facing}
 use Rattle.step_obstacles.specs.declared.facing.Facing.TheVariants as facing
-use Rattle.step_obstacles.specs.Turns.{Faces, IsAskable, IsDeclAt, OfItem, OfRule, OfSelectors, hindrance_of, other_of, pair_of, with_kept}
+use Rattle.step_obstacles.specs.Turns.{Faces, IsAskable, IsDeclAt, MayWeigh, OfItem, OfRule, OfSelectors, hindrance_of, other_of, pair_of, with_kept}
 use Rattle.wall_laws.specs.Holding.{Hindrance, OfPair}
 use Rattle.window_order.specs.declared.window.Window.{Window}
 use Rattle.window_order.specs.Weighing.{DeclsWeigh}
@@ -42,11 +45,12 @@ module _ (w : Window) (moved : DeclAt) (i : ℕ) (x : SelItem) (is : IsDeclAt w.
   in_profile askable s s_is = subst IsInProfile (sym s_is) (askable.profile moved.item moved.rule.now x is.rule_at (member_at moved.rule.now.selectors i x at))
 
   -- another declaration's pairs face it, if both weigh
-  pub faced : IsAskable w.items.now → (d : Decl) → DeclsWeigh d moved.decl.now → (s : SelectorParts) → s ≡ x.selector → Faces w d (facing.Pair (pair s moved.decl.now) (record { item = moved.item; sel = i; decl = moved.number }))
-  faced askable d weigh s s_is = (weigh, in_profile askable s s_is, subst (λ (t : SelectorParts). IsAt w.items.now (record { item = moved.item; sel = i; decl = moved.number }) (pair t moved.decl.now)) (sym s_is) stands)
+  pub faced : IsAskable w.items.now → (d : Decl) → DeclsWeigh d moved.decl.now → (s : SelectorParts) → s ≡ x.selector → (k : Specificity) → k ≡ specificity_of s →
+      Faces w d (facing.Pair (pair s moved.decl.now) (record { item = moved.item; sel = i; decl = moved.number }) k)
+  faced askable d weigh s s_is k k_is = (weigh, in_profile askable s s_is, subst (λ (t : SelectorParts). IsAt w.items.now (record { item = moved.item; sel = i; decl = moved.number }) (pair t moved.decl.now)) (sym s_is) stands, k_is)
 
   names : (f : Facing) → Faces w moved.decl.now f → Names w.items.now (obstacle_at moved i f) (hindrance_of w.items.now f (pair_of x moved.decl.now))
-  names (facing.Pair q place) faces = record { moved = stands; other = faces.2 }
+  names (facing.Pair q place k) faces = record { moved = stands; other = faces.2 }
   names (facing.Kept n) faces = record { moved = stands; other = record { item = faces.0.item; item_at = faces.0.item_at; kept = faces.0.kept; number_is = refl } }
 
   -- whichever selector has this number, it blocks
@@ -64,6 +68,12 @@ module _ (w : Window) (moved : DeclAt) (i : ℕ) (x : SelItem) (is : IsDeclAt w.
       AllPass answers w (λ by. by ≡ hindrance_of w.items.now f (pair_of x moved.decl.now))
   passes_named answers f s s_is told by by_is =
       subst (λ (h : Hindrance). IsTold answers w h false) (sym by_is) (subst (λ (t : SelectorParts). IsTold answers w (hindrance_of w.items.now f (pair t moved.decl.now)) false) s_is told)
+
+  -- so it does where its specificity is not that of the pair that it faces
+  pub passes_unlike : (answers : List Answered) (f : Facing) → Faces w moved.decl.now f → (k : Specificity) → k ≡ specificity_of x.selector → (MayWeigh k f → ⊥) →
+      AllPass answers w (λ by. by ≡ hindrance_of w.items.now f (pair_of x moved.decl.now))
+  passes_unlike answers f faces k k_is other by by_is =
+      subst (λ (h : Hindrance). IsTold answers w h false) (sym by_is) (unlike_passes answers w f (pair_of x moved.decl.now) faces (λ h. other (subst (λ (j : Specificity). MayWeigh j f) (sym k_is) h)))
 
 -- what is told of a pair by its selector is told of the selector of its number
 pub told_same : {E : Type 0} (answers : List Answered) (w : Window) (r : RuleParts) (d o : Decl) (s : SelectorParts) (At : SelItem → Type 0) → ((y : SelItem) → At y → s ≡ y.selector) →

@@ -1,9 +1,10 @@
 -- What tells of a moved pair and what it faces.
 use Rattle.std.proofs.Common.{◌≡◌, ◌↔◌, ℕ, zero, suc, Bool, true, false, List, [], ◌∷◌, Some, None, refl, sym, ap, ◌∙◌, subst, arith}
-use Rattle.std.specs.Prelude.{not, slice_get}
+use Rattle.std.specs.Prelude.{Result, IfOk, not, slice_get}
 use Rattle.std.proofs.lemmas.Bool.{false≢true}
 use Rattle.cascade_laws.proofs.ForCallers.{some-same}
 use Rattle.css_model.specs.Cascade.Order.{Pair, WeighsKept}
+use Rattle.css_model.specs.declared.selector.Specificity.{Specificity}
 use Rattle.css_model.specs.declared.sheet.Decl.{Decl}
 use Rattle.css_model.specs.declared.sheet.Item.{Item}
 use Rattle.css_model.specs.declared.sheet.Item.TheVariants.{Rule, KeptRule, KeptBlock}
@@ -11,28 +12,36 @@ use Rattle.css_model.specs.Documents.SelectorParts.{SelectorParts}
 use Rattle.css_model.specs.Documents.Specificity.{specificity_of}
 use Rattle.css_model.specs.Sheets.KeptItems.{is_kept, kept_before}
 use Rattle.css_model.specs.Sheets.RuleParts.{RuleParts}
+use Rattle.obstacles.specs.declared.obstacle.PairPlace.{PairPlace}
 use Rattle.overlap.specs.PairsParts.{Answered}
 use Rattle.step_obstacles.specs.Blocked.{AllPass, AreAnswered, Crosses, IsKeptIn, IsTold}
 use Rattle.step_obstacles.specs.declared.facing.Facing.{Facing}
 use Rattle.step_obstacles.specs.declared.facing.Facing.TheVariants as facing
-use Rattle.step_obstacles.specs.Turns.{Faces, OfSelectors, hindrance_of, pair_of, with_kept}
+use Rattle.step_obstacles.specs.Turns.{Faces, MayWeigh, OfSelectors, hindrance_of, pair_of, with_kept}
 use Rattle.wall_laws.specs.Holding.{OfPair, OfKept}
 use Rattle.window_order.specs.declared.window.Window.{Window}
 use Rattle.window_order.specs.Reversed.{IsReversed, IsKeptReversed, kept_number}
 use Rattle.window_order.specs.Weighing.{DeclsWeigh}
 
 module _ (answers : List Answered) (w : Window) (p q : Pair) where
-  pub told_by : (x y : SelectorParts) → x ≡ p.selector → y ≡ q.selector → DeclsWeigh p.decl q.decl → specificity_of x ≡ specificity_of y → IsReversed w p q → (apart : Bool) → AreAnswered answers x y apart →
+  pub told_by : (x y : SelectorParts) → x ≡ p.selector → y ≡ q.selector → DeclsWeigh p.decl q.decl → specificity_of p.selector ≡ specificity_of q.selector → IsReversed w p q → (apart : Bool) → AreAnswered answers x y apart →
       IsTold answers w (OfPair p q) (not apart)
-  told_by x y x_is y_is weigh rank reversed apart h =
+  told_by x y x_is y_is weigh specificity reversed apart h =
       of apart (subst (λ (s : SelectorParts). AreAnswered answers s q.selector apart) x_is (subst (λ (t : SelectorParts). AreAnswered answers x t apart) y_is h))
     where
-      same : specificity_of p.selector ≡ specificity_of q.selector
-      same = sym (ap specificity_of x_is) ∙ rank ∙ ap specificity_of y_is
-
       of : (apart : Bool) → AreAnswered answers p.selector q.selector apart → IsTold answers w (OfPair p q) (not apart)
       of true g = λ c. g
-      of false g = ((record { different = weigh.different; names = weigh.names; importance = weigh.importance; specificity = same }, reversed), g)
+      of false g = ((record { different = weigh.different; names = weigh.names; importance = weigh.importance; specificity = specificity }, reversed), g)
+
+-- what is told of two pairs is told of what the one faces
+pub pair_faced : {E : Type 0} (answers : List Answered) (w : Window) (p : Pair) (f : Facing) (q : Pair) (place : PairPlace) (k : Specificity) → f ≡ facing.Pair q place k →
+    (res : Result Bool E) → IfOk res (λ b. IsTold answers w (OfPair p q) b) → IfOk res (λ b. IsTold answers w (hindrance_of w.items.now f p) b)
+pair_faced answers w p f q place k is res told = subst (λ (g : Facing). IfOk res (λ b. IsTold answers w (hindrance_of w.items.now g p) b)) (sym is) told
+
+-- a pair of another specificity does not weigh
+pub unlike_passes : (answers : List Answered) (w : Window) (f : Facing) (p : Pair) → Faces w p.decl f → (MayWeigh (specificity_of p.selector) f → ⊥) → IsTold answers w (hindrance_of w.items.now f p) false
+unlike_passes answers w (facing.Pair q place k) p faces other crosses = absurd (other (crosses.0.specificity ∙ sym faces.3))
+unlike_passes answers w (facing.Kept i) p faces other crosses = absurd (other tt)
 
 -- kept items with as many kept ones before them are one
 kept_same : (xs : List Item) (i j : ℕ) (a b : Item) → slice_get xs i ≡ Some a → is_kept a ≡ true → slice_get xs j ≡ Some b → is_kept b ≡ true → kept_before i xs ≡ kept_before j xs → i ≡ j

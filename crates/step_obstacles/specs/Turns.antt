@@ -3,11 +3,13 @@ use Rattle.std.specs.Prelude.{◌≡◌, ℕ, ◌≤◌, ◌<◌, ◌^◌, ◌+�
 use Rattle.std.specs.Borrow.{Bor}
 use Rattle.std.specs.List.{Contains}
 use Rattle.css_model.specs.Cascade.Order.{Pair, WeighsKept}
+use Rattle.css_model.specs.declared.selector.Specificity.{Specificity}
 use Rattle.css_model.specs.declared.sheet.Decl.{Decl}
 use Rattle.css_model.specs.declared.sheet.DeclItem.{DeclItem}
 use Rattle.css_model.specs.declared.sheet.Item.{Item}
 use Rattle.css_model.specs.declared.sheet.Item.TheVariants as kinds
 use Rattle.css_model.specs.declared.sheet.SelItem.{SelItem}
+use Rattle.css_model.specs.Documents.Specificity.{specificity_of}
 use Rattle.css_model.specs.Selectors.Profile.{IsInProfile}
 use Rattle.css_model.specs.Sheets.KeptItems.{is_kept, kept_before}
 use Rattle.css_model.specs.Sheets.RuleParts.{RuleParts}
@@ -22,6 +24,7 @@ use Rattle.step_obstacles.specs.declared.facing.DeclAt.{DeclAt}
 use Rattle.step_obstacles.specs.declared.facing.Facing.{Facing}
 use Rattle.step_obstacles.specs.declared.facing.Facing.TheVariants as facing
 use Rattle.step_obstacles.specs.declared.facing.Met.{Met}
+use Rattle.step_obstacles.specs.declared.facing.MovedDecl.{MovedDecl}
 use Rattle.step_obstacles.specs.declared.facing.Source.{Source}
 use Rattle.wall_laws.specs.Holding.{Hindrance, OfPair, OfKept}
 use Rattle.window_order.specs.declared.window.Window.{Window}
@@ -44,6 +47,15 @@ pub record IsDeclAt (items : List Item) (d : DeclAt) : Type 0 where
   pub is : item.decl ≡ d.decl.now
   pub masked : d.mask ≡ decl_mask d.decl.now
 
+-- the specificities of some selectors
+abbrev pub specificities_of : List SelItem → List Specificity
+specificities_of selectors = map (λ x. specificity_of x.selector) selectors
+
+-- a declaration whose pairs are moved has those of its rule's selectors
+pub record IsMovedDecl (items : List Item) (d : MovedDecl) : Type 0 where
+  pub at : IsDeclAt items d.at
+  pub specificities : d.specificities.now ≡ specificities_of d.at.rule.now.selectors
+
 -- so does a rule
 abbrev pub IsRuleAt : List Item → ℕ → RuleParts → Type 0
 IsRuleAt items n r = slice_get items n ≡ Some (kinds.Rule r)
@@ -63,17 +75,22 @@ IsKeptHere w n item = IsItemOf w n item × (is_kept item ≡ true)
 
 -- what a pair of a declaration faces stands where it says, and weighs with it but for specificity
 abbrev pub Faces : Window → Decl → Facing → Type 0
-Faces w d (facing.Pair q place) = DeclsWeigh d q.decl × IsInProfile q.selector × IsAt w.items.now place q
+Faces w d (facing.Pair q place k) = DeclsWeigh d q.decl × IsInProfile q.selector × IsAt w.items.now place q × (k ≡ specificity_of q.selector)
 Faces w d (facing.Kept i) = (k : IsKeptIn w i) × ((p : Pair) → p.decl ≡ d → WeighsKept p k.item)
+
+-- a pair of a specificity may weigh with what it faces
+abbrev pub MayWeigh : Specificity → Facing → Type 0
+MayWeigh k (facing.Pair q place other) = k ≡ other
+MayWeigh k (facing.Kept i) = Unit {0}
 
 -- what a pair and what it faces may be
 abbrev pub hindrance_of : List Item → Facing → Pair → Hindrance
-hindrance_of list (facing.Pair q place) p = OfPair p q
+hindrance_of list (facing.Pair q place k) p = OfPair p q
 hindrance_of list (facing.Kept i) p = OfKept p (kept_before i list)
 
 -- what a pair faces, by its place
 abbrev pub other_of : Facing → Other
-other_of (facing.Pair q place) = others.Pair place
+other_of (facing.Pair q place k) = others.Pair place
 other_of (facing.Kept i) = others.Kept i
 
 -- ---- What is looked at, the innermost first
@@ -95,10 +112,11 @@ abbrev pub with_masks : ℕ → List ℕ → ℕ
 with_masks mask [] = mask
 with_masks mask (m ∷ ms) = with_masks (bit_or mask m) ms
 
--- the masks of a rule are those of its declarations whose pairs are moved
+-- the masks of a rule are those of its declarations whose pairs are moved, and it has the specificities of its selectors
 pub record IsMasked (s : Source) : Type 0 where
   pub masks : s.masks.items ≡ map (mask_in s.with) s.rule.now.decls
   pub mask : s.mask ≡ with_masks 0 s.masks.items
+  pub specificities : s.specificities.items ≡ specificities_of s.rule.now.selectors
 
 abbrev pub AreMasked : List Source → Type 0
 AreMasked sources = (s : Source) → Contains sources s → IsMasked s

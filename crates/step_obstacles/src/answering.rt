@@ -1,20 +1,20 @@
 //! Whether a moved pair and what it faces block.
 
 ghost use Rattle.std.specs.Prelude.{◌≡◌, IfOk, IfSome};
+ghost use Rattle.css_model.specs.Documents.Specificity.{specificity_of};
 ghost use Rattle.css_model.specs.Selectors.Profile.{IsInProfile};
 ghost use Rattle.sheet_order.specs.Allowing.{Stays};
 ghost use Rattle.sheet_order.specs.Laws.{is_apart};
 ghost use Rattle.step_obstacles.specs.Blocked.{AreAnswered, IsTold};
-ghost use Rattle.step_obstacles.specs.Turns.{Faces, hindrance_of};
+ghost use Rattle.step_obstacles.specs.Turns.{Faces, MayWeigh, hindrance_of};
 ghost use Rattle.wall_laws.specs.Holding.{OfPair};
 ghost use Rattle.window_order.specs.Weighing.{DeclsWeigh};
 
 use crate::facing::Facing;
 use css_model::Selector;
 use overlap::{Answer, Pairs};
-use profile_laws::profile_keeps_the_limits;
 use std::alloc::AllocError;
-use window_order::{PairRef, Window, same_specificity};
+use window_order::{PairRef, Window};
 
 /// Whether an answer says that the selectors are apart.
 fn says_apart(answer: &Answer) -> bool
@@ -64,7 +64,7 @@ fn told_apart(
     }
 }
 
-/// Whether two pairs block whose declarations weigh. Their selectors are asked for only where they are reversed.
+/// Whether two pairs block that weigh. Their selectors are asked for only where they are reversed.
 #[tactic(auto, using(crate::proofs::HeldAnswers::stays_itself))]
 fn pairs_block(
     pairs: &mut Pairs,
@@ -73,15 +73,12 @@ fn pairs_block(
     q: &PairRef<'_>,
 ) -> Result<bool, AllocError>
     requires weigh { DeclsWeigh p.now.decl q.now.decl }
+    requires specificity { specificity_of p.now.selector ≡ specificity_of q.now.selector }
     requires first { IsInProfile p.now.selector }
     requires second { IsInProfile q.now.selector }
     ensures stays { Stays pairs.old pairs.new }
     ensures told { IfOk result (λ b. IsTold pairs.new.answers window.now (OfPair p.now q.now) b) }
 {
-    profile_keeps_the_limits();
-    if !same_specificity(p.selector, q.selector) {
-        return Ok(false);
-    }
     let held = held_apart(pairs, p.selector, q.selector);
     if let Some(true) = held {
         return Ok(false);
@@ -101,12 +98,13 @@ pub(crate) fn blocks(
     facing: &Facing<'_>,
 ) -> Result<bool, AllocError>
     requires faces { Faces window.now p.now.decl facing.now }
+    requires specificity { MayWeigh (specificity_of p.now.selector) facing.now }
     requires profile { IsInProfile p.now.selector }
     ensures stays { Stays pairs.old pairs.new }
     ensures told { IfOk result (λ b. IsTold pairs.new.answers window.now (hindrance_of window.now.items.now facing.now p.now) b) }
 {
     match facing {
-        Facing::Pair(q, _) => pairs_block(pairs, window, p, q),
+        Facing::Pair(q, _, _) => pairs_block(pairs, window, p, q),
         Facing::Kept(number) => Ok(window.is_kept_reversed(p, *number as usize)),
     }
 }

@@ -1,9 +1,9 @@
 //! What a moved pair is looked at with.
 
-ghost use Rattle.std.specs.Prelude.{◌≡◌};
-ghost use Rattle.step_obstacles.specs.Turns.{other_of};
+ghost use Rattle.std.specs.Prelude.{◌≡◌, ◌↔◌, IsTrue};
+ghost use Rattle.step_obstacles.specs.Turns.{MayWeigh, other_of};
 
-use css_model::{Decl, Item, Rule};
+use css_model::{Decl, Item, Rule, Specificity};
 use obstacles::{Other, PairPlace};
 use window_order::PairRef;
 
@@ -22,6 +22,15 @@ pub(crate) struct DeclAt<'a> {
     pub(crate) mask: u64,
 }
 
+/// A declaration of a rule of a sheet, whose pairs are moved.
+#[derive(Clone, Copy)]
+pub(crate) struct MovedDecl<'a> {
+    /// Where it stands.
+    pub(crate) at: DeclAt<'a>,
+    /// The specificities of the rule's selectors, by their numbers.
+    pub(crate) specificities: &'a [Specificity],
+}
+
 /// A rule of a sheet whose pairs are moved: all, or those of the declarations that stand in another rule too.
 #[derive(Drop)]
 pub(crate) struct Source<'a> {
@@ -35,6 +44,8 @@ pub(crate) struct Source<'a> {
     pub(crate) masks: Vec<u64>,
     /// The bits of these masks.
     pub(crate) mask: u64,
+    /// The specificities of its selectors, by their numbers.
+    pub(crate) specificities: Vec<Specificity>,
 }
 
 /// An item of a sheet that is looked at.
@@ -50,20 +61,30 @@ pub(crate) struct Met<'a> {
     pub(crate) masks: &'a [u64],
 }
 
-/// Another pair with its place, or the kept item of this number.
+/// Another pair with its place and the specificity of its selector, or the kept item of this number.
 #[derive(Drop)]
 pub(crate) enum Facing<'a> {
-    Pair(PairRef<'a>, PairPlace),
+    Pair(PairRef<'a>, PairPlace, Specificity),
     Kept(u32),
 }
 
 impl<'a> Facing<'a> {
+    /// Whether a pair of this specificity may weigh with it.
+    pub(crate) fn may_weigh(&self, specificity: Specificity) -> bool
+        ensures { IsTrue result ↔ MayWeigh specificity self.now }
+    {
+        match self {
+            Facing::Pair(_, _, other) => specificity == *other,
+            Facing::Kept(_) => true,
+        }
+    }
+
     /// The same, by its place.
     pub(crate) fn other(&self) -> Other
         ensures { result ≡ other_of self.now }
     {
         match self {
-            Facing::Pair(_, place) => Other::Pair(*place),
+            Facing::Pair(_, place, _) => Other::Pair(*place),
             Facing::Kept(number) => Other::Kept(*number),
         }
     }

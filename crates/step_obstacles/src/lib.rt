@@ -9,6 +9,7 @@ mod left_parts;
 mod pair_obstacles;
 mod rule_parts;
 mod searching;
+mod specificities;
 mod step_search;
 mod window_search;
 

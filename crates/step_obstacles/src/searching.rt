@@ -13,8 +13,9 @@ ghost use Rattle.window_order.specs.Weighing.{DeclsWeigh};
 
 use crate::answering::blocks;
 use crate::decl_masks::{mask_at, masks_in};
-use crate::facing::{DeclAt, Facing, Met, Source};
+use crate::facing::{DeclAt, Facing, Met, MovedDecl, Source};
 use crate::rule_parts::{decl_count, decl_of, selector_count, selector_of};
+use crate::specificities::{specificity_at, specificity_in_profile};
 use css_model::{Decl, Item, Rule};
 use obstacles::{Obstacle, PairPlace};
 use overlap::Pairs;
@@ -37,28 +38,31 @@ fn named(moved: &DeclAt<'_>, number: u32, facing: &Facing<'_>) -> Obstacle
     }
 }
 
-/// Of the selector of this number.
+/// Of the selector of this number, which is passed over where its specificity is not that of what it faces.
 fn of_selector(
     pairs: &mut Pairs,
     window: &Window<'_>,
-    moved: &DeclAt<'_>,
+    moved: &MovedDecl<'_>,
     facing: &Facing<'_>,
     number: u32,
 ) -> Result<Option<Obstacle>, AllocError>
     requires askable { turns.IsAskable window.now.items.now }
-    requires moved { turns.IsDeclAt window.now.items.now moved.now }
-    requires faces { turns.Faces window.now moved.now.decl.now facing.now }
-    requires number { (x : declared_selector.SelItem) × (slice_get moved.now.rule.now.selectors number ≡ Some x) }
+    requires moved { turns.IsMovedDecl window.now.items.now moved.now }
+    requires faces { turns.Faces window.now moved.now.at.decl.now facing.now }
+    requires number { (x : declared_selector.SelItem) × (slice_get moved.now.at.rule.now.selectors number ≡ Some x) }
     ensures stays { Stays pairs.old pairs.new }
-    ensures told { IfOk result (λ found. (x : declared_selector.SelItem) → slice_get moved.now.rule.now.selectors number ≡ Some x →
-        IsToldOf pairs.new.answers window.now (λ by. by ≡ turns.hindrance_of window.now.items.now facing.now (turns.pair_of x moved.now.decl.now)) found) }
+    ensures told { IfOk result (λ found. (x : declared_selector.SelItem) → slice_get moved.now.at.rule.now.selectors number ≡ Some x →
+        IsToldOf pairs.new.answers window.now (λ by. by ≡ turns.hindrance_of window.now.items.now facing.now (turns.pair_of x moved.now.at.decl.now)) found) }
 {
+    if !facing.may_weigh(specificity_at(moved.specificities, number)) {
+        return Ok(None);
+    }
     let p = PairRef {
-        selector: selector_of(moved.rule, number),
-        decl: moved.decl,
+        selector: selector_of(moved.at.rule, number),
+        decl: moved.at.decl,
     };
     if blocks(pairs, window, &p, facing)? {
-        return Ok(Some(named(moved, number, facing)));
+        return Ok(Some(named(&moved.at, number, facing)));
     }
     Ok(None)
 }
@@ -67,17 +71,17 @@ fn of_selector(
 fn of_selectors(
     pairs: &mut Pairs,
     window: &Window<'_>,
-    moved: &DeclAt<'_>,
+    moved: &MovedDecl<'_>,
     facing: &Facing<'_>,
 ) -> Result<Option<Obstacle>, AllocError>
     requires askable { turns.IsAskable window.now.items.now }
-    requires moved { turns.IsDeclAt window.now.items.now moved.now }
-    requires faces { turns.Faces window.now moved.now.decl.now facing.now }
+    requires moved { turns.IsMovedDecl window.now.items.now moved.now }
+    requires faces { turns.Faces window.now moved.now.at.decl.now facing.now }
     ensures stays { Stays pairs.old pairs.new }
     ensures told { IfOk result (λ found. IsToldOf pairs.new.answers window.now
-        (Among moved.now.rule.now.selectors (λ x by. by ≡ turns.hindrance_of window.now.items.now facing.now (turns.pair_of x moved.now.decl.now))) found) }
+        (Among moved.now.at.rule.now.selectors (λ x by. by ≡ turns.hindrance_of window.now.items.now facing.now (turns.pair_of x moved.now.at.decl.now))) found) }
 {
-    let count = selector_count(moved.rule);
+    let count = selector_count(moved.at.rule);
     for number in 0..count {
         if let Some(found) = of_selector(pairs, window, moved, facing, number)? {
             return Ok(Some(found));
@@ -90,18 +94,18 @@ fn of_selectors(
 fn with_selector(
     pairs: &mut Pairs,
     window: &Window<'_>,
-    moved: &DeclAt<'_>,
+    moved: &MovedDecl<'_>,
     other: &DeclAt<'_>,
     number: u32,
 ) -> Result<Option<Obstacle>, AllocError>
     requires askable { turns.IsAskable window.now.items.now }
-    requires moved { turns.IsDeclAt window.now.items.now moved.now }
+    requires moved { turns.IsMovedDecl window.now.items.now moved.now }
     requires other { turns.IsDeclAt window.now.items.now other.now }
-    requires weigh { DeclsWeigh moved.now.decl.now other.now.decl.now }
+    requires weigh { DeclsWeigh moved.now.at.decl.now other.now.decl.now }
     requires number { (y : declared_selector.SelItem) × (slice_get other.now.rule.now.selectors number ≡ Some y) }
     ensures stays { Stays pairs.old pairs.new }
     ensures told { IfOk result (λ found. (y : declared_selector.SelItem) → slice_get other.now.rule.now.selectors number ≡ Some y →
-        IsToldOf pairs.new.answers window.now (turns.OfSelectors moved.now.rule.now moved.now.decl.now (λ p. OfPair p (turns.pair_of y other.now.decl.now))) found) }
+        IsToldOf pairs.new.answers window.now (turns.OfSelectors moved.now.at.rule.now moved.now.at.decl.now (λ p. OfPair p (turns.pair_of y other.now.decl.now))) found) }
 {
     let q = PairRef {
         selector: selector_of(other.rule, number),
@@ -112,23 +116,24 @@ fn with_selector(
         sel: number,
         decl: other.number,
     };
-    of_selectors(pairs, window, moved, &Facing::Pair(q, place))
+    let specificity = specificity_in_profile(q.selector);
+    of_selectors(pairs, window, moved, &Facing::Pair(q, place, specificity))
 }
 
 /// With the pairs of another declaration, which weighs.
 fn with_decl(
     pairs: &mut Pairs,
     window: &Window<'_>,
-    moved: &DeclAt<'_>,
+    moved: &MovedDecl<'_>,
     other: &DeclAt<'_>,
 ) -> Result<Option<Obstacle>, AllocError>
     requires askable { turns.IsAskable window.now.items.now }
-    requires moved { turns.IsDeclAt window.now.items.now moved.now }
+    requires moved { turns.IsMovedDecl window.now.items.now moved.now }
     requires other { turns.IsDeclAt window.now.items.now other.now }
-    requires weigh { DeclsWeigh moved.now.decl.now other.now.decl.now }
+    requires weigh { DeclsWeigh moved.now.at.decl.now other.now.decl.now }
     ensures stays { Stays pairs.old pairs.new }
     ensures told { IfOk result (λ found. IsToldOf pairs.new.answers window.now
-        (turns.OfOther moved.now.rule.now moved.now.decl.now other.now.rule.now other.now.decl.now) found) }
+        (turns.OfOther moved.now.at.rule.now moved.now.at.decl.now other.now.rule.now other.now.decl.now) found) }
 {
     let count = selector_count(other.rule);
     for number in 0..count {
@@ -169,17 +174,17 @@ fn weigh(moved: &DeclAt<'_>, other: &DeclAt<'_>) -> bool
 fn with_other(
     pairs: &mut Pairs,
     window: &Window<'_>,
-    moved: &DeclAt<'_>,
+    moved: &MovedDecl<'_>,
     other: &DeclAt<'_>,
 ) -> Result<Option<Obstacle>, AllocError>
     requires askable { turns.IsAskable window.now.items.now }
-    requires moved { turns.IsDeclAt window.now.items.now moved.now }
+    requires moved { turns.IsMovedDecl window.now.items.now moved.now }
     requires other { turns.IsDeclAt window.now.items.now other.now }
     ensures stays { Stays pairs.old pairs.new }
     ensures told { IfOk result (λ found. IsToldOf pairs.new.answers window.now
-        (turns.OfOther moved.now.rule.now moved.now.decl.now other.now.rule.now other.now.decl.now) found) }
+        (turns.OfOther moved.now.at.rule.now moved.now.at.decl.now other.now.rule.now other.now.decl.now) found) }
 {
-    if weigh(moved, other) {
+    if weigh(&moved.at, other) {
         with_decl(pairs, window, moved, other)
     } else {
         Ok(None)
@@ -190,20 +195,20 @@ fn with_other(
 fn with_number(
     pairs: &mut Pairs,
     window: &Window<'_>,
-    moved: &DeclAt<'_>,
+    moved: &MovedDecl<'_>,
     rule: &Rule,
     masks: &[u64],
     item: u32,
     number: u32,
 ) -> Result<Option<Obstacle>, AllocError>
     requires askable { turns.IsAskable window.now.items.now }
-    requires moved { turns.IsDeclAt window.now.items.now moved.now }
+    requires moved { turns.IsMovedDecl window.now.items.now moved.now }
     requires rule { turns.IsRuleAt window.now.items.now item rule.now }
     requires masks { masks.now ≡ map (turns.mask_in None) rule.now.decls }
     requires number { (g : declared_decl.DeclItem) × (slice_get rule.now.decls number ≡ Some g) }
     ensures stays { Stays pairs.old pairs.new }
     ensures told { IfOk result (λ found. (g : declared_decl.DeclItem) → slice_get rule.now.decls number ≡ Some g →
-        IsToldOf pairs.new.answers window.now (turns.OfOther moved.now.rule.now moved.now.decl.now rule.now g.decl) found) }
+        IsToldOf pairs.new.answers window.now (turns.OfOther moved.now.at.rule.now moved.now.at.decl.now rule.now g.decl) found) }
 {
     let other = DeclAt {
         item,
@@ -219,18 +224,18 @@ fn with_number(
 fn with_rule(
     pairs: &mut Pairs,
     window: &Window<'_>,
-    moved: &DeclAt<'_>,
+    moved: &MovedDecl<'_>,
     rule: &Rule,
     masks: &[u64],
     item: u32,
 ) -> Result<Option<Obstacle>, AllocError>
     requires askable { turns.IsAskable window.now.items.now }
-    requires moved { turns.IsDeclAt window.now.items.now moved.now }
+    requires moved { turns.IsMovedDecl window.now.items.now moved.now }
     requires rule { turns.IsRuleAt window.now.items.now item rule.now }
     requires masks { masks.now ≡ map (turns.mask_in None) rule.now.decls }
     ensures stays { Stays pairs.old pairs.new }
     ensures told { IfOk result (λ found. IsToldOf pairs.new.answers window.now
-        (turns.OfRule moved.now.rule.now moved.now.decl.now rule.now) found) }
+        (turns.OfRule moved.now.at.rule.now moved.now.at.decl.now rule.now) found) }
 {
     let count = decl_count(rule);
     for number in 0..count {
@@ -245,18 +250,18 @@ fn with_rule(
 fn with_kept(
     pairs: &mut Pairs,
     window: &Window<'_>,
-    moved: &DeclAt<'_>,
+    moved: &MovedDecl<'_>,
     item: &Item,
     number: u32,
 ) -> Result<Option<Obstacle>, AllocError>
     requires askable { turns.IsAskable window.now.items.now }
-    requires moved { turns.IsDeclAt window.now.items.now moved.now }
+    requires moved { turns.IsMovedDecl window.now.items.now moved.now }
     requires item { turns.IsKeptHere window.now number item.now }
     ensures stays { Stays pairs.old pairs.new }
     ensures told { IfOk result (λ found. IsToldOf pairs.new.answers window.now
-        (turns.OfSelectors moved.now.rule.now moved.now.decl.now (turns.with_kept window.now.items.now number)) found) }
+        (turns.OfSelectors moved.now.at.rule.now moved.now.at.decl.now (turns.with_kept window.now.items.now number)) found) }
 {
-    if weighs_kept(moved.decl, item) {
+    if weighs_kept(moved.at.decl, item) {
         of_selectors(pairs, window, moved, &Facing::Kept(number))
     } else {
         Ok(None)
@@ -267,15 +272,15 @@ fn with_kept(
 fn with_item(
     pairs: &mut Pairs,
     window: &Window<'_>,
-    moved: &DeclAt<'_>,
+    moved: &MovedDecl<'_>,
     met: &Met<'_>,
 ) -> Result<Option<Obstacle>, AllocError>
     requires askable { turns.IsAskable window.now.items.now }
-    requires moved { turns.IsDeclAt window.now.items.now moved.now }
+    requires moved { turns.IsMovedDecl window.now.items.now moved.now }
     requires met { turns.IsMet window.now met.now }
     ensures stays { Stays pairs.old pairs.new }
     ensures told { IfOk result (λ found. IsToldOf pairs.new.answers window.now
-        (turns.OfItem moved.now.rule.now moved.now.decl.now window.now.items.now met.now.number met.now.item.now) found) }
+        (turns.OfItem moved.now.at.rule.now moved.now.at.decl.now window.now.items.now met.now.number met.now.item.now) found) }
 {
     match met.item {
         Item::Rule(rule) => with_rule(pairs, window, moved, rule, met.masks, met.number),
@@ -316,12 +321,16 @@ fn of_decl(
     if mask & met.mask == 0 {
         return Ok(None);
     }
-    let moved = DeclAt {
+    let at = DeclAt {
         item: source.item,
         rule: source.rule,
         number: part,
         decl: decl_of(source.rule, part),
         mask,
+    };
+    let moved = MovedDecl {
+        at,
+        specificities: &source.specificities,
     };
     with_item(pairs, window, &moved, met)
 }

@@ -20,6 +20,7 @@ ghost use Rattle.window_laws.specs.StepWindows as windows;
 use crate::decl_masks::{bits_of, masks_of};
 use crate::facing::Source;
 use crate::left_parts::left_by;
+use crate::specificities::specificities_of;
 use crate::window_search::in_window;
 use css_model::Sheet;
 use obstacles::Obstacle;
@@ -71,7 +72,8 @@ pub fn window_of<'a>(sheet: &'a Sheet, masks: &'a [u64], step: &Step) -> Window<
 
 /// All pairs of the rule of this number. The error comes where memory is short.
 fn whole(alloc: Global, sheet: &Sheet, item: u32) -> Result<Source<'_>, AllocError>
-    requires { (r : RuleParts) × (slice_get sheet.now.items item ≡ Some (kinds.Rule r)) }
+    requires askable { turns.IsAskable sheet.now.items }
+    requires rule { (r : RuleParts) × (slice_get sheet.now.items item ≡ Some (kinds.Rule r)) }
     ensures item { IfOk result (λ s. s.item ≡ item) }
     ensures with { IfOk result (λ s. s.with ≡ None) }
     ensures rule { IfOk result (λ s. slice_get sheet.now.items item ≡ Some (kinds.Rule s.rule.now)) }
@@ -80,18 +82,21 @@ fn whole(alloc: Global, sheet: &Sheet, item: u32) -> Result<Source<'_>, AllocErr
     let rule = rule_at(sheet, item);
     let masks = masks_of(alloc, &rule.decls, None)?;
     let mask = bits_of(&masks);
+    let specificities = specificities_of(alloc, &rule.selectors)?;
     Ok(Source {
         item,
         rule,
         with: None,
         masks,
         mask,
+        specificities,
     })
 }
 
 /// The pairs of the rule of this number whose declarations stand in another rule too. The error comes where memory is
 /// short.
 fn common(alloc: Global, sheet: &Sheet, item: u32, other: u32) -> Result<Source<'_>, AllocError>
+    requires askable { turns.IsAskable sheet.now.items }
     requires rule { (r : RuleParts) × (slice_get sheet.now.items item ≡ Some (kinds.Rule r)) }
     requires other { (r : RuleParts) × (slice_get sheet.now.items other ≡ Some (kinds.Rule r)) }
     ensures item { IfOk result (λ s. s.item ≡ item) }
@@ -104,12 +109,14 @@ fn common(alloc: Global, sheet: &Sheet, item: u32, other: u32) -> Result<Source<
     let with = rule_at(sheet, other);
     let masks = masks_of(alloc, &rule.decls, Some(with))?;
     let mask = bits_of(&masks);
+    let specificities = specificities_of(alloc, &rule.selectors)?;
     Ok(Source {
         item,
         rule,
         with: Some(with),
         masks,
         mask,
+        specificities,
     })
 }
 

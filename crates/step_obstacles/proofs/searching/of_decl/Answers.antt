@@ -19,7 +19,10 @@ with_item-requires-clause-moved c =
     let x = c.requires.part in
     let counts = decl_counts c.args.window.now c.args.met.now c.args.source.now c.args.part c.own_mask-mask.result c.requires.met c.requires.masked c.own_mask-mask.ensures c.if-mask-met-eq0.false x.0 x.1 in
     let same = c.decl_of.ensures x.0 x.1 in
-    record { item = x.0; rule_at = c.requires.source; decl_at = x.1; is = sym same; masked = counts.1 ∙ ap decl_mask (sym same) }
+    record {
+      at = record { item = x.0; rule_at = c.requires.source; decl_at = x.1; is = sym same; masked = counts.1 ∙ ap decl_mask (sym same) };
+      specificities = c.deref.ensures.value ∙ c.requires.masked.specificities;
+    }
 
 pub returns-clause-told : goal.returns-clause-told
 returns-clause-told c =

@@ -1,21 +1,52 @@
-use Rattle.std.proofs.Common.{Bool, subst}
-use Rattle.step_obstacles.proofs.Named.{blocks_named, in_profile, pair, passes_named}
+use Rattle.std.proofs.Common.{◌≡◌, ℕ, Bool, List, Some, sym, ap, ◌∙◌, subst}
+use Rattle.std.specs.Prelude.{slice_get}
+use Rattle.std.proofs.lemmas.Bool.{false≢true}
+use Rattle.cascade_laws.proofs.ForCallers.{some-same}
+use Rattle.css_model.specs.declared.selector.Specificity.{Specificity}
+use Rattle.css_model.specs.declared.sheet.SelItem.{SelItem}
+use Rattle.css_model.specs.Documents.Specificity.{specificity_of}
+use Rattle.step_obstacles.proofs.Masked.{at_map}
+use Rattle.step_obstacles.proofs.Named.{blocks_named, in_profile, pair, passes_named, passes_unlike}
 use Rattle.step_obstacles.proofs.searching.of_selector.Goals as goal
 use Rattle.step_obstacles.specs.Blocked.{IsTold}
-use Rattle.step_obstacles.specs.Turns.{hindrance_of}
+use Rattle.step_obstacles.specs.Turns.{MayWeigh, hindrance_of, specificities_of}
 
-pub returns-then-branch-clause-told : goal.returns-then-branch-clause-told
-returns-then-branch-clause-told c = λ x at.
-    blocks_named c.args.window.now c.args.moved.now c.args.number x c.requires.moved at c.blocks-2.new.pairs.answers c.args.facing.now c.requires.faces c.selector_of.result.now (c.selector_of.ensures x at)
-    (subst (λ (b : Bool). IsTold c.blocks-2.new.pairs.answers c.args.window.now (hindrance_of c.args.window.now.items.now c.args.facing.now (pair c.selector_of.result.now c.args.moved.now.decl.now)) b) c.if-branch.true c.in_ok-blocks.ensures.told)
-    c.named.result c.named.ensures
+-- the specificity of a number is that of the selector of this number
+specificity_there : (list : List Specificity) (selectors : List SelItem) (n : ℕ) (x : SelItem) → list ≡ specificities_of selectors → slice_get selectors n ≡ Some x → slice_get list n ≡ Some (specificity_of x.selector)
+specificity_there list selectors n x is at = at_map (λ (y : SelItem). specificity_of y.selector) selectors list n x is at
 
-pub returns-clause-told : goal.returns-clause-told
-returns-clause-told c = λ x at.
-    passes_named c.args.window.now c.args.moved.now c.args.number x c.requires.moved at c.blocks-2.new.pairs.answers c.args.facing.now c.selector_of.result.now (c.selector_of.ensures x at)
-    (subst (λ (b : Bool). IsTold c.blocks-2.new.pairs.answers c.args.window.now (hindrance_of c.args.window.now.items.now c.args.facing.now (pair c.selector_of.result.now c.args.moved.now.decl.now)) b) c.if-branch.false c.in_ok-blocks.ensures.told)
+specificity_is : (list : List Specificity) (selectors : List SelItem) (n : ℕ) (x : SelItem) → list ≡ specificities_of selectors → slice_get selectors n ≡ Some x → (k : Specificity) → slice_get list n ≡ Some k → k ≡ specificity_of x.selector
+specificity_is list selectors n x is at k k_at = some-same (sym k_at ∙ specificity_there list selectors n x is at)
+
+pub specificity_at-requires : goal.specificity_at-requires
+specificity_at-requires c =
+    let x = c.requires.number in
+    (specificity_of x.0.selector, specificity_there c.args.moved.now.specificities.now c.args.moved.now.at.rule.now.selectors c.args.number x.0 c.requires.moved.specificities x.1)
+
+pub returns-then-not-may_weigh-clause-told : goal.returns-then-not-may_weigh-clause-told
+returns-then-not-may_weigh-clause-told c = λ x at.
+    let k_is = specificity_is c.args.moved.now.specificities.now c.args.moved.now.at.rule.now.selectors c.args.number x c.requires.moved.specificities at c.specificity_at.result c.specificity_at.ensures in
+    passes_unlike c.args.window.now c.args.moved.now.at c.args.number x c.requires.moved.at at c.args.pairs.now.answers c.args.facing.now c.requires.faces c.specificity_at.result k_is
+    (λ h. false≢true (sym c.if-not-may_weigh.true ∙ c.may_weigh.ensures.1 h))
+
+pub blocks-requires-clause-specificity : goal.blocks-requires-clause-specificity
+blocks-requires-clause-specificity c =
+    let x = c.requires.number in
+    let k_is = specificity_is c.args.moved.now.specificities.now c.args.moved.now.at.rule.now.selectors c.args.number x.0 c.requires.moved.specificities x.1 c.specificity_at.result c.specificity_at.ensures in
+    subst (λ (k : Specificity). MayWeigh k c.args.facing.now) (k_is ∙ sym (ap specificity_of (c.selector_of.ensures x.0 x.1))) (c.may_weigh.ensures.0 c.if-not-may_weigh.false)
 
 pub blocks-requires-clause-profile : goal.blocks-requires-clause-profile
 blocks-requires-clause-profile c =
     let x = c.requires.number in
-    in_profile c.args.window.now c.args.moved.now c.args.number x.0 c.requires.moved x.1 c.requires.askable c.selector_of.result.now (c.selector_of.ensures x.0 x.1)
+    in_profile c.args.window.now c.args.moved.now.at c.args.number x.0 c.requires.moved.at x.1 c.requires.askable c.selector_of.result.now (c.selector_of.ensures x.0 x.1)
+
+pub returns-then-branch-clause-told : goal.returns-then-branch-clause-told
+returns-then-branch-clause-told c = λ x at.
+    blocks_named c.args.window.now c.args.moved.now.at c.args.number x c.requires.moved.at at c.blocks-2.new.pairs.answers c.args.facing.now c.requires.faces c.selector_of.result.now (c.selector_of.ensures x at)
+    (subst (λ (b : Bool). IsTold c.blocks-2.new.pairs.answers c.args.window.now (hindrance_of c.args.window.now.items.now c.args.facing.now (pair c.selector_of.result.now c.args.moved.now.at.decl.now)) b) c.if-branch.true c.in_ok-blocks.ensures.told)
+    c.named.result c.named.ensures
+
+pub returns-clause-told : goal.returns-clause-told
+returns-clause-told c = λ x at.
+    passes_named c.args.window.now c.args.moved.now.at c.args.number x c.requires.moved.at at c.blocks-2.new.pairs.answers c.args.facing.now c.selector_of.result.now (c.selector_of.ensures x at)
+    (subst (λ (b : Bool). IsTold c.blocks-2.new.pairs.answers c.args.window.now (hindrance_of c.args.window.now.items.now c.args.facing.now (pair c.selector_of.result.now c.args.moved.now.at.decl.now)) b) c.if-branch.false c.in_ok-blocks.ensures.told)

@@ -8,23 +8,23 @@ pub of_selector-requires-clause-number : goal.of_selector-requires-clause-number
 of_selector-requires-clause-number c =
     let count = c.selector_count-count.ensures in
     let less = c.loop-number-test.true in
-    let at = at_least c.args.moved.now.rule.now.selectors c.loop-number.number (omega (arith, count, less)) in
+    let at = at_least c.args.moved.now.at.rule.now.selectors c.loop-number.number (omega (arith, count, less)) in
     (at.0, at.1)
 
 pub returns-in-Some-clause-told : goal.returns-in-Some-clause-told
 returns-in-Some-clause-told c =
     let count = c.selector_count-count.ensures in
     let less = c.loop-number-test.true in
-    found_some c.args.window.now c.args.moved.now.rule.now.selectors (λ x by. by ≡ hindrance_of c.args.window.now.items.now c.args.facing.now (pair_of x c.args.moved.now.decl.now)) c.of_selector.new.pairs.answers c.loop-number.number c.in_ok-found.field-0 c.in-Some.found c.in-Some.is (omega (arith, count, less)) c.in_ok-found.ensures.told
+    found_some c.args.window.now c.args.moved.now.at.rule.now.selectors (λ x by. by ≡ hindrance_of c.args.window.now.items.now c.args.facing.now (pair_of x c.args.moved.now.at.decl.now)) c.of_selector.new.pairs.answers c.loop-number.number c.in_ok-found.field-0 c.in-Some.found c.in-Some.is (omega (arith, count, less)) c.in_ok-found.ensures.told
 
 pub loop-number-preserved : goal.loop-number-preserved
 loop-number-preserved c = record {
   stays = stays_on c.args.pairs.now c.loop-number.pairs c.of_selector.new.pairs c.loop-number.invariant.stays c.of_selector.ensures.stays;
-  pass = one_more_none c.args.window.now c.args.moved.now.rule.now.selectors (λ x by. by ≡ hindrance_of c.args.window.now.items.now c.args.facing.now (pair_of x c.args.moved.now.decl.now)) c.loop-number.pairs c.of_selector.new.pairs c.loop-number.number c.in_ok-found.field-0 c.in_default.is c.of_selector.ensures.stays c.loop-number.invariant.pass c.in_ok-found.ensures.told;
+  pass = one_more_none c.args.window.now c.args.moved.now.at.rule.now.selectors (λ x by. by ≡ hindrance_of c.args.window.now.items.now c.args.facing.now (pair_of x c.args.moved.now.at.decl.now)) c.loop-number.pairs c.of_selector.new.pairs c.loop-number.number c.in_ok-found.field-0 c.in_default.is c.of_selector.ensures.stays c.loop-number.invariant.pass c.in_ok-found.ensures.told;
 }
 
 pub returns-clause-told : goal.returns-clause-told
 returns-clause-told c =
     let count = c.selector_count-count.ensures in
     let more = c.loop-number-test.false in
-    all_done c.args.window.now c.args.moved.now.rule.now.selectors (λ x by. by ≡ hindrance_of c.args.window.now.items.now c.args.facing.now (pair_of x c.args.moved.now.decl.now)) c.loop-number.pairs.answers c.loop-number.number (omega (arith, count, more)) c.loop-number.invariant.pass
+    all_done c.args.window.now c.args.moved.now.at.rule.now.selectors (λ x by. by ≡ hindrance_of c.args.window.now.items.now c.args.facing.now (pair_of x c.args.moved.now.at.decl.now)) c.loop-number.pairs.answers c.loop-number.number (omega (arith, count, more)) c.loop-number.invariant.pass

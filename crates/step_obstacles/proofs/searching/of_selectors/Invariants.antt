@@ -9,5 +9,5 @@ use Rattle.step_obstacles.specs.Turns.{hindrance_of, pair_of}
 abbrev pub invariant-loop-number : goal.invariant-loop-number
 invariant-loop-number l = record {
   stays : Stays l.fn.pairs l.pairs;
-  pass : AllPass l.pairs.answers l.window (Among (take l.number l.moved.rule.now.selectors) (λ x by. by ≡ hindrance_of l.window.items.now l.facing (pair_of x l.moved.decl.now)));
+  pass : AllPass l.pairs.answers l.window (Among (take l.number l.moved.at.rule.now.selectors) (λ x by. by ≡ hindrance_of l.window.items.now l.facing (pair_of x l.moved.at.decl.now)));
 }

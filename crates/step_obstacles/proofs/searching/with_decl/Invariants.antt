@@ -10,5 +10,5 @@ use Rattle.wall_laws.specs.Holding.{OfPair}
 abbrev pub invariant-loop-number : goal.invariant-loop-number
 invariant-loop-number l = record {
   stays : Stays l.fn.pairs l.pairs;
-  pass : AllPass l.pairs.answers l.window (Among (take l.number l.other.rule.now.selectors) (λ y by. OfSelectors l.moved.rule.now l.moved.decl.now (λ p. OfPair p (pair_of y l.other.decl.now)) by));
+  pass : AllPass l.pairs.answers l.window (Among (take l.number l.other.rule.now.selectors) (λ y by. OfSelectors l.moved.at.rule.now l.moved.at.decl.now (λ p. OfPair p (pair_of y l.other.decl.now)) by));
 }

@@ -11,5 +11,5 @@ of_selectors-requires-clause-faces c = (
 
 pub returns-else-weighs_kept-clause-told : goal.returns-else-weighs_kept-clause-told
 returns-else-weighs_kept-clause-told c =
-    kept_light c.args.pairs.now.answers c.args.window.now c.args.number c.args.item.now c.requires.item.0.item_at c.requires.item.1 c.args.moved.now.rule.now c.args.moved.now.decl.now
+    kept_light c.args.pairs.now.answers c.args.window.now c.args.number c.args.item.now c.requires.item.0.item_at c.requires.item.1 c.args.moved.now.at.rule.now c.args.moved.now.at.decl.now
     (λ p e h. false≢true (sym c.if-weighs_kept.false ∙ (c.weighs_kept.ensures p e).1 h))

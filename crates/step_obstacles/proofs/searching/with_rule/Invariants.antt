@@ -9,5 +9,5 @@ use Rattle.step_obstacles.specs.Turns.{OfOther}
 abbrev pub invariant-loop-number : goal.invariant-loop-number
 invariant-loop-number l = record {
   stays : Stays l.fn.pairs l.pairs;
-  pass : AllPass l.pairs.answers l.window (Among (take l.number l.rule.decls) (λ g by. OfOther l.moved.rule.now l.moved.decl.now l.rule g.decl by));
+  pass : AllPass l.pairs.answers l.window (Among (take l.number l.rule.decls) (λ g by. OfOther l.moved.at.rule.now l.moved.at.decl.now l.rule g.decl by));
 }
