@@ -3,9 +3,9 @@
 ghost use Rattle.std.specs.Prelude.{◌≡◌, true, IfNone, IfOk, IfSome, None, Some, map, slice_get};
 ghost use Rattle.css_model.specs.declared.sheet.Item.TheVariants as kinds;
 ghost use Rattle.css_model.specs.Sheets.RuleParts.{RuleParts};
+ghost use Rattle.item_masks.specs.Masks.{item_mask};
 ghost use Rattle.obstacles.specs.Blocking.{IsBlockedBy};
 ghost use Rattle.order_laws.specs.Edits.{Edit};
-ghost use Rattle.related_props.specs.Masks.{item_mask};
 ghost use Rattle.sheet_order.specs.Allowing.{Stays};
 ghost use Rattle.sheet_order.specs.Laws.{answer_seen};
 ghost use Rattle.sheet_order.specs.declared.places.Moved.TheVariants as moved;
@@ -21,6 +21,7 @@ use crate::decl_masks::{bits_of, masks_of};
 use crate::facing::Source;
 use crate::window_search::in_window;
 use css_model::{Item, Rule, Sheet};
+use item_masks::ItemMask;
 use merge_steps::{Change, changes};
 use obstacles::Obstacle;
 use overlap::Pairs;
@@ -71,7 +72,7 @@ fn last_left(changes: &[Change]) -> &[Item]
 /// The window of a step that makes these changes.
 pub fn window_of<'a>(
     items: &'a [Item],
-    masks: &'a [u64],
+    masks: &'a [ItemMask],
     step: &Step,
     changes: &'a [Change],
 ) -> Window<'a>
@@ -229,7 +230,7 @@ pub(crate) fn step_obstacle(
     alloc: Global,
     pairs: &mut Pairs,
     sheet: &Sheet,
-    masks: &[u64],
+    masks: &[ItemMask],
     step: &Step,
 ) -> Result<Option<Obstacle>, AllocError>
     requires is_step { HasStep sheet.now.items step.now }
