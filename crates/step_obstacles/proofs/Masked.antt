@@ -4,6 +4,8 @@ use Rattle.std.specs.Prelude.{Option, Result, Ok, Err, IfOk, if◌then◌else◌
 use Rattle.std.specs.Int.Bits.{and_zero_l}
 use Rattle.std.proofs.lemmas.Nat.Bits.{bit_at_or, bit_at-lt}
 use Rattle.cascade_laws.proofs.ForCallers.{some-same}
+use Rattle.item_masks.specs.Masks as both
+use Rattle.item_masks.specs.declared.mask.ItemMask.{ItemMask}
 use Rattle.list_facts.proofs.Members.{Contains-nil, Contains-cons_cases}
 use Rattle.obstacles.specs.declared.obstacle.Obstacle.{Obstacle}
 use Rattle.std.specs.Option.{option_map}
@@ -134,5 +136,5 @@ told_counted answers list n item w s d At common is (Ok (Some o)) h = λ x at.
 told_counted answers list n item w s d At common is (Err e) h = tt
 
 -- the mask of an item of a window
-pub mask_at : (items : List Item) (masks : List ℕ) (n : ℕ) (item : Item) → masks ≡ map item_mask items → slice_get items n ≡ Some item → slice_get masks n ≡ Some (item_mask item)
-mask_at items masks n item is at = at_map item_mask items masks n item is at
+pub mask_at : (items : List Item) (masks : List ItemMask) (n : ℕ) (item : Item) → masks ≡ map both.item_mask items → slice_get items n ≡ Some item → slice_get masks n ≡ Some (both.item_mask item)
+mask_at items masks n item is at = at_map both.item_mask items masks n item is at

@@ -5,6 +5,7 @@ ghost use Rattle.std.specs.Prelude.{◌≡◌};
 use crate::held::answers_are_true;
 use crate::step_search::step_obstacle;
 use css_model::Sheet;
+use item_masks::ItemMask;
 use obstacles::{Obstacle, Obstacles};
 use overlap::Pairs;
 use std::alloc::{AllocError, Global};
@@ -57,7 +58,7 @@ impl Obstacles for PairObstacles {
     fn obstacle(
         &mut self,
         sheet: &Sheet,
-        masks: &[u64],
+        masks: &[ItemMask],
         step: &Step,
     ) -> Result<Option<Obstacle>, AllocError> {
         step_obstacle(self.alloc, &mut self.pairs, sheet, masks, step)

@@ -3,9 +3,9 @@
 ghost use Rattle.std.specs.Prelude.{◌≡◌, true, IfNone, IfOk, IfSome, None, Some, map, slice_get};
 ghost use Rattle.css_model.specs.declared.sheet.Item.TheVariants as kinds;
 ghost use Rattle.css_model.specs.Sheets.RuleParts.{RuleParts};
+ghost use Rattle.item_masks.specs.Masks.{item_mask};
 ghost use Rattle.obstacles.specs.Blocking.{IsBlockedBy};
 ghost use Rattle.order_laws.specs.Edits.{Edit};
-ghost use Rattle.related_props.specs.Masks.{item_mask};
 ghost use Rattle.sheet_order.specs.Allowing.{Stays};
 ghost use Rattle.sheet_order.specs.Laws.{answer_seen};
 ghost use Rattle.sheet_order.specs.declared.places.Moved.TheVariants as moved;
@@ -23,6 +23,7 @@ use crate::left_parts::left_by;
 use crate::specificities::specificities_of;
 use crate::window_search::in_window;
 use css_model::Sheet;
+use item_masks::ItemMask;
 use obstacles::Obstacle;
 use overlap::Pairs;
 use print_laws::selectors_are_in_the_profile;
@@ -49,7 +50,7 @@ fn starts_of(step: &Step) -> (usize, usize)
 }
 
 /// The window of a step. No part of a rule is copied.
-pub fn window_of<'a>(sheet: &'a Sheet, masks: &'a [u64], step: &Step) -> Window<'a>
+pub fn window_of<'a>(sheet: &'a Sheet, masks: &'a [ItemMask], step: &Step) -> Window<'a>
     requires is_step { HasStep sheet.now.items step.now }
     requires masks { masks.now ≡ map item_mask sheet.now.items }
     ensures items { result.items.now ≡ sheet.now.items }
@@ -210,7 +211,7 @@ pub(crate) fn step_obstacle(
     alloc: Global,
     pairs: &mut Pairs,
     sheet: &Sheet,
-    masks: &[u64],
+    masks: &[ItemMask],
     step: &Step,
 ) -> Result<Option<Obstacle>, AllocError>
     requires is_step { HasStep sheet.now.items step.now }

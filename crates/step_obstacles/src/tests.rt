@@ -5,11 +5,11 @@ ghost use Rattle.sheet_order.specs.Narrow.{CanBePlanned};
 
 use crate::PairObstacles;
 use css_model::Sheet;
+use item_masks::item_masks;
 use merge_laws::read_is_plannable;
 use merge_steps::{Step, is_step};
 use obstacles::{Obstacle, Obstacles, Other, PairPlace};
 use overlap::Pairs;
-use related_props::item_masks;
 use sheet_read::{SheetError, read_sheet};
 use std::alloc::Global;
 use std::process::Abort;

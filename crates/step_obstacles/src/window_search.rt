@@ -47,7 +47,7 @@ fn mask_of(window: &Window<'_>, number: usize) -> u64
     requires { number < length window.now.items.now }
     ensures { (item : declared.Item) → slice_get window.now.items.now number ≡ Some item → result ≡ item_mask item }
 {
-    window.masks[number]
+    window.masks[number].families
 }
 
 /// Of some rules with the item of this number.
