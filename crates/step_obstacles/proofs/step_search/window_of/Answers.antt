@@ -1,7 +1,7 @@
 use Rattle.std.proofs.Common.{◌≡◌, ℕ, List, ap, map, subst, sym, ◌∙◌}
 use Rattle.css_model.specs.declared.sheet.Item.{Item}
 use Rattle.css_model.specs.Sheets.SheetParts.{SheetParts}
-use Rattle.related_props.specs.Masks.{item_mask}
+use Rattle.item_masks.specs.Masks.{item_mask}
 use Rattle.step_obstacles.proofs.WindowFacts.{WindowAt, window_at}
 use Rattle.step_obstacles.proofs.step_search.window_of.Goals as goal
 use Rattle.window_order.specs.Left.{items_of}
