@@ -6,7 +6,7 @@ use Rattle.css_model.specs.declared.sheet.Item.{Item}
 use Rattle.order_index.specs.ChangedMasks.{masks_from, masks_instead}
 use Rattle.order_laws.specs.Edits.{Change, Edit, edited, instead, slots_from}
 use Rattle.order_laws.specs.Slots.{new_items}
-use Rattle.related_props.specs.Masks.{item_mask}
+use Rattle.item_masks.specs.Masks.{item_mask}
 
 instead_masked : (changes : List Change) (n : ℕ) (item : Item) → masks_instead changes n (item_mask item) ≡ map item_mask (instead changes n item)
 instead_masked [] n item = refl

@@ -3,12 +3,12 @@
 ghost use Rattle.std.specs.Prelude.{◌≡◌, ◌≤◌, IfOk, OnErr, OnOk, map, nat_le, nat_lt, take, drop};
 ghost use Rattle.std.specs.List.{AllByRecursion, flat_map, prefix_len};
 ghost use Rattle.std.specs.List.Sorted.{IsNonDecreasingBy};
+ghost use Rattle.item_masks.specs.Masks.{item_mask};
 ghost use Rattle.order_index.specs.Afterwards.{after, edit_at};
 ghost use Rattle.order_index.specs.Listed.{HasAllReversed, IsChange, IsListed, IsMoving};
 ghost use Rattle.order_laws.specs.Edits.{Edit, edited};
 ghost use Rattle.order_laws.specs.Places.{last_pairs};
 ghost use Rattle.order_laws.specs.Reversed as order;
-ghost use Rattle.related_props.specs.Masks.{item_mask};
 ghost use Rattle.sheet_order.specs.Allowing as allowing;
 ghost use Rattle.sheet_order.specs.Narrow.{CanBePlanned};
 ghost use Rattle.sheet_order.specs.Places.{entry_of};
@@ -20,11 +20,11 @@ use crate::marked::{Marked, MarkedKept, all_marked, list_kept};
 use crate::masks::changed_masks;
 use crate::step_window::{StepWindow, find_window};
 use css_model::Sheet;
+use item_masks::{ItemMask, item_masks};
 use merge_steps::{Change, changes};
 use order_laws::{listed_is_reversed, listed_stands_last, order_is_decided, weighing_is_decided};
 use overlap::Pairs;
 use print_laws::selectors_are_in_the_profile;
-use related_props::item_masks;
 use selector_laws::read_selectors_keep_the_limits;
 use sheet_order::{
     Allowed, Reversal, Reversed, ascending, judged, last_pairs, moved_of, moved_pairs, narrow_all,
@@ -67,7 +67,7 @@ pub struct Index<'a> {
     sheet: &'a Sheet,
     pairs: Vec<Marked<'a>>,
     kept: Vec<MarkedKept<'a>>,
-    masks: Vec<u64>,
+    masks: Vec<ItemMask>,
     ghost listed: { pairs.items ≡ last_pairs sheet.now.items },
     ghost kept_listed: { kept.items ≡ order.kept_from 0 sheet.now.items },
     ghost masked: { masks.items ≡ map item_mask sheet.now.items },
@@ -84,7 +84,11 @@ impl<'a> Model for Index<'a> {
 
 impl<'a> Index<'a> {
     /// The index of a sheet whose items have these masks.
-    fn with_masks(alloc: Global, sheet: &'a Sheet, masks: Vec<u64>) -> Result<Index<'a>, AllocError>
+    fn with_masks(
+        alloc: Global,
+        sheet: &'a Sheet,
+        masks: Vec<ItemMask>,
+    ) -> Result<Index<'a>, AllocError>
         requires { masks.items ≡ map item_mask sheet.now.items }
         ensures { IfOk result (λ index. index ≡ sheet.now.items) }
     {
@@ -110,7 +114,7 @@ impl<'a> Index<'a> {
 
     /// The masks of the items after a step of the sheet.
     #[tactic(auto, using(crate::proofs::ChangedMasks::edited_masked))]
-    fn masks_after(&self, alloc: Global, step: &Step) -> Result<Vec<u64>, AllocError>
+    fn masks_after(&self, alloc: Global, step: &Step) -> Result<Vec<ItemMask>, AllocError>
         requires { HasStep self.now step.now }
         ensures { IfOk result (λ masks. (e : Edit) → IsStep self.now step.now e → masks.items ≡ map item_mask (edited e self.now)) }
     {

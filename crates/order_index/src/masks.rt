@@ -3,17 +3,17 @@
 ghost use Rattle.std.specs.Prelude.{◌≡◌, ◌++◌, IfOk, OnOk};
 ghost use Rattle.order_index.specs.ChangedMasks.{masks_from, masks_instead};
 
+use item_masks::{ItemMask, item_masks};
 use merge_steps::Change;
-use related_props::item_masks;
 use std::alloc::{AllocError, Global};
 
 /// Puts the masks of what stands in the place of an item behind the others, its own if it stays.
 fn push_masks(
     alloc: Global,
-    list: &mut Vec<u64>,
+    list: &mut Vec<ItemMask>,
     changes: &[Change],
     number: usize,
-    mask: u64,
+    mask: ItemMask,
 ) -> Result<(), AllocError>
     ensures { OnOk result (list.new.items ≡ list.old.items ++ masks_instead changes.now number mask) }
 {
@@ -35,8 +35,8 @@ fn push_masks(
 pub(crate) fn changed_masks(
     alloc: Global,
     changes: &[Change],
-    masks: &[u64],
-) -> Result<Vec<u64>, AllocError>
+    masks: &[ItemMask],
+) -> Result<Vec<ItemMask>, AllocError>
     ensures { IfOk result (λ list. list.items ≡ masks_from 0 changes.now masks.now) }
 {
     let mut list = Vec::with_capacity(alloc, masks.len())?;

@@ -1,12 +1,13 @@
 //! The part of a sheet that a step changes.
 
 ghost use Rattle.std.specs.Prelude.{◌≡◌, map};
+ghost use Rattle.item_masks.specs.Masks.{item_mask};
 ghost use Rattle.order_index.specs.Listed.{IsChange};
 ghost use Rattle.order_laws.specs.Edits.{Edit};
-ghost use Rattle.related_props.specs.Masks.{item_mask};
 ghost use Rattle.step_laws.specs.Steps.{HasStep, IsStep};
 
 use css_model::Item;
+use item_masks::ItemMask;
 use merge_steps::Change;
 use step_laws::Step;
 use step_obstacles::window_of;
@@ -23,7 +24,7 @@ pub(crate) struct StepWindow<'w> {
 #[tactic(auto, using(crate::proofs::Afterwards::step_at))]
 pub(crate) fn find_window<'w>(
     items: &'w [Item],
-    masks: &'w [u64],
+    masks: &'w [ItemMask],
     step: &Step,
     changes: &'w [Change],
 ) -> StepWindow<'w>
