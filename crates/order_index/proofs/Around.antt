@@ -26,10 +26,11 @@ use Rattle.sheet_order.proofs.ForCallers.{all_members, last_limited, planned_lim
 use Rattle.sheet_order.specs.Narrow.{CanBePlanned}
 use Rattle.step_laws.specs.declared.step.Step.{Step}
 use Rattle.step_laws.specs.Steps.{IsStep, last_item}
-use Rattle.step_obstacles.proofs.ForCallers.{get_drop, stands_at, window_facts}
+use Rattle.step_obstacles.proofs.ForCallers.{stands_at, window_facts}
 use Rattle.step_obstacles.specs.StepWindow.{IsWindowFor}
 use Rattle.window_laws.specs.StepWindows.{StepsHaveWindows, window_start}
 use Rattle.window_laws.specs.Windows.{WindowsTellPairs}
+use Rattle.window_order.proofs.ForCallers.{get_drop}
 use Rattle.window_order.specs.declared.window.Window.{Window}
 
 abbrev item_of : PlacedPair → ℕ

@@ -21,7 +21,7 @@ use crate::masks::changed_masks;
 use crate::step_window::{StepWindow, find_window};
 use css_model::Sheet;
 use item_masks::{ItemMask, item_masks};
-use merge_steps::{Change, changes};
+use merge_steps::changes;
 use order_laws::{listed_is_reversed, listed_stands_last, order_is_decided, weighing_is_decided};
 use overlap::Pairs;
 use print_laws::selectors_are_in_the_profile;
@@ -165,22 +165,20 @@ impl<'a> Index<'a> {
         all_marked(alloc, &list)
     }
 
-    /// What a step that makes these changes reverses with these pairs, pair by pair.
+    /// What a step reverses with these pairs, pair by pair.
     fn found(
         &self,
         alloc: Global,
         step: &Step,
-        changes: &[Change],
         moved: &[Marked<'a>],
     ) -> Result<Vec<Reversal<'a>>, AllocError>
         requires is_step { HasStep self.now step.now }
         requires planned { CanBePlanned self.now }
-        requires changes { (e : Edit) → IsStep self.now step.now e → changes.now ≡ e.changes }
         requires moving { AllByRecursion (IsMoving self.now step.now) moved.now }
         ensures { IfOk result (λ found. found.items ≡ flat_map (order.reversed_with self.now (after self.now step.now)) moved.now) }
     {
         let sheet = self.sheet;
-        let change = find_window(&sheet.items, &self.masks, step, changes);
+        let change = find_window(sheet, &self.masks, step);
         entries(alloc, &change, moved, self.around(&change), &self.kept)
     }
 
@@ -192,10 +190,8 @@ impl<'a> Index<'a> {
     {
         listed_stands_last();
         read_selectors_keep_the_limits();
-        let sheet = self.sheet;
-        let changes = changes(alloc, sheet, step)?;
         let moved = self.moved(alloc, step)?;
-        let found = self.found(alloc, step, &changes, &moved)?;
+        let found = self.found(alloc, step, &moved)?;
         ascending(alloc, found)
     }
 

@@ -3,12 +3,10 @@
 ghost use Rattle.std.specs.Prelude.{◌≡◌, map};
 ghost use Rattle.item_masks.specs.Masks.{item_mask};
 ghost use Rattle.order_index.specs.Listed.{IsChange};
-ghost use Rattle.order_laws.specs.Edits.{Edit};
-ghost use Rattle.step_laws.specs.Steps.{HasStep, IsStep};
+ghost use Rattle.step_laws.specs.Steps.{HasStep};
 
-use css_model::Item;
+use css_model::Sheet;
 use item_masks::ItemMask;
-use merge_steps::Change;
 use step_laws::Step;
 use step_obstacles::window_of;
 use window_order::Window;
@@ -20,22 +18,15 @@ pub(crate) struct StepWindow<'w> {
     pub(crate) step: Step,
 }
 
-/// The window of a step that makes these changes, of items with these masks.
-#[tactic(auto, using(crate::proofs::Afterwards::step_at))]
-pub(crate) fn find_window<'w>(
-    items: &'w [Item],
-    masks: &'w [ItemMask],
-    step: &Step,
-    changes: &'w [Change],
-) -> StepWindow<'w>
-    requires is_step { HasStep items.now step.now }
-    requires masks { masks.now ≡ map item_mask items.now }
-    requires changes { (e : Edit) → IsStep items.now step.now e → changes.now ≡ e.changes }
-    ensures items { result.window.items.now ≡ items.now }
+/// The window of a step of a sheet whose items have these masks.
+pub(crate) fn find_window<'w>(sheet: &'w Sheet, masks: &'w [ItemMask], step: &Step) -> StepWindow<'w>
+    requires is_step { HasStep sheet.now.items step.now }
+    requires masks { masks.now ≡ map item_mask sheet.now.items }
+    ensures items { result.window.items.now ≡ sheet.now.items }
     ensures step { result.step ≡ step.now }
     ensures change { IsChange result.window result.step }
 {
-    let window = window_of(items, masks, step, changes);
+    let window = window_of(sheet, masks, step);
     StepWindow {
         window,
         step: *step,

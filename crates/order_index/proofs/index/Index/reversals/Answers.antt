@@ -7,5 +7,5 @@ use Rattle.order_index.specs.Listed.{IsMoving}
 
 pub found-requires-clause-moving : goal.found-requires-clause-moving
 found-requires-clause-moving c =
-    subst (AllByRecursion (IsMoving c.args.self.now c.args.step.now)) (sym (c.deref-2.ensures.value ∙ c.in_ok-moved.ensures))
+    subst (AllByRecursion (IsMoving c.args.self.now c.args.step.now)) (sym (c.deref.ensures.value ∙ c.in_ok-moved.ensures))
     (all_moving c.listed_stands_last.ensures c.read_selectors_keep_the_limits.ensures c.args.self.now c.requires.planned c.args.step.now (step_at c.args.self.now c.args.step.now c.requires.is_step))
