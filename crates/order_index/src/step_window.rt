@@ -19,7 +19,11 @@ pub(crate) struct StepWindow<'w> {
 }
 
 /// The window of a step of a sheet whose items have these masks.
-pub(crate) fn find_window<'w>(sheet: &'w Sheet, masks: &'w [ItemMask], step: &Step) -> StepWindow<'w>
+pub(crate) fn find_window<'w>(
+    sheet: &'w Sheet,
+    masks: &'w [ItemMask],
+    step: &Step,
+) -> StepWindow<'w>
     requires is_step { HasStep sheet.now.items step.now }
     requires masks { masks.now ≡ map item_mask sheet.now.items }
     ensures items { result.window.items.now ≡ sheet.now.items }
