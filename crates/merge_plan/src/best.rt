@@ -2,10 +2,10 @@
 
 ghost use Rattle.std.specs.Prelude.{◌≡◌, ◌↔◌, ℕ, ◌+◌, ◌<◌, ◌≤◌, List, Option, true, false, IfOk, length, map};
 ghost use Rattle.std.specs.List.{AllPairs, Contains};
+ghost use Rattle.item_masks.specs.Masks.{item_mask};
 ghost use Rattle.merge_plan.specs.Best.{IsBestOf, IsNextFound, saved_by};
 ghost use Rattle.plan_laws.specs.Plannable.{IsPlannable};
 ghost use Rattle.order_laws.specs.Edits.{Edit};
-ghost use Rattle.related_props.specs.Masks.{item_mask};
 ghost use Rattle.step_laws.specs.Free.{AreAmong, IsBlocked, IsFree};
 ghost use Rattle.step_laws.specs.Steps.{HasStep, IsStep, StandsBefore};
 ghost use Rattle.step_laws.specs.declared.step.Step as declared;
@@ -13,10 +13,10 @@ ghost use Rattle.step_laws.specs.declared.step.Step as declared;
 use crate::lengths::KnownLengths;
 use crate::savings::saved;
 use css_model::Sheet;
+use item_masks::{ItemMask, item_masks};
 use merge_laws::read_keeps_the_limits;
 use merge_steps::steps;
 use obstacles::Obstacles;
-use related_props::item_masks;
 use std::alloc::{AllocError, Global};
 use step_laws::{Step, parts_are_few};
 use wall_laws::hindered_is_blocked;
@@ -42,7 +42,7 @@ fn saved_by(best: &Option<Found>) -> u32
 fn is_free<O: Obstacles>(
     obstacles: &mut O,
     sheet: &Sheet,
-    masks: &[u64],
+    masks: &[ItemMask],
     step: &Step,
 ) -> Result<bool, AllocError>
     requires is_step { HasStep sheet.now.items step.now }
@@ -65,7 +65,7 @@ fn look<O: Obstacles>(
     obstacles: &mut O,
     source: &KnownLengths<'_>,
     sheet: &Sheet,
-    masks: &[u64],
+    masks: &[ItemMask],
     list: &[Step],
     number: usize,
     best: Option<Found>,
@@ -98,7 +98,7 @@ fn best_of<O: Obstacles>(
     obstacles: &mut O,
     source: &KnownLengths<'_>,
     sheet: &Sheet,
-    masks: &[u64],
+    masks: &[ItemMask],
     list: &[Step],
 ) -> Result<Option<Found>, AllocError>
     requires plannable { IsPlannable source.now sheet.now.items }
