@@ -1,18 +1,15 @@
 -- The pairs around a step: those that stand last in its window.
-use Rattle.std.proofs.Common.{◌≡◌, ◌⊎◌, ℕ, zero, suc, ◌+◌, ◌-◌, ◌<◌, ◌≤◌, Bool, true, false, not, List, [], ◌∷◌, ◌++◌, length, map, Some, take, drop, refl, sym, ap, ◌∙◌, subst, inl, inr, arith}
+use Rattle.std.proofs.Common.{◌≡◌, ℕ, ◌+◌, ◌-◌, ◌<◌, Bool, true, false, List, Some, take, drop, refl, sym, ap, ◌∙◌, subst, inl, arith}
 use Rattle.std.specs.Prelude.{nat_le, nat_lt, slice_get}
-use Rattle.std.specs.List.{AllByRecursion, Contains, filter, flat_map, prefix_len}
+use Rattle.std.specs.List.{AllByRecursion, Contains, filter, prefix_len}
 use Rattle.std.specs.List.Sorted.{IsNonDecreasingBy}
 use Rattle.std.proofs.lemmas.Bool.{false_from_ne_true, ltb-true}
 use Rattle.std.proofs.lemmas.List.Sorted.{IsNonDecreasingBy-drop}
 use Rattle.std.proofs.lemmas.Option.{get_or_from_slice_get, slice_get_within}
 use Rattle.css_model.specs.Cascade.Order.{Pair, HasPair, IsPairAt}
-use Rattle.css_model.specs.Cascade.Winner.{Place, IsLater}
 use Rattle.css_model.specs.declared.sheet.Item.{Item}
-use Rattle.css_model.specs.declared.sheet.Item.TheVariants.{Rule, KeptRule, KeptBlock}
 use Rattle.css_model.specs.Sheets.StyleRule.{selectors_of}
 use Rattle.list_facts.proofs.Elements.{all_drop, all_take, member}
-use Rattle.list_facts.proofs.Members.{Contains-filter}
 use Rattle.order_index.proofs.Parts.{Contains-behind, filter_before, filter_behind}
 use Rattle.order_index.proofs.Rising.{pairs_rise}
 use Rattle.order_index.proofs.Turned.{reversed_within}
@@ -27,7 +24,6 @@ use Rattle.sheet_order.specs.Narrow.{CanBePlanned}
 use Rattle.step_laws.specs.declared.step.Step.{Step}
 use Rattle.step_laws.specs.Steps.{IsStep, last_item}
 use Rattle.step_obstacles.proofs.ForCallers.{stands_at, window_facts}
-use Rattle.step_obstacles.specs.StepWindow.{IsWindowFor}
 use Rattle.window_laws.specs.StepWindows.{StepsHaveWindows, window_start}
 use Rattle.window_laws.specs.Windows.{WindowsTellPairs}
 use Rattle.window_order.proofs.ForCallers.{get_drop}

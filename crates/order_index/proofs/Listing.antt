@@ -1,7 +1,7 @@
 -- What is looked at, and what is told of it.
-use Rattle.std.proofs.Common.{◌≡◌, ℕ, zero, suc, ◌+◌, true, List, [], ◌∷◌, ◌++◌, map, Some, None, Result, Ok, Err, refl, sym, ap, ap₂, ◌∙◌, subst, append_assoc, arith}
-use Rattle.std.specs.Prelude.{IfOk, OnOk, slice_get}
-use Rattle.std.specs.List.{AllByRecursion, Contains, filter, flat_map}
+use Rattle.std.proofs.Common.{◌≡◌, ℕ, suc, ◌+◌, true, List, [], ◌∷◌, ◌++◌, map, Some, Result, Ok, Err, refl, sym, ap, ap₂, ◌∙◌, subst, append_assoc, arith}
+use Rattle.std.specs.Prelude.{IfOk, slice_get}
+use Rattle.std.specs.List.{AllByRecursion, filter, flat_map}
 use Rattle.css_model.specs.declared.sheet.Item.{Item}
 use Rattle.css_model.specs.declared.sheet.Item.TheVariants.{Rule, KeptRule, KeptBlock}
 use Rattle.list_facts.proofs.Elements.{member}
@@ -11,8 +11,8 @@ use Rattle.order_index.specs.Afterwards.{after, edit_at, moves}
 use Rattle.order_index.specs.Listed.{HasAllReversed, IsKeptAt, IsMoving}
 use Rattle.order_laws.specs.Edits.{Edit, Moved, edited, is_moved}
 use Rattle.order_laws.specs.Members.{has_number}
-use Rattle.order_laws.specs.Places.{ListedStandsLast, PlacedPair, last_pairs, last_pairs_from}
-use Rattle.order_laws.specs.Reversed.{Reversal, ListedIsReversed, ascending, is_reversed, is_reversed_kept, kept_from, moved_pairs, reversed, reversed_with, with_kept, with_pair}
+use Rattle.order_laws.specs.Places.{ListedStandsLast, PlacedPair, last_pairs_from}
+use Rattle.order_laws.specs.Reversed.{Reversal, ascending, is_reversed, is_reversed_kept, kept_from, moved_pairs, reversed, reversed_with, with_kept, with_pair}
 use Rattle.selector_laws.specs.Limits.{KeepsLimits, ReadSelectorsKeepTheLimits}
 use Rattle.sheet_order.proofs.ForCallers.{all_members, moved_is, moved_limited, planned_limited}
 use Rattle.overlap.specs.PairsParts.{Answered}

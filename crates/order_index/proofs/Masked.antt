@@ -1,5 +1,5 @@
 -- What masks without a common bit tell: nothing weighs.
-use Rattle.std.proofs.Common.{◌≡◌, ℕ, true, false, refl, sym, ap₂, ◌∙◌}
+use Rattle.std.proofs.Common.{◌≡◌, ℕ, false, sym, ap₂, ◌∙◌}
 use Rattle.std.specs.Prelude.{bit_and}
 use Rattle.std.proofs.lemmas.Bool.{false_from_ne_true}
 use Rattle.css_model.specs.declared.sheet.Item.{Item}

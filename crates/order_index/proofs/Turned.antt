@@ -1,15 +1,13 @@
 -- Whether a step reverses two pairs, by its window.
-use Rattle.std.proofs.Common.{◌≡◌, ◌↔◌, ◌⊎◌, ℕ, ◌+◌, ◌-◌, ◌<◌, ◌≤◌, Bool, true, false, not, ◌&&◌, List, ◌++◌, Some, take, drop, refl, sym, ap, ◌∙◌, subst, inl, inr, arith}
+use Rattle.std.proofs.Common.{◌≡◌, ◌↔◌, ◌+◌, Bool, true, false, not, ◌&&◌, List, ◌++◌, take, drop, refl, ap, subst, inl, inr}
 use Rattle.std.specs.Bool.{beq}
-use Rattle.std.specs.Prelude.{IsTrue, slice_get}
-use Rattle.std.specs.List.{Contains}
-use Rattle.std.proofs.lemmas.Bool.{and_from, and_parts, false≢true, true≢false}
-use Rattle.css_model.specs.Cascade.Order.{Pair, HasPair, IsBefore, IsPairAt}
+use Rattle.std.specs.Prelude.{IsTrue}
+use Rattle.std.proofs.lemmas.Bool.{and_from, and_parts, false≢true}
+use Rattle.css_model.specs.Cascade.Order.{Pair, HasPair, IsBefore}
 use Rattle.css_model.specs.declared.sheet.Item.{Item}
-use Rattle.order_index.proofs.Afterwards.{edit_stands}
 use Rattle.order_index.specs.Afterwards.{after, edit_at, moves}
 use Rattle.order_laws.specs.Comparing.{OrderIsDecided, WeighingIsDecided, comes_before, weigh}
-use Rattle.order_laws.specs.Edits.{Edit, edited, is_moved}
+use Rattle.order_laws.specs.Edits.{Edit}
 use Rattle.order_laws.specs.Reversed.{is_reversed}
 use Rattle.order_laws.specs.Reversing.{Differ, ReversesPair}
 use Rattle.sheet_order.proofs.ForCallers.{same_test}

@@ -4,14 +4,14 @@ use Rattle.std.specs.Bool.{beq}
 use Rattle.std.specs.Prelude.{IsTrue, slice_get}
 use Rattle.std.proofs.lemmas.Bool.{and_from, and_parts, false≢true, false_from_ne_true}
 use Rattle.cascade_laws.proofs.ForCallers.{some-same}
-use Rattle.css_model.specs.Cascade.Order.{Pair, HasPair, IsBeforeKept}
+use Rattle.css_model.specs.Cascade.Order.{Pair, IsBeforeKept}
 use Rattle.css_model.specs.declared.sheet.Item.{Item}
 use Rattle.css_model.specs.declared.sheet.Item.TheVariants.{Rule, KeptRule, KeptBlock}
 use Rattle.css_model.specs.Sheets.KeptItems.{is_kept, kept_before, kept_items}
 use Rattle.order_index.proofs.Turned as turning
 use Rattle.order_index.specs.Afterwards.{after, edit_at, moves}
 use Rattle.order_laws.specs.Comparing.{OrderIsDecided, WeighingIsDecided, comes_before_kept, weighs_kept}
-use Rattle.order_laws.specs.Edits.{Edit, edited, is_moved}
+use Rattle.order_laws.specs.Edits.{Edit}
 use Rattle.order_laws.specs.Reversed.{is_reversed_kept}
 use Rattle.order_laws.specs.Reversing.{Differ, ReversesKept}
 use Rattle.sheet_order.proofs.ForCallers.{same_test}
@@ -22,7 +22,7 @@ use Rattle.step_obstacles.specs.StepWindow.{IsWindowFor}
 use Rattle.window_laws.specs.StepWindows.{StepsHaveWindows, window_start, middle_start, first_left, first_part, last_left, last_part, middle_part}
 use Rattle.window_laws.specs.Windows.{IsWindow, WindowsTellKept}
 use Rattle.window_order.specs.declared.window.Window.{Window}
-use Rattle.window_order.specs.Reversed.{IsKeptReversed, kept_number, middle_of}
+use Rattle.window_order.specs.Reversed.{IsKeptReversed, kept_number}
 
 -- what does not weigh is not reversed
 pub kept_not_weighing : (items items' : List Item) (p : Pair) (k : ℕ × Item) → weighs_kept p k.1 ≡ false → is_reversed_kept items items' p k ≡ false

@@ -1,4 +1,4 @@
-use Rattle.std.proofs.Common.{◌≡◌, ◌++◌, ◌≤◌, ◌∙◌, List, ap, arith, length, map}
+use Rattle.std.proofs.Common.{◌++◌, ◌≤◌, ◌∙◌, List, ap, arith, length, map}
 use Rattle.std.specs.List.{filter}
 use Rattle.std.proofs.lemmas.List.{take_all}
 use Rattle.order_index.proofs.entries.push_turned.Goals as goal

@@ -1,4 +1,4 @@
-use Rattle.std.proofs.Common.{◌≡◌, List, ◌∙◌, ap, drop, nat_le, nat_lt}
+use Rattle.std.proofs.Common.{◌≡◌, List, ◌∙◌, ap, drop, nat_lt}
 use Rattle.std.specs.List.{prefix_len}
 use Rattle.order_index.proofs.Around.{around_all, part_listed, rest_rises}
 use Rattle.order_index.proofs.index.Index.around.Goals as goal
