@@ -16,16 +16,28 @@ import time
 KINDS = ("proof", "tests", "edits")
 
 
-def checks():
-    """The checks that run: of each its process, its crate, its kind and its seconds so far."""
+def facts(pid):
+    """Of a process the fields of /proc/PID/stat behind its name: its state, its parent, and so on."""
+    with open(f"/proc/{pid}/stat", encoding="utf-8", errors="replace") as file:
+        return file.read().rpartition(")")[2].split()
+
+
+def is_below(pid, ancestor):
+    """Whether a process was started by another one, or by what that started."""
+    while pid not in ("0", ancestor):
+        pid = facts(pid)[1]
+    return pid == ancestor
+
+
+def checks(ancestor):
+    """The checks that run below a process: of each its process, its crate, its kind and its seconds so far."""
     for pid in filter(str.isdigit, os.listdir("/proc")):
         try:
             with open(f"/proc/{pid}/cmdline", "rb") as file:
                 words = file.read().decode(errors="replace").split("\0")
-            if os.path.basename(words[0]) != "rattle" or "--crate-name" not in words:
+            if os.path.basename(words[0]) != "rattle" or "--crate-name" not in words or not is_below(pid, ancestor):
                 continue
-            with open(f"/proc/{pid}/stat", encoding="utf-8", errors="replace") as file:
-                fields = file.read().rpartition(")")[2].split()
+            fields = facts(pid)
             edited = os.path.basename(os.readlink(f"/proc/{pid}/cwd")).startswith("rt-edit-")
         except (OSError, IndexError):
             continue
@@ -50,7 +62,7 @@ def main():
     with subprocess.Popen(sys.argv[1:]) as command:
         while command.poll() is None:
             if os.path.isdir("/proc/self"):
-                seen.update((process, (crate, kind, seconds)) for process, crate, kind, seconds in checks())
+                seen.update((process, (crate, kind, seconds)) for process, crate, kind, seconds in checks(str(command.pid)))
             time.sleep(2)
     if seen:
         print(f"{'seconds of processor time':24}" + "".join(f"{kind:>8}" for kind in KINDS))
