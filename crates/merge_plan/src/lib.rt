@@ -9,4 +9,4 @@ mod savings;
 
 pub use lengths::KnownLengths;
 pub use merging::{Merged, merge};
-pub use savings::saved;
+pub use savings::{saved, saved_if_apart};

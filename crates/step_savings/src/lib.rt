@@ -12,5 +12,5 @@ pub use lengths::saving;
 pub use members::{are_decls_among, has_decl, has_selector};
 pub use rules::{items_of, rule_at};
 pub use sameness::is_same_decl;
-pub use savings::saving_by;
+pub use savings::{saving_by, saving_if_apart};
 pub use weights::Lengths;

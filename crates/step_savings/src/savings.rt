@@ -6,6 +6,7 @@ ghost use Rattle.css_model.specs.declared.sheet.Item.TheVariants as item;
 ghost use Rattle.css_model.specs.Sheets.Limits.{max_bytes};
 ghost use Rattle.css_model.specs.Sheets.Printed.{printed_selector, printed_declaration};
 ghost use Rattle.css_model.specs.Sheets.Sound.{IsSound, IsSoundDeclaration, IsSoundSelector};
+ghost use Rattle.step_savings.specs.Apart.{AreApart, StepApart};
 ghost use Rattle.step_savings.specs.CutParts.{HasPart};
 ghost use Rattle.step_savings.specs.Weighing as weighing;
 ghost use Rattle.order_laws.specs.Edits.{Edit, edited};
@@ -31,18 +32,48 @@ struct Parts<'a> {
     decls: &'a [DeclItem],
 }
 
+/// The weight of the selectors of the lower rule that the upper one has. `apart` says that it is known to have none.
+fn common_selectors_weight<L: Lengths>(
+    lengths: &L,
+    upper: &Parts,
+    lower: &Parts,
+    apart: bool,
+) -> u64
+    requires lower { weighing.IsWeighable (L.source lengths.now) (weighing.rule_of lower.now) }
+    requires apart { apart ≡ true → AreApart (weighing.rule_of upper.now) (weighing.rule_of lower.now) }
+    ensures exact { result ≡ sizes.weight (printed_selector (L.source lengths.now)) (filter (λ s. members.has_selector upper.now.selectors.now s.selector) lower.now.selectors.now) }
+    ensures small { result ≤ max_bytes }
+{
+    if apart {
+        return 0;
+    }
+    selectors_among_weight(lengths, lower.selectors, upper.selectors)
+}
+
+/// The weight of the selectors of the lower rule that the upper one lacks. `apart` says that it is known to lack each.
+fn more_selectors_weight<L: Lengths>(lengths: &L, upper: &Parts, lower: &Parts, apart: bool) -> u64
+    requires lower { weighing.IsWeighable (L.source lengths.now) (weighing.rule_of lower.now) }
+    requires apart { apart ≡ true → AreApart (weighing.rule_of upper.now) (weighing.rule_of lower.now) }
+    ensures exact { result ≡ sizes.weight (printed_selector (L.source lengths.now)) (filter (λ s. not (members.has_selector upper.now.selectors.now s.selector)) lower.now.selectors.now) }
+    ensures small { result ≤ max_bytes }
+{
+    if apart {
+        return selectors_weight(lengths, lower.selectors);
+    }
+    new_selectors_weight(lengths, lower.selectors, upper.selectors)
+}
+
 /// The weight of the selectors of the upper rule, and of those of the lower one that the upper one lacks.
 #[tactic(auto, using(crate::proofs::PartWeights::both_weigh))]
-fn both_selectors_weight<L: Lengths>(lengths: &L, upper: &[SelItem], lower: &[SelItem]) -> u64
-    requires sound_upper { AllByRecursion (IsSoundSelector (L.source lengths.now)) upper.now }
-    requires sound_lower { AllByRecursion (IsSoundSelector (L.source lengths.now)) lower.now }
-    requires small_upper { sizes.weight (printed_selector (L.source lengths.now)) upper.now ≤ max_bytes }
-    requires small_lower { sizes.weight (printed_selector (L.source lengths.now)) lower.now ≤ max_bytes }
-    ensures exact { result ≡ sizes.weight (printed_selector (L.source lengths.now)) (upper.now ++ filter (λ s. not (members.has_selector upper.now s.selector)) lower.now) }
+fn both_selectors_weight<L: Lengths>(lengths: &L, upper: &Parts, lower: &Parts, apart: bool) -> u64
+    requires upper { weighing.IsWeighable (L.source lengths.now) (weighing.rule_of upper.now) }
+    requires lower { weighing.IsWeighable (L.source lengths.now) (weighing.rule_of lower.now) }
+    requires apart { apart ≡ true → AreApart (weighing.rule_of upper.now) (weighing.rule_of lower.now) }
+    ensures exact { result ≡ sizes.weight (printed_selector (L.source lengths.now)) (parting.both_selectors (weighing.rule_of upper.now) (weighing.rule_of lower.now)) }
     ensures small { result ≤ max_bytes + max_bytes }
 {
-    let whole = selectors_weight(lengths, upper);
-    let more = new_selectors_weight(lengths, lower, upper);
+    let whole = selectors_weight(lengths, upper.selectors);
+    let more = more_selectors_weight(lengths, upper, lower, apart);
     whole + more
 }
 
@@ -172,24 +203,26 @@ fn join_selectors_down_weight<L: Lengths>(lengths: &L, upper: &Parts, lower: &Pa
 }
 
 /// What two rules weigh more than one with the selectors of both and the declarations of the upper one.
-fn join_decls_up_weight<L: Lengths>(lengths: &L, upper: &Parts, lower: &Parts) -> u64
+fn join_decls_up_weight<L: Lengths>(lengths: &L, upper: &Parts, lower: &Parts, apart: bool) -> u64
     requires lower { weighing.IsWeighable (L.source lengths.now) (weighing.rule_of lower.now) }
+    requires apart { apart ≡ true → AreApart (weighing.rule_of upper.now) (weighing.rule_of lower.now) }
     ensures exact { result + sizes.rule_weight (L.source lengths.now) (record { selectors = parting.both_selectors (weighing.rule_of upper.now) (weighing.rule_of lower.now); decls = upper.now.decls.now }) ≡ weighing.both_weight (L.source lengths.now) (weighing.rule_of upper.now) (weighing.rule_of lower.now) }
     ensures small { result ≤ 2 * max_bytes }
 {
-    let common = selectors_among_weight(lengths, lower.selectors, upper.selectors);
+    let common = common_selectors_weight(lengths, upper, lower, apart);
     let decls = decls_weight(lengths, lower.decls);
     common + decls
 }
 
 /// What two rules weigh more than one with the selectors of both and the declarations of the lower one.
-fn join_decls_down_weight<L: Lengths>(lengths: &L, upper: &Parts, lower: &Parts) -> u64
+fn join_decls_down_weight<L: Lengths>(lengths: &L, upper: &Parts, lower: &Parts, apart: bool) -> u64
     requires upper { weighing.IsWeighable (L.source lengths.now) (weighing.rule_of upper.now) }
     requires lower { weighing.IsWeighable (L.source lengths.now) (weighing.rule_of lower.now) }
+    requires apart { apart ≡ true → AreApart (weighing.rule_of upper.now) (weighing.rule_of lower.now) }
     ensures exact { result + sizes.rule_weight (L.source lengths.now) (record { selectors = parting.both_selectors (weighing.rule_of upper.now) (weighing.rule_of lower.now); decls = lower.now.decls.now }) ≡ weighing.both_weight (L.source lengths.now) (weighing.rule_of upper.now) (weighing.rule_of lower.now) }
     ensures small { result ≤ 2 * max_bytes }
 {
-    let common = selectors_among_weight(lengths, lower.selectors, upper.selectors);
+    let common = common_selectors_weight(lengths, upper, lower, apart);
     let decls = decls_weight(lengths, upper.decls);
     common + decls
 }
@@ -220,26 +253,34 @@ fn lost_weight<L: Lengths>(lengths: &L, rule: &Parts, other: &Parts) -> u64
 }
 
 /// The weight of a rule with the selectors of both and their common declarations.
-fn shared_weight<L: Lengths>(lengths: &L, upper: &Parts, lower: &Parts) -> u64
+fn shared_weight<L: Lengths>(lengths: &L, upper: &Parts, lower: &Parts, apart: bool) -> u64
     requires upper { weighing.IsWeighable (L.source lengths.now) (weighing.rule_of upper.now) }
     requires lower { weighing.IsWeighable (L.source lengths.now) (weighing.rule_of lower.now) }
+    requires apart { apart ≡ true → AreApart (weighing.rule_of upper.now) (weighing.rule_of lower.now) }
     ensures exact { result ≡ sizes.rule_weight (L.source lengths.now) (kinds.shared (weighing.rule_of upper.now) (weighing.rule_of lower.now)) }
     ensures small { result ≤ 4 * max_bytes }
 {
-    let selectors = both_selectors_weight(lengths, upper.selectors, lower.selectors);
+    let selectors = both_selectors_weight(lengths, upper, lower, apart);
     let decls = common_decls_weight(lengths, lower.decls, upper.decls);
     selectors + decls
 }
 
 /// The weight of what a share puts in besides what it leaves of its rules; of other steps nothing.
-fn brought_weight<L: Lengths>(lengths: &L, step: &Step, upper: &Parts, lower: &Parts) -> u64
+fn brought_weight<L: Lengths>(
+    lengths: &L,
+    step: &Step,
+    upper: &Parts,
+    lower: &Parts,
+    apart: bool,
+) -> u64
     requires upper { weighing.IsWeighable (L.source lengths.now) (weighing.rule_of upper.now) }
     requires lower { weighing.IsWeighable (L.source lengths.now) (weighing.rule_of lower.now) }
+    requires apart { apart ≡ true → AreApart (weighing.rule_of upper.now) (weighing.rule_of lower.now) }
     ensures exact { result + weighing.stays_weight (L.source lengths.now) step.now (weighing.rule_of upper.now) (weighing.rule_of lower.now) ≡ sizes.brought_weight (L.source lengths.now) (edit_of step.now (weighing.rule_of upper.now) (weighing.rule_of lower.now)).changes }
     ensures small { result ≤ 4 * max_bytes }
 {
     match step {
-        Step::Share { .. } => shared_weight(lengths, upper, lower),
+        Step::Share { .. } => shared_weight(lengths, upper, lower, apart),
         Step::CutDecl { .. }
         | Step::CutSel { .. }
         | Step::JoinSelUp { .. }
@@ -250,10 +291,17 @@ fn brought_weight<L: Lengths>(lengths: &L, step: &Step, upper: &Parts, lower: &P
 }
 
 /// The weight of the rules that a step takes, but for what stays of it.
-fn taken_weight<L: Lengths>(lengths: &L, step: &Step, upper: &Parts, lower: &Parts) -> u64
+fn taken_weight<L: Lengths>(
+    lengths: &L,
+    step: &Step,
+    upper: &Parts,
+    lower: &Parts,
+    apart: bool,
+) -> u64
     requires upper { weighing.IsWeighable (L.source lengths.now) (weighing.rule_of upper.now) }
     requires lower { weighing.IsWeighable (L.source lengths.now) (weighing.rule_of lower.now) }
     requires part { HasPart step.now (weighing.rule_of upper.now) }
+    requires apart { apart ≡ true → AreApart (weighing.rule_of upper.now) (weighing.rule_of lower.now) }
     ensures exact { result + weighing.stays_weight (L.source lengths.now) step.now (weighing.rule_of upper.now) (weighing.rule_of lower.now) ≡ sizes.taken_weight (L.source lengths.now) step.now (weighing.rule_of upper.now) (weighing.rule_of lower.now) }
     ensures small { result ≤ 4 * max_bytes }
 {
@@ -262,8 +310,8 @@ fn taken_weight<L: Lengths>(lengths: &L, step: &Step, upper: &Parts, lower: &Par
         Step::CutSel { sel, .. } => cut_selector_weight(lengths, upper, sel),
         Step::JoinSelUp { .. } => join_selectors_up_weight(lengths, upper, lower),
         Step::JoinSelDown { .. } => join_selectors_down_weight(lengths, upper, lower),
-        Step::JoinDeclUp { .. } => join_decls_up_weight(lengths, upper, lower),
-        Step::JoinDeclDown { .. } => join_decls_down_weight(lengths, upper, lower),
+        Step::JoinDeclUp { .. } => join_decls_up_weight(lengths, upper, lower, apart),
+        Step::JoinDeclDown { .. } => join_decls_down_weight(lengths, upper, lower, apart),
         Step::Share { .. } => lost_weight(lengths, upper, lower)
             + lost_weight(lengths, lower, upper),
     }
@@ -286,6 +334,23 @@ fn difference(more: u32, less: u32) -> i64
     i64::from(more) - i64::from(less)
 }
 
+/// What a step of a sheet saves, as `saving_by` tells. `apart` says that the rules of a step of two items are known to have
+/// no selector in common; their selectors are not compared then. Takes no memory.
+pub fn saving_if_apart<L: Lengths>(lengths: &L, sheet: &Sheet, step: &Step, apart: bool) -> i64
+    requires is_step { HasStep sheet.now.items step.now }
+    requires sound { IsSound (L.source lengths.now) sheet.now.items }
+    requires short { sizes.size (L.source lengths.now) sheet.now.items ≤ max_bytes }
+    requires apart { apart ≡ true → StepApart sheet.now.items step.now }
+    ensures { (e : Edit) → IsStep sheet.now.items step.now e → result ≡ pos (sizes.size (L.source lengths.now) sheet.now.items) -ℤ pos (sizes.size (L.source lengths.now) (edited e sheet.now.items)) }
+{
+    let (first, last) = items_of(step);
+    let upper = parts_of(rule_at(sheet, first));
+    let lower = parts_of(rule_at(sheet, last));
+    let taken = taken_weight(lengths, step, &upper, &lower, apart);
+    let brought = brought_weight(lengths, step, &upper, &lower, apart);
+    difference(taken as u32, brought as u32)
+}
+
 /// What a step of a sheet saves, in bytes, where the lengths of the parts are told: the length of the items'
 /// printed texts before the step less that after it. A space before a byte order mark does not count. Takes
 /// no memory.
@@ -295,10 +360,5 @@ pub fn saving_by<L: Lengths>(lengths: &L, sheet: &Sheet, step: &Step) -> i64
     requires short { sizes.size (L.source lengths.now) sheet.now.items ≤ max_bytes }
     ensures { (e : Edit) → IsStep sheet.now.items step.now e → result ≡ pos (sizes.size (L.source lengths.now) sheet.now.items) -ℤ pos (sizes.size (L.source lengths.now) (edited e sheet.now.items)) }
 {
-    let (first, last) = items_of(step);
-    let upper = parts_of(rule_at(sheet, first));
-    let lower = parts_of(rule_at(sheet, last));
-    let taken = taken_weight(lengths, step, &upper, &lower);
-    let brought = brought_weight(lengths, step, &upper, &lower);
-    difference(taken as u32, brought as u32)
+    saving_if_apart(lengths, sheet, step, false)
 }

@@ -1,5 +1,6 @@
 mod Alike
 mod Differing
+mod Digesting
 mod Finding
 mod Looking
 mod NamedSteps

@@ -1,3 +1,4 @@
+pub mod Digested
 pub mod Looking
 pub mod Marked
 pub mod Named

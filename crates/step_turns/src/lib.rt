@@ -1,6 +1,7 @@
 //! Which step a lead names, and the next turns in its scope.
 #![tactic(auto)]
 
+mod apart;
 mod cuts;
 mod doubles;
 mod found;

@@ -3,6 +3,7 @@
 ghost use Rattle.std.specs.Prelude.{◌≡◌, ℕ, ◌<◌, ◌≤◌, Some, IfOk, OnOk, length, slice_get, slice_index, true};
 ghost use Rattle.std.specs.List.{Contains};
 ghost use Rattle.css_model.specs.declared.sheet.Item.TheVariants as item;
+ghost use Rattle.css_model.specs.Sheets.RuleParts.{RuleParts};
 ghost use Rattle.lead_plan.specs.Weights.{room};
 ghost use Rattle.lead_plan.specs.declared.lead.Scope.TheVariants as scopes;
 ghost use Rattle.plan_laws.specs.Plannable.{IsPlannable};
@@ -10,12 +11,15 @@ ghost use Rattle.rule_tables.specs.Tables.{Cover};
 ghost use Rattle.step_laws.specs.declared.step.Step as declared;
 ghost use Rattle.step_laws.specs.declared.step.Step.TheVariants as kinds;
 ghost use Rattle.step_laws.specs.Steps.{first_item, last_item};
+ghost use Rattle.step_savings.specs.Apart.{AreApart, RulesApart};
+ghost use Rattle.step_turns.specs.Digested.{Tells};
 ghost use Rattle.step_turns.specs.Looking.{AreLater, Covers, IsWith, Keeps};
 ghost use Rattle.plan_board.specs.MarkList.{births_of, labels_of};
 ghost use Rattle.step_turns.specs.Marked.{rules_of};
 ghost use Rattle.step_turns.specs.Once.{DeclsStandOnce, SelectorsStandOnce};
 ghost use Rattle.wall_laws.specs.Renumbering.{IsOfTwo};
 
+use crate::apart::{is_apart, told_digests};
 use crate::cuts::find_rule;
 use crate::doubles::{decls_stand_once, selectors_stand_once};
 use crate::found::Found;
@@ -26,6 +30,7 @@ use merge_plan::KnownLengths;
 use plan_board::{Board, Mark};
 use rule_tables::{Tables, rules_are_labelled, steps_have_partners};
 use std::alloc::{AllocError, Global};
+use std::collections::BTreeSet;
 use step_laws::{Step, parts_are_few};
 
 /// Puts the turns of the cuts of a rule's declarations, of which there are so many.
@@ -51,7 +56,7 @@ fn try_decl_cuts(
 {
     for decl in 0..count {
         let step = Step::CutDecl { item: number, decl };
-        try_step(board, tables, source, after, &step, once, found)?;
+        try_step(board, tables, source, after, &step, once, false, found)?;
     }
     Ok(())
 }
@@ -79,7 +84,7 @@ fn try_selector_cuts(
 {
     for sel in 0..count {
         let step = Step::CutSel { item: number, sel };
-        try_step(board, tables, source, after, &step, once, found)?;
+        try_step(board, tables, source, after, &step, once, false, found)?;
     }
     Ok(())
 }
@@ -136,10 +141,12 @@ fn try_joins(
     after: &Lead,
     upper: u32,
     lower: u32,
+    apart: bool,
     found: &mut Found,
 ) -> Result<(), AllocError>
     requires plannable { IsPlannable source.now board.now.items }
     requires cover { Cover tables.now (rules_of board.now) }
+    requires apart { apart ≡ true → RulesApart board.now.items upper lower }
     requires later { AreLater source.now board.now after.now found.old }
     requires few { length found.old.leads ≤ room }
     ensures keeps { OnOk result (Keeps found.old found.new) }
@@ -149,12 +156,12 @@ fn try_joins(
 {
     let up = Step::JoinSelUp { upper, lower };
     let down = Step::JoinSelDown { upper, lower };
-    try_both(board, tables, source, after, &up, &down, found)?;
+    try_both(board, tables, source, after, &up, &down, apart, found)?;
     let up = Step::JoinDeclUp { upper, lower };
     let down = Step::JoinDeclDown { upper, lower };
-    try_both(board, tables, source, after, &up, &down, found)?;
+    try_both(board, tables, source, after, &up, &down, apart, found)?;
     let step = Step::Share { upper, lower };
-    try_step(board, tables, source, after, &step, false, found)
+    try_step(board, tables, source, after, &step, false, apart, found)
 }
 
 /// Whether an item owns no step with another one, where a lead leads the steps that it owns.
@@ -167,6 +174,16 @@ fn owns_none(after: &Lead, theirs: &Mark, ours: &Mark) -> bool
     }
 }
 
+/// Whether the rule of this number is known to have no selector of the one whose digests are told.
+fn is_apart_there(board: &Board, told: &Option<BTreeSet<u32>>, number: u32) -> bool
+    ensures { result ≡ true → (r q : RuleParts) → Tells told.now r → slice_get board.now.items number ≡ Some (item.Rule q) → AreApart r q }
+{
+    match find_rule(board.sheet(), number) {
+        Some(rule) => is_apart(told, rule),
+        None => false,
+    }
+}
+
 /// Puts the turns of the steps of an item and another one with this label.
 fn try_partner(
     board: &Board,
@@ -175,11 +192,13 @@ fn try_partner(
     after: &Lead,
     number: u32,
     label: u64,
+    told: &Option<BTreeSet<u32>>,
     found: &mut Found,
 ) -> Result<(), AllocError>
     requires plannable { IsPlannable source.now board.now.items }
     requires cover { Cover tables.now (rules_of board.now) }
     requires there { number < length board.now.items }
+    requires told { (r : RuleParts) → slice_get board.now.items number ≡ Some (item.Rule r) → Tells told.now r }
     requires owned { slice_index (births_of board.now.marks) number ≡ after.now.owner }
     requires later { AreLater source.now board.now after.now found.old }
     requires few { length found.old.leads ≤ room }
@@ -197,10 +216,11 @@ fn try_partner(
     if owns_none(after, &theirs, &ours) {
         return Ok(());
     }
+    let apart = is_apart_there(board, told, other);
     if other < number {
-        try_joins(board, tables, source, after, other, number, found)
+        try_joins(board, tables, source, after, other, number, apart, found)
     } else {
-        try_joins(board, tables, source, after, number, other, found)
+        try_joins(board, tables, source, after, number, other, apart, found)
     }
 }
 
@@ -212,11 +232,13 @@ fn try_partners(
     after: &Lead,
     number: u32,
     labels: &[u64],
+    told: &Option<BTreeSet<u32>>,
     found: &mut Found,
 ) -> Result<(), AllocError>
     requires plannable { IsPlannable source.now board.now.items }
     requires cover { Cover tables.now (rules_of board.now) }
     requires there { number < length board.now.items }
+    requires told { (r : RuleParts) → slice_get board.now.items number ≡ Some (item.Rule r) → Tells told.now r }
     requires owned { slice_index (births_of board.now.marks) number ≡ after.now.owner }
     requires later { AreLater source.now board.now after.now found.old }
     requires few { length found.old.leads ≤ room }
@@ -227,7 +249,7 @@ fn try_partners(
 {
     let mut rest = labels;
     'rest: while let Some((label, behind)) = rest.split_first() {
-        try_partner(board, tables, source, after, number, *label, found)?;
+        try_partner(board, tables, source, after, number, *label, told, found)?;
         rest = behind;
     }
     Ok(())
@@ -271,6 +293,9 @@ pub fn next_leads(
         alloc, board, tables, source, after, number, rule, &mut found,
     )?;
     let partners = tables.partners(alloc, rule)?;
-    try_partners(board, tables, source, after, number, &partners, &mut found)?;
+    let told = told_digests(alloc, rule)?;
+    try_partners(
+        board, tables, source, after, number, &partners, &told, &mut found,
+    )?;
     Ok(found)
 }

@@ -5,6 +5,7 @@ ghost use Rattle.lead_plan.specs.Weights.{room};
 ghost use Rattle.plan_laws.specs.Plannable.{IsPlannable};
 ghost use Rattle.rule_tables.specs.Tables.{Cover};
 ghost use Rattle.step_laws.specs.Steps.{HasStep};
+ghost use Rattle.step_savings.specs.Apart.{StepApart};
 ghost use Rattle.step_turns.specs.Looking.{AreLater, Covers, Keeps};
 ghost use Rattle.step_turns.specs.Marked.{rules_of};
 ghost use Rattle.step_turns.specs.Once.{PartsStandOnce};
@@ -14,7 +15,7 @@ use crate::found::Found;
 use crate::order::{is_sooner, lead_of};
 use crate::scopes::is_beside;
 use lead_plan::Lead;
-use merge_plan::{KnownLengths, saved};
+use merge_plan::{KnownLengths, saved_if_apart};
 use plan_board::Board;
 use rule_tables::Tables;
 use std::alloc::AllocError;
@@ -22,7 +23,7 @@ use step_laws::Step;
 
 /// Puts the turn of a step to those that were found, if that is one of the sheet in the scope of the lead `after`, saves
 /// something and comes later than the lead. `once` says that the parts of the kind that it cuts are known to stand in their
-/// rule once.
+/// rule once, `apart` that the rules of a step of two items are known to have no selector in common.
 pub(crate) fn try_step(
     board: &Board,
     tables: &Tables,
@@ -30,11 +31,13 @@ pub(crate) fn try_step(
     after: &Lead,
     step: &Step,
     once: bool,
+    apart: bool,
     found: &mut Found,
 ) -> Result<(), AllocError>
     requires plannable { IsPlannable source.now board.now.items }
     requires cover { Cover tables.now (rules_of board.now) }
     requires once { once ≡ true → PartsStandOnce board.now.items step.now }
+    requires apart { apart ≡ true → StepApart board.now.items step.now }
     requires later { AreLater source.now board.now after.now found.old }
     requires few { length found.old.leads ≤ room }
     ensures keeps { OnOk result (Keeps found.old found.new) }
@@ -48,7 +51,7 @@ pub(crate) fn try_step(
     if !is_beside(board, after, step) {
         return Ok(());
     }
-    let saving = saved(source, board.sheet(), step);
+    let saving = saved_if_apart(source, board.sheet(), step, apart);
     if saving == 0 {
         return Ok(());
     }
@@ -67,10 +70,13 @@ pub(crate) fn try_both(
     after: &Lead,
     first: &Step,
     second: &Step,
+    apart: bool,
     found: &mut Found,
 ) -> Result<(), AllocError>
     requires plannable { IsPlannable source.now board.now.items }
     requires cover { Cover tables.now (rules_of board.now) }
+    requires apart_first { apart ≡ true → StepApart board.now.items first.now }
+    requires apart_second { apart ≡ true → StepApart board.now.items second.now }
     requires alike { HasStep board.now.items second.now → HasStep board.now.items first.now }
     requires later { AreLater source.now board.now after.now found.old }
     requires few { length found.old.leads ≤ room }
@@ -83,6 +89,6 @@ pub(crate) fn try_both(
     if !is_step_of(board, tables, first, false) {
         return Ok(());
     }
-    try_step(board, tables, source, after, first, false, found)?;
-    try_step(board, tables, source, after, second, false, found)
+    try_step(board, tables, source, after, first, false, apart, found)?;
+    try_step(board, tables, source, after, second, false, apart, found)
 }

@@ -4,4 +4,4 @@ use Rattle.step_savings.specs.Weighing.{rule_of}
 
 pub returns-clause-exact : goal.returns-clause-exact
 returns-clause-exact g c =
-    lower_decls_weigh (g.L.Lengths.source c.args.lengths.now) (rule_of c.args.upper.now) (rule_of c.args.lower.now) c.selectors_among_weight-common.result c.decls_weight-decls.result c.selectors_among_weight-common.ensures.exact c.decls_weight-decls.ensures.exact
+    lower_decls_weigh (g.L.Lengths.source c.args.lengths.now) (rule_of c.args.upper.now) (rule_of c.args.lower.now) c.common_selectors_weight-common.result c.decls_weight-decls.result c.common_selectors_weight-common.ensures.exact c.decls_weight-decls.ensures.exact

@@ -1,5 +1,6 @@
 use Rattle.std.proofs.Common.{◌≡◌, ◌≤◌}
 use Rattle.lead_plan.specs.declared.lead.Scope.TheVariants.{Owned}
+use Rattle.step_turns.proofs.Digesting.{apart_above, apart_below}
 use Rattle.step_turns.proofs.Owned.{born_later, partner_above, partner_below}
 use Rattle.step_turns.proofs.Results.{on_ok}
 use Rattle.step_turns.proofs.Telling.{label_of_mark}
@@ -10,6 +11,14 @@ returns-then-owns_none-clause-covers c =
     let young : (c.args.after.now.scope ≡ Owned) × (c.mark-ours.result.birth ≤ c.mark-theirs.result.birth) = c.owns_none.ensures c.if-owns_none.true in
     born_later c.args.source.now c.args.board.now c.args.after.now c.args.found.now c.args.number c.args.label c.in-Some.other c.mark-theirs.result c.mark-ours.result c.mark-theirs.ensures c.mark-ours.ensures c.marks-marks.ensures.are_marks
     (label_of_mark c.args.board.now.marks c.in-Some.other c.args.label c.mark-theirs.result c.in-Some.ensures.some c.mark-theirs.ensures) young.0 young.1 c.requires.owned
+
+pub try_joins-requires-clause-apart : goal.try_joins-requires-clause-apart
+try_joins-requires-clause-apart c = λ known.
+    apart_below c.args.board.now.items c.args.number c.in-Some.other c.args.told.now c.requires.told (c.is_apart_there-apart.ensures known)
+
+pub try_joins-requires-else-other-number-clause-apart : goal.try_joins-requires-else-other-number-clause-apart
+try_joins-requires-else-other-number-clause-apart c = λ known.
+    apart_above c.args.board.now.items c.args.number c.in-Some.other c.args.told.now c.requires.told (c.is_apart_there-apart.ensures known)
 
 pub returns-then-other-number-clause-covers : goal.returns-then-other-number-clause-covers
 returns-then-other-number-clause-covers c =

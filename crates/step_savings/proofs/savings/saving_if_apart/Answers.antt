@@ -2,8 +2,9 @@ use Rattle.std.proofs.Common.{◌≡◌, ℕ, pos, ◌-ℤ◌, ap, arith}
 use Rattle.std.proofs.lemmas.Int.{ints}
 use Rattle.order_laws.specs.Edits.{edited}
 use Rattle.step_laws.specs.Sizes.{size}
+use Rattle.step_savings.proofs.ApartWeights.{found_apart}
 use Rattle.step_savings.proofs.Saved.{saves, weighable}
-use Rattle.step_savings.proofs.savings.saving_by.Goals as goal
+use Rattle.step_savings.proofs.savings.saving_if_apart.Goals as goal
 
 pub taken_weight-taken-requires-clause-upper : goal.taken_weight-taken-requires-clause-upper
 taken_weight-taken-requires-clause-upper g c =
@@ -20,6 +21,16 @@ brought_weight-brought-requires-clause-upper g c =
 pub brought_weight-brought-requires-clause-lower : goal.brought_weight-brought-requires-clause-lower
 brought_weight-brought-requires-clause-lower g c =
     weighable (g.L.Lengths.source c.args.lengths.now) c.args.sheet.now.items c.items_of-first.result.1 c.rule_at-2.result.now _ c.requires.sound c.requires.short c.rule_at-2.ensures c.parts_of-lower.ensures
+
+pub taken_weight-taken-requires-clause-apart : goal.taken_weight-taken-requires-clause-apart
+taken_weight-taken-requires-clause-apart g c = λ known.
+    found_apart c.args.sheet.now.items c.args.step.now c.items_of-first.result.0 c.items_of-first.result.1 c.rule_at.result.now c.rule_at-2.result.now _ _
+    (ap (λ (p : ℕ × ℕ). p.0) c.items_of-first.ensures) (ap (λ (p : ℕ × ℕ). p.1) c.items_of-first.ensures) c.rule_at.ensures c.rule_at-2.ensures c.parts_of-upper.ensures c.parts_of-lower.ensures (c.requires.apart known)
+
+pub brought_weight-brought-requires-clause-apart : goal.brought_weight-brought-requires-clause-apart
+brought_weight-brought-requires-clause-apart g c = λ known.
+    found_apart c.args.sheet.now.items c.args.step.now c.items_of-first.result.0 c.items_of-first.result.1 c.rule_at.result.now c.rule_at-2.result.now _ _
+    (ap (λ (p : ℕ × ℕ). p.0) c.items_of-first.ensures) (ap (λ (p : ℕ × ℕ). p.1) c.items_of-first.ensures) c.rule_at.ensures c.rule_at-2.ensures c.parts_of-upper.ensures c.parts_of-lower.ensures (c.requires.apart known)
 
 pub returns : goal.returns
 returns g c = λ e is.
