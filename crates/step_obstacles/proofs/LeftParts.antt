@@ -8,7 +8,7 @@ use Rattle.css_model.specs.declared.sheet.Item.{Item}
 use Rattle.css_model.specs.declared.sheet.Item.TheVariants.{Rule}
 use Rattle.css_model.specs.Sheets.RuleParts.{RuleParts}
 use Rattle.list_facts.proofs.Members.{Contains-here, Contains-there}
-use Rattle.order_laws.proofs.ForCallers.{decls, has_decl_is, map_has}
+use Rattle.order_laws.proofs.ForCallers.{has_decl_is, map_has}
 use Rattle.order_laws.specs.Edits.{Edit}
 use Rattle.order_laws.specs.Members.{has_decl}
 use Rattle.step_laws.proofs.ForCallers.{in_common, is_common}

@@ -1,10 +1,12 @@
 -- What is told of a moved pair, by its place.
-use Rattle.std.proofs.Common.{◌≡◌, ◌⊎◌, ℕ, true, false, List, Some, refl, sym, ap, subst, inl, inr}
+use Rattle.std.proofs.Common.{◌≡◌, ◌⊎◌, ℕ, true, false, List, Some, refl, sym, ap, ◌∙◌, subst, inl, inr}
 use Rattle.std.specs.Prelude.{Option, Result, Ok, Err, IfOk, slice_get}
 use Rattle.std.proofs.lemmas.Bool.{false≢true}
+use Rattle.cascade_laws.proofs.ForCallers.{some-same}
 use Rattle.css_model.specs.Cascade.Order.{Pair}
 use Rattle.css_model.specs.declared.selector.Specificity.{Specificity}
 use Rattle.css_model.specs.declared.sheet.Decl.{Decl}
+use Rattle.css_model.specs.declared.sheet.DeclItem.{DeclItem}
 use Rattle.css_model.specs.declared.sheet.Item.{Item}
 use Rattle.css_model.specs.declared.sheet.Item.TheVariants.{Rule, KeptRule, KeptBlock}
 use Rattle.css_model.specs.declared.sheet.Piece.{Piece}
@@ -17,6 +19,7 @@ use Rattle.css_model.specs.Documents.Specificity.{specificity_of}
 use Rattle.css_model.specs.Selectors.Profile.{IsInProfile}
 use Rattle.obstacles.specs.Blocking.{IsAt, Names}
 use Rattle.obstacles.specs.declared.obstacle.Obstacle.{Obstacle}
+use Rattle.obstacles.specs.declared.obstacle.PairPlace.{PairPlace}
 use Rattle.overlap.specs.PairsParts.{Answered}
 use Rattle.step_obstacles.proofs.Looking.{member_at}
 use Rattle.step_obstacles.proofs.PairAnswers.{unlike_passes}
@@ -24,8 +27,11 @@ use Rattle.step_obstacles.specs.Blocked.{AllPass, IsFound, IsTold, IsToldOf}
 use Rattle.step_obstacles.specs.declared.facing.DeclAt.{DeclAt}
 use Rattle.step_obstacles.specs.declared.facing.Facing.{Facing}
 use Rattle.step_obstacles.specs.declared.facing.Facing.TheVariants as facing
+use Rattle.step_obstacles.specs.Known.{IsNoted}
 use Rattle.step_obstacles.specs.Turns.{Faces, IsAskable, IsDeclAt, MayWeigh, OfItem, OfRule, OfSelectors, hindrance_of, other_of, pair_of, with_kept}
 use Rattle.wall_laws.specs.Holding.{Hindrance, OfPair}
+use Rattle.window_order.specs.Places.{IsStanding}
+use Rattle.window_order.specs.declared.place.Standing.{Standing}
 use Rattle.window_order.specs.declared.window.Window.{Window}
 use Rattle.window_order.specs.Weighing.{DeclsWeigh}
 
@@ -39,6 +45,32 @@ module _ (w : Window) (moved : DeclAt) (i : ℕ) (x : SelItem) (is : IsDeclAt w.
   -- the pair stands at its place
   stands : IsAt w.items.now (record { item = moved.item; sel = i; decl = moved.number }) (pair_of x moved.decl.now)
   stands = record { rule = moved.rule.now; selector = x; decl = is.item; rule_at = is.rule_at; selector_at = at; decl_at = is.decl_at; is = ap (pair x.selector) (sym is.is) }
+
+  abbrev pair_place : PairPlace
+  pair_place = record { item = moved.item; sel = i; decl = moved.number }
+
+  -- what is noted of its place holds of it
+  pub stands_as_noted : (s : Standing) → IsNoted w pair_place s → (t : SelectorParts) → t ≡ x.selector → IsStanding w (pair t moved.decl.now) s
+  stands_as_noted s noted t t_is = subst (λ (u : SelectorParts). IsStanding w (pair u moved.decl.now) s) (sym t_is) (noted (pair_of x moved.decl.now) stands)
+
+  -- what holds of it may be noted of its place
+  pub noted_as_stands : (s : Standing) (t : SelectorParts) → t ≡ x.selector → IsStanding w (pair t moved.decl.now) s → IsNoted w pair_place s
+  noted_as_stands s t t_is h p there = subst (λ (q : Pair). IsStanding w q s) same h
+    where
+      rules : moved.rule.now ≡ there.rule
+      rules = let e : Some (Rule moved.rule.now) ≡ Some (Rule there.rule) = sym is.rule_at ∙ there.rule_at in cc
+
+      selectors : x ≡ there.selector
+      selectors = some-same (sym at ∙ ap (λ (r : RuleParts). slice_get r.selectors i) rules ∙ there.selector_at)
+
+      decls : is.item ≡ there.decl
+      decls = some-same (sym is.decl_at ∙ ap (λ (r : RuleParts). slice_get r.decls moved.number) rules ∙ there.decl_at)
+
+      same : pair t moved.decl.now ≡ p
+      same =
+          ap (λ (u : SelectorParts). pair u moved.decl.now) (t_is ∙ ap (λ (y : SelItem). y.selector) selectors)
+          ∙ ap (λ (d : Decl). pair there.selector.selector d) (sym is.is ∙ ap (λ (y : DeclItem). y.decl) decls)
+          ∙ sym there.is
 
   -- its selector may be asked for
   pub in_profile : IsAskable w.items.now → (s : SelectorParts) → s ≡ x.selector → IsInProfile s

@@ -1,3 +1,4 @@
+pub mod Known
 pub mod Among
 pub mod Blocked
 pub mod StepWindow

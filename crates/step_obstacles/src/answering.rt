@@ -6,15 +6,17 @@ ghost use Rattle.css_model.specs.Selectors.Profile.{IsInProfile};
 ghost use Rattle.sheet_order.specs.Allowing.{Stays};
 ghost use Rattle.sheet_order.specs.Laws.{is_apart};
 ghost use Rattle.step_obstacles.specs.Blocked.{AreAnswered, IsTold};
+ghost use Rattle.step_obstacles.specs.Known.{FacedStands};
 ghost use Rattle.step_obstacles.specs.Turns.{Faces, MayWeigh, hindrance_of};
 ghost use Rattle.wall_laws.specs.Holding.{OfPair};
+ghost use Rattle.window_order.specs.Places.{IsStanding};
 ghost use Rattle.window_order.specs.Weighing.{DeclsWeigh};
 
 use crate::facing::Facing;
 use css_model::Selector;
 use overlap::{Answer, Pairs};
 use std::alloc::AllocError;
-use window_order::{PairRef, Window};
+use window_order::{PairRef, Standing, Window};
 
 /// Whether an answer says that the selectors are apart.
 fn says_apart(answer: &Answer) -> bool
@@ -70,20 +72,26 @@ fn pairs_block(
     pairs: &mut Pairs,
     window: &Window<'_>,
     p: &PairRef<'_>,
+    of_p: &mut Standing,
     q: &PairRef<'_>,
+    of_q: &mut Standing,
 ) -> Result<bool, AllocError>
     requires weigh { DeclsWeigh p.now.decl q.now.decl }
     requires specificity { specificity_of p.now.selector ≡ specificity_of q.now.selector }
     requires first { IsInProfile p.now.selector }
     requires second { IsInProfile q.now.selector }
+    requires of_p { IsStanding window.now p.now of_p.old }
+    requires faced { IsStanding window.now q.now of_q.old }
     ensures stays { Stays pairs.old pairs.new }
     ensures told { IfOk result (λ b. IsTold pairs.new.answers window.now (OfPair p.now q.now) b) }
+    ensures of_p { IsStanding window.now p.now of_p.new }
+    ensures faced { IsStanding window.now q.now of_q.new }
 {
     let held = held_apart(pairs, p.selector, q.selector);
     if let Some(true) = held {
         return Ok(false);
     }
-    if !window.is_reversed(p, q) {
+    if !window.is_known_reversed(p, of_p, q, of_q) {
         return Ok(false);
     }
     Ok(!told_apart(pairs, p.selector, q.selector, held)?)
@@ -95,16 +103,22 @@ pub(crate) fn blocks(
     pairs: &mut Pairs,
     window: &Window<'_>,
     p: &PairRef<'_>,
+    of_p: &mut Standing,
     facing: &Facing<'_>,
+    of_facing: &mut Standing,
 ) -> Result<bool, AllocError>
     requires faces { Faces window.now p.now.decl facing.now }
     requires specificity { MayWeigh (specificity_of p.now.selector) facing.now }
     requires profile { IsInProfile p.now.selector }
+    requires of_p { IsStanding window.now p.now of_p.old }
+    requires faced { FacedStands window.now facing.now of_facing.old }
     ensures stays { Stays pairs.old pairs.new }
     ensures told { IfOk result (λ b. IsTold pairs.new.answers window.now (hindrance_of window.now.items.now facing.now p.now) b) }
+    ensures of_p { IsStanding window.now p.now of_p.new }
+    ensures faced { FacedStands window.now facing.now of_facing.new }
 {
     match facing {
-        Facing::Pair(q, _, _) => pairs_block(pairs, window, p, q),
-        Facing::Kept(number) => Ok(window.is_kept_reversed(p, *number as usize)),
+        Facing::Pair(q, _, _) => pairs_block(pairs, window, p, of_p, q, of_facing),
+        Facing::Kept(number) => Ok(window.is_known_kept_reversed(p, of_p, *number as usize)),
     }
 }

@@ -5,6 +5,7 @@ mod answering;
 mod decl_masks;
 mod facing;
 mod held;
+mod known;
 mod left_parts;
 mod pair_obstacles;
 mod rule_parts;

@@ -7,6 +7,7 @@ ghost use Rattle.related_props.specs.Masks.{decl_mask, item_mask};
 ghost use Rattle.sheet_order.specs.Allowing.{Stays};
 ghost use Rattle.step_obstacles.specs.Blocked.{IsToldOf};
 ghost use Rattle.step_obstacles.specs.Among.{Among};
+ghost use Rattle.step_obstacles.specs.Known.{FacedStands, IsKnown, IsNoted};
 ghost use Rattle.step_obstacles.specs.Turns as turns;
 ghost use Rattle.wall_laws.specs.Holding.{OfPair};
 ghost use Rattle.window_order.specs.Weighing.{DeclsWeigh};
@@ -14,6 +15,7 @@ ghost use Rattle.window_order.specs.Weighing.{DeclsWeigh};
 use crate::answering::blocks;
 use crate::decl_masks::{mask_at, masks_in};
 use crate::facing::{DeclAt, Facing, Met, MovedDecl, Source};
+use crate::known::{Known, note, noted};
 use crate::rule_parts::{decl_count, decl_of, selector_count, selector_of};
 use crate::specificities::{specificity_at, specificity_in_profile};
 use css_model::{Decl, Item, Rule};
@@ -21,38 +23,84 @@ use obstacles::{Obstacle, PairPlace};
 use overlap::Pairs;
 use related_props::related;
 use std::alloc::{AllocError, Global};
-use window_order::{PairRef, Window, weighs_kept};
+use window_order::{PairRef, Standing, Window, weighs_kept};
+
+/// The place of the pair of a selector of this number.
+fn place_of(moved: &DeclAt<'_>, number: u32) -> PairPlace
+    ensures { result ≡ record { item = moved.now.item; sel = number; decl = moved.now.number } }
+{
+    PairPlace {
+        item: moved.item,
+        sel: number,
+        decl: moved.number,
+    }
+}
 
 /// The obstacle of the pair of a selector of this number and what it faces.
 fn named(moved: &DeclAt<'_>, number: u32, facing: &Facing<'_>) -> Obstacle
     ensures { result ≡ record { moved = record { item = moved.now.item; sel = number; decl = moved.now.number }; other = turns.other_of facing.now } }
 {
-    let place = PairPlace {
-        item: moved.item,
-        sel: number,
-        decl: moved.number,
-    };
     Obstacle {
-        moved: place,
+        moved: place_of(moved, number),
         other: facing.other(),
     }
 }
 
+/// How many selectors a rule has, and how many pairs, if they can be counted.
+fn counts_of(rule: &Rule) -> (usize, usize) {
+    let selectors = rule.selectors.len();
+    (selectors, selectors.wrapping_mul(rule.decls.len()))
+}
+
+/// Notes where the pair of the selector of this number stands.
+fn note_selector(
+    alloc: Global,
+    known: &mut Known,
+    window: &Window<'_>,
+    moved: &DeclAt<'_>,
+    number: u32,
+    standing: Standing,
+) -> Result<(), AllocError>
+    requires known { IsKnown window.now known.old }
+    requires noted { IsNoted window.now (record { item = moved.now.item; sel = number; decl = moved.now.number }) standing }
+    ensures { IsKnown window.now known.new }
+{
+    let (selectors, pairs) = counts_of(moved.rule);
+    let place = place_of(moved, number);
+    note(alloc, known, place, standing, selectors, pairs)
+}
+
+/// What is known of it.
+fn noted_selector(known: &Known, window: &Window<'_>, moved: &DeclAt<'_>, number: u32) -> Standing
+    requires { IsKnown window.now known.now }
+    ensures { IsNoted window.now (record { item = moved.now.item; sel = number; decl = moved.now.number }) result }
+{
+    let (selectors, _) = counts_of(moved.rule);
+    noted(known, place_of(moved, number), selectors)
+}
+
 /// Of the selector of this number, which is passed over where its specificity is not that of what it faces.
 fn of_selector(
+    alloc: Global,
     pairs: &mut Pairs,
+    known: &mut Known,
     window: &Window<'_>,
     moved: &MovedDecl<'_>,
     facing: &Facing<'_>,
+    of_facing: &mut Standing,
     number: u32,
 ) -> Result<Option<Obstacle>, AllocError>
     requires askable { turns.IsAskable window.now.items.now }
     requires moved { turns.IsMovedDecl window.now.items.now moved.now }
     requires faces { turns.Faces window.now moved.now.at.decl.now facing.now }
     requires number { (x : declared_selector.SelItem) × (slice_get moved.now.at.rule.now.selectors number ≡ Some x) }
+    requires known { IsKnown window.now known.old }
+    requires faced { FacedStands window.now facing.now of_facing.old }
     ensures stays { Stays pairs.old pairs.new }
     ensures told { IfOk result (λ found. (x : declared_selector.SelItem) → slice_get moved.now.at.rule.now.selectors number ≡ Some x →
         IsToldOf pairs.new.answers window.now (λ by. by ≡ turns.hindrance_of window.now.items.now facing.now (turns.pair_of x moved.now.at.decl.now)) found) }
+    ensures known { IsKnown window.now known.new }
+    ensures faced { FacedStands window.now facing.now of_facing.new }
 {
     if !facing.may_weigh(specificity_at(moved.specificities, number)) {
         return Ok(None);
@@ -61,7 +109,10 @@ fn of_selector(
         selector: selector_of(moved.at.rule, number),
         decl: moved.at.decl,
     };
-    if blocks(pairs, window, &p, facing)? {
+    let mut of_p = noted_selector(known, window, &moved.at, number);
+    let blocked = blocks(pairs, window, &p, &mut of_p, facing, of_facing)?;
+    note_selector(alloc, known, window, &moved.at, number, of_p)?;
+    if blocked {
         return Ok(Some(named(&moved.at, number, facing)));
     }
     Ok(None)
@@ -69,21 +120,30 @@ fn of_selector(
 
 /// Of all selectors of the declaration's rule.
 fn of_selectors(
+    alloc: Global,
     pairs: &mut Pairs,
+    known: &mut Known,
     window: &Window<'_>,
     moved: &MovedDecl<'_>,
     facing: &Facing<'_>,
+    of_facing: &mut Standing,
 ) -> Result<Option<Obstacle>, AllocError>
     requires askable { turns.IsAskable window.now.items.now }
     requires moved { turns.IsMovedDecl window.now.items.now moved.now }
     requires faces { turns.Faces window.now moved.now.at.decl.now facing.now }
+    requires known { IsKnown window.now known.old }
+    requires faced { FacedStands window.now facing.now of_facing.old }
     ensures stays { Stays pairs.old pairs.new }
     ensures told { IfOk result (λ found. IsToldOf pairs.new.answers window.now
         (Among moved.now.at.rule.now.selectors (λ x by. by ≡ turns.hindrance_of window.now.items.now facing.now (turns.pair_of x moved.now.at.decl.now))) found) }
+    ensures known { IsKnown window.now known.new }
+    ensures faced { FacedStands window.now facing.now of_facing.new }
 {
     let count = selector_count(moved.at.rule);
     for number in 0..count {
-        if let Some(found) = of_selector(pairs, window, moved, facing, number)? {
+        if let Some(found) = of_selector(
+            alloc, pairs, known, window, moved, facing, of_facing, number,
+        )? {
             return Ok(Some(found));
         }
     }
@@ -92,7 +152,9 @@ fn of_selectors(
 
 /// With the pair of another declaration and the selector of this number.
 fn with_selector(
+    alloc: Global,
     pairs: &mut Pairs,
+    known: &mut Known,
     window: &Window<'_>,
     moved: &MovedDecl<'_>,
     other: &DeclAt<'_>,
@@ -103,9 +165,11 @@ fn with_selector(
     requires other { turns.IsDeclAt window.now.items.now other.now }
     requires weigh { DeclsWeigh moved.now.at.decl.now other.now.decl.now }
     requires number { (y : declared_selector.SelItem) × (slice_get other.now.rule.now.selectors number ≡ Some y) }
+    requires known { IsKnown window.now known.old }
     ensures stays { Stays pairs.old pairs.new }
     ensures told { IfOk result (λ found. (y : declared_selector.SelItem) → slice_get other.now.rule.now.selectors number ≡ Some y →
         IsToldOf pairs.new.answers window.now (turns.OfSelectors moved.now.at.rule.now moved.now.at.decl.now (λ p. OfPair p (turns.pair_of y other.now.decl.now))) found) }
+    ensures known { IsKnown window.now known.new }
 {
     let q = PairRef {
         selector: selector_of(other.rule, number),
@@ -117,12 +181,23 @@ fn with_selector(
         decl: other.number,
     };
     let specificity = specificity_in_profile(q.selector);
-    of_selectors(pairs, window, moved, &Facing::Pair(q, place, specificity))
+    let mut of_q = Standing::Unasked;
+    of_selectors(
+        alloc,
+        pairs,
+        known,
+        window,
+        moved,
+        &Facing::Pair(q, place, specificity),
+        &mut of_q,
+    )
 }
 
 /// With the pairs of another declaration, which weighs.
 fn with_decl(
+    alloc: Global,
     pairs: &mut Pairs,
+    known: &mut Known,
     window: &Window<'_>,
     moved: &MovedDecl<'_>,
     other: &DeclAt<'_>,
@@ -131,13 +206,15 @@ fn with_decl(
     requires moved { turns.IsMovedDecl window.now.items.now moved.now }
     requires other { turns.IsDeclAt window.now.items.now other.now }
     requires weigh { DeclsWeigh moved.now.at.decl.now other.now.decl.now }
+    requires known { IsKnown window.now known.old }
     ensures stays { Stays pairs.old pairs.new }
     ensures told { IfOk result (λ found. IsToldOf pairs.new.answers window.now
         (turns.OfOther moved.now.at.rule.now moved.now.at.decl.now other.now.rule.now other.now.decl.now) found) }
+    ensures known { IsKnown window.now known.new }
 {
     let count = selector_count(other.rule);
     for number in 0..count {
-        if let Some(found) = with_selector(pairs, window, moved, other, number)? {
+        if let Some(found) = with_selector(alloc, pairs, known, window, moved, other, number)? {
             return Ok(Some(found));
         }
     }
@@ -172,7 +249,9 @@ fn weigh(moved: &DeclAt<'_>, other: &DeclAt<'_>) -> bool
 
 /// With the pairs of another declaration, if it weighs.
 fn with_other(
+    alloc: Global,
     pairs: &mut Pairs,
+    known: &mut Known,
     window: &Window<'_>,
     moved: &MovedDecl<'_>,
     other: &DeclAt<'_>,
@@ -180,12 +259,14 @@ fn with_other(
     requires askable { turns.IsAskable window.now.items.now }
     requires moved { turns.IsMovedDecl window.now.items.now moved.now }
     requires other { turns.IsDeclAt window.now.items.now other.now }
+    requires known { IsKnown window.now known.old }
     ensures stays { Stays pairs.old pairs.new }
     ensures told { IfOk result (λ found. IsToldOf pairs.new.answers window.now
         (turns.OfOther moved.now.at.rule.now moved.now.at.decl.now other.now.rule.now other.now.decl.now) found) }
+    ensures known { IsKnown window.now known.new }
 {
     if weigh(&moved.at, other) {
-        with_decl(pairs, window, moved, other)
+        with_decl(alloc, pairs, known, window, moved, other)
     } else {
         Ok(None)
     }
@@ -193,7 +274,9 @@ fn with_other(
 
 /// With the pairs of the declaration of this number of a rule.
 fn with_number(
+    alloc: Global,
     pairs: &mut Pairs,
+    known: &mut Known,
     window: &Window<'_>,
     moved: &MovedDecl<'_>,
     rule: &Rule,
@@ -206,9 +289,11 @@ fn with_number(
     requires rule { turns.IsRuleAt window.now.items.now item rule.now }
     requires masks { masks.now ≡ map (turns.mask_in None) rule.now.decls }
     requires number { (g : declared_decl.DeclItem) × (slice_get rule.now.decls number ≡ Some g) }
+    requires known { IsKnown window.now known.old }
     ensures stays { Stays pairs.old pairs.new }
     ensures told { IfOk result (λ found. (g : declared_decl.DeclItem) → slice_get rule.now.decls number ≡ Some g →
         IsToldOf pairs.new.answers window.now (turns.OfOther moved.now.at.rule.now moved.now.at.decl.now rule.now g.decl) found) }
+    ensures known { IsKnown window.now known.new }
 {
     let other = DeclAt {
         item,
@@ -217,12 +302,14 @@ fn with_number(
         decl: decl_of(rule, number),
         mask: mask_at(masks, number),
     };
-    with_other(pairs, window, moved, &other)
+    with_other(alloc, pairs, known, window, moved, &other)
 }
 
 /// With the pairs of a rule.
 fn with_rule(
+    alloc: Global,
     pairs: &mut Pairs,
+    known: &mut Known,
     window: &Window<'_>,
     moved: &MovedDecl<'_>,
     rule: &Rule,
@@ -233,13 +320,17 @@ fn with_rule(
     requires moved { turns.IsMovedDecl window.now.items.now moved.now }
     requires rule { turns.IsRuleAt window.now.items.now item rule.now }
     requires masks { masks.now ≡ map (turns.mask_in None) rule.now.decls }
+    requires known { IsKnown window.now known.old }
     ensures stays { Stays pairs.old pairs.new }
     ensures told { IfOk result (λ found. IsToldOf pairs.new.answers window.now
         (turns.OfRule moved.now.at.rule.now moved.now.at.decl.now rule.now) found) }
+    ensures known { IsKnown window.now known.new }
 {
     let count = decl_count(rule);
     for number in 0..count {
-        if let Some(found) = with_number(pairs, window, moved, rule, masks, item, number)? {
+        if let Some(found) = with_number(
+            alloc, pairs, known, window, moved, rule, masks, item, number,
+        )? {
             return Ok(Some(found));
         }
     }
@@ -248,7 +339,9 @@ fn with_rule(
 
 /// With a kept item, if it weighs.
 fn with_kept(
+    alloc: Global,
     pairs: &mut Pairs,
+    known: &mut Known,
     window: &Window<'_>,
     moved: &MovedDecl<'_>,
     item: &Item,
@@ -257,12 +350,22 @@ fn with_kept(
     requires askable { turns.IsAskable window.now.items.now }
     requires moved { turns.IsMovedDecl window.now.items.now moved.now }
     requires item { turns.IsKeptHere window.now number item.now }
+    requires known { IsKnown window.now known.old }
     ensures stays { Stays pairs.old pairs.new }
     ensures told { IfOk result (λ found. IsToldOf pairs.new.answers window.now
         (turns.OfSelectors moved.now.at.rule.now moved.now.at.decl.now (turns.with_kept window.now.items.now number)) found) }
+    ensures known { IsKnown window.now known.new }
 {
     if weighs_kept(moved.at.decl, item) {
-        of_selectors(pairs, window, moved, &Facing::Kept(number))
+        of_selectors(
+            alloc,
+            pairs,
+            known,
+            window,
+            moved,
+            &Facing::Kept(number),
+            &mut Standing::Unasked,
+        )
     } else {
         Ok(None)
     }
@@ -270,7 +373,9 @@ fn with_kept(
 
 /// With an item.
 fn with_item(
+    alloc: Global,
     pairs: &mut Pairs,
+    known: &mut Known,
     window: &Window<'_>,
     moved: &MovedDecl<'_>,
     met: &Met<'_>,
@@ -278,14 +383,18 @@ fn with_item(
     requires askable { turns.IsAskable window.now.items.now }
     requires moved { turns.IsMovedDecl window.now.items.now moved.now }
     requires met { turns.IsMet window.now met.now }
+    requires known { IsKnown window.now known.old }
     ensures stays { Stays pairs.old pairs.new }
     ensures told { IfOk result (λ found. IsToldOf pairs.new.answers window.now
         (turns.OfItem moved.now.at.rule.now moved.now.at.decl.now window.now.items.now met.now.number met.now.item.now) found) }
+    ensures known { IsKnown window.now known.new }
 {
     match met.item {
-        Item::Rule(rule) => with_rule(pairs, window, moved, rule, met.masks, met.number),
+        Item::Rule(rule) => with_rule(
+            alloc, pairs, known, window, moved, rule, met.masks, met.number,
+        ),
         Item::KeptRule(_) | Item::KeptBlock(_) => {
-            with_kept(pairs, window, moved, met.item, met.number)
+            with_kept(alloc, pairs, known, window, moved, met.item, met.number)
         }
     }
 }
@@ -302,7 +411,9 @@ fn own_mask(source: &Source<'_>, part: u32) -> u64
 /// have no bit in common.
 #[tactic(auto, using(crate::proofs::Masked::decl_passed, crate::proofs::HeldAnswers::stays_itself))]
 fn of_decl(
+    alloc: Global,
     pairs: &mut Pairs,
+    known: &mut Known,
     window: &Window<'_>,
     source: &Source<'_>,
     met: &Met<'_>,
@@ -313,9 +424,11 @@ fn of_decl(
     requires masked { turns.IsMasked source.now }
     requires met { turns.IsMet window.now met.now }
     requires part { (x : declared_decl.DeclItem) × (slice_get source.now.rule.now.decls part ≡ Some x) }
+    requires known { IsKnown window.now known.old }
     ensures stays { Stays pairs.old pairs.new }
     ensures told { IfOk result (λ found. (x : declared_decl.DeclItem) → slice_get source.now.rule.now.decls part ≡ Some x →
         IsToldOf pairs.new.answers window.now (turns.OfDecl window.now.items.now met.now.number met.now.item.now source.now x) found) }
+    ensures known { IsKnown window.now known.new }
 {
     let mask = own_mask(source, part);
     if mask & met.mask == 0 {
@@ -332,12 +445,14 @@ fn of_decl(
         at,
         specificities: &source.specificities,
     };
-    with_item(pairs, window, &moved, met)
+    with_item(alloc, pairs, known, window, &moved, met)
 }
 
 /// Of each declaration of a rule with an item.
 fn of_each(
+    alloc: Global,
     pairs: &mut Pairs,
+    known: &mut Known,
     window: &Window<'_>,
     source: &Source<'_>,
     met: &Met<'_>,
@@ -346,12 +461,14 @@ fn of_each(
     requires source { turns.IsRuleAt window.now.items.now source.now.item source.now.rule.now }
     requires masked { turns.IsMasked source.now }
     requires met { turns.IsMet window.now met.now }
+    requires known { IsKnown window.now known.old }
     ensures stays { Stays pairs.old pairs.new }
     ensures told { IfOk result (λ found. IsToldOf pairs.new.answers window.now (turns.OfSource window.now.items.now met.now.number met.now.item.now source.now) found) }
+    ensures known { IsKnown window.now known.new }
 {
     let count = decl_count(source.rule);
     for decl in 0..count {
-        if let Some(found) = of_decl(pairs, window, source, met, decl)? {
+        if let Some(found) = of_decl(alloc, pairs, known, window, source, met, decl)? {
             return Ok(Some(found));
         }
     }
@@ -363,6 +480,7 @@ fn of_each(
 pub(crate) fn of_source(
     alloc: Global,
     pairs: &mut Pairs,
+    known: &mut Known,
     window: &Window<'_>,
     source: &Source<'_>,
     item: &Item,
@@ -374,8 +492,10 @@ pub(crate) fn of_source(
     requires masked { turns.IsMasked source.now }
     requires item { turns.IsItemOf window.now number item.now }
     requires mask { mask ≡ item_mask item.now }
+    requires known { IsKnown window.now known.old }
     ensures stays { Stays pairs.old pairs.new }
     ensures told { IfOk result (λ found. IsToldOf pairs.new.answers window.now (turns.OfSource window.now.items.now number item.now source.now) found) }
+    ensures known { IsKnown window.now known.new }
 {
     if source.mask & mask == 0 {
         return Ok(None);
@@ -387,5 +507,5 @@ pub(crate) fn of_source(
         mask,
         masks: &masks,
     };
-    of_each(pairs, window, source, &met)
+    of_each(alloc, pairs, known, window, source, &met)
 }

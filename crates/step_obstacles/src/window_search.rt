@@ -5,9 +5,11 @@ ghost use Rattle.css_model.specs.declared.sheet.Item as declared;
 ghost use Rattle.related_props.specs.Masks.{item_mask};
 ghost use Rattle.sheet_order.specs.Allowing.{Stays};
 ghost use Rattle.step_obstacles.specs.Blocked.{IsToldOf};
+ghost use Rattle.step_obstacles.specs.Known.{IsKnown};
 ghost use Rattle.step_obstacles.specs.Turns as turns;
 
 use crate::facing::Source;
+use crate::known::{Known, nothing_known};
 use crate::searching::of_source;
 use css_model::Item;
 use obstacles::Obstacle;
@@ -19,6 +21,7 @@ use window_order::Window;
 fn of_sources(
     alloc: Global,
     pairs: &mut Pairs,
+    known: &mut Known,
     window: &Window<'_>,
     sources: &[Source<'_>],
     item: &Item,
@@ -30,11 +33,13 @@ fn of_sources(
     requires masked { turns.AreMasked sources.now }
     requires item { turns.IsItemOf window.now number item.now }
     requires mask { mask ≡ item_mask item.now }
+    requires known { IsKnown window.now known.old }
     ensures stays { Stays pairs.old pairs.new }
     ensures told { IfOk result (λ found. IsToldOf pairs.new.answers window.now (turns.OfSources window.now.items.now number item.now sources.now) found) }
+    ensures known { IsKnown window.now known.new }
 {
     for source in sources {
-        if let Some(found) = of_source(alloc, pairs, window, source, item, number, mask)? {
+        if let Some(found) = of_source(alloc, pairs, known, window, source, item, number, mask)? {
             return Ok(Some(found));
         }
     }
@@ -54,6 +59,7 @@ fn mask_of(window: &Window<'_>, number: usize) -> u64
 fn of_number(
     alloc: Global,
     pairs: &mut Pairs,
+    known: &mut Known,
     window: &Window<'_>,
     sources: &[Source<'_>],
     number: usize,
@@ -63,12 +69,23 @@ fn of_number(
     requires masked { turns.AreMasked sources.now }
     requires above { window.now.start ≤ number }
     requires below { number ≤ window.now.last }
+    requires known { IsKnown window.now known.old }
     ensures stays { Stays pairs.old pairs.new }
     ensures told { IfOk result (λ found. IsToldOf pairs.new.answers window.now (turns.OfNumber window.now.items.now sources.now number) found) }
+    ensures known { IsKnown window.now known.new }
 {
     let item = &window.items[number];
     let mask = mask_of(window, number);
-    of_sources(alloc, pairs, window, sources, item, number as u32, mask)
+    of_sources(
+        alloc,
+        pairs,
+        known,
+        window,
+        sources,
+        item,
+        number as u32,
+        mask,
+    )
 }
 
 /// How many items a window has.
@@ -106,9 +123,10 @@ pub(crate) fn in_window(
     ensures told { IfOk result (λ found. IsToldOf pairs.new.answers window.now (turns.OfWindow window.now sources.now) found) }
 {
     let count = count_of(window);
+    let mut known = nothing_known(alloc);
     for turn in 0..count {
         let number = number_of(window, upwards, turn);
-        if let Some(found) = of_number(alloc, pairs, window, sources, number)? {
+        if let Some(found) = of_number(alloc, pairs, &mut known, window, sources, number)? {
             return Ok(Some(found));
         }
     }

@@ -41,7 +41,7 @@ pub record AreAbove (items rest : List Item) (p q : Pair) : Type 0 where
   pub first : HasPair behind p → ⊥
   pub second : HasPair behind q → ⊥
 
-nothing : (p : Pair) → HasPair [] p → ⊥
+pub nothing : (p : Pair) → HasPair [] p → ⊥
 nothing p h = let e = h.1.rule_at in cc
 
 pub above_all : (items : List Item) (p q : Pair) → AreAbove items items p q
@@ -67,7 +67,7 @@ one_less items rest above last p q cut a none = record {
 }
 
 -- the order by items whose last ones have neither
-before_above : (rest behind : List Item) (p q : Pair) → (HasPair behind p → ⊥) → (HasPair behind q → ⊥) → IsBefore (rest ++ behind) p q ↔ IsBefore rest p q
+pub before_above : (rest behind : List Item) (p q : Pair) → (HasPair behind p → ⊥) → (HasPair behind q → ⊥) → IsBefore (rest ++ behind) p q ↔ IsBefore rest p q
 before_above rest behind p q f g = (λ b. there ((before_in_two rest behind p q).0 b), λ b. (before_in_two rest behind p q).1 (inr (inr (f, g, b))))
   where
     there : BeforeInTwo rest behind p q → IsBefore rest p q

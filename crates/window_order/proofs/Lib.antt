@@ -1,6 +1,7 @@
 pub mod ForCallers
 mod KeptOrder
 mod LastFound
+mod LastPlaces
 mod LeftTests
 mod MaskedTests
 mod PairOrders

@@ -57,3 +57,10 @@ masks_between items masks first last is =
     ap (λ (list : List ItemMask). slice_range list first last) is
     ∙ ap (λ (list : List ItemMask). take (last - first) list) (drop-map item_mask first items)
     ∙ take-map item_mask (last - first) (drop first items)
+
+-- of one item
+pub masked_item_is : (p : Pair) (item : Item) (of_item : ItemMask) (b : Bool) → of_item ≡ item_mask item → b ≡ is_in_masked (pair_mask p) p item of_item → (b ≡ true) ↔ HasPair (item ∷ []) p
+masked_item_is p item of_item b of is = (λ e. (in_item_is p item).0 (sym same ∙ e), λ h. same ∙ (in_item_is p item).1 h)
+  where
+    same : b ≡ is_in_item p item
+    same = is ∙ ap (λ (m : ItemMask). is_in_masked (pair_mask p) p item m) of ∙ one_is p item

@@ -6,9 +6,10 @@ ghost use Rattle.css_model.specs.Cascade.Order.{HasPair};
 ghost use Rattle.css_model.specs.Sheets.KeptItems as keeping;
 ghost use Rattle.item_masks.specs.Masks.{item_mask};
 ghost use Rattle.window_order.specs.Orders as orders;
+ghost use Rattle.window_order.specs.Places as places;
 
 use crate::masked::stands_by_masks;
-use crate::pair::MaskedPair;
+use crate::pair::{MaskedPair, PairRef};
 use css_model::Item;
 use item_masks::ItemMask;
 
@@ -73,5 +74,45 @@ pub(crate) fn has_other_place(
         return false;
     }
     let above = stands_above(middle, masks, number, p);
+    comes_before_kept(old, above) != comes_before_kept(new, above)
+}
+
+/// Whether a pair whose last place in the middle part is this one stands below the kept item of this number.
+fn is_below(at: Option<usize>, number: usize) -> bool
+    ensures { IsTrue result ↔ places.IsBelow at number }
+{
+    match at {
+        Some(place) => number < place,
+        None => false,
+    }
+}
+
+/// Whether there is a last place.
+fn is_somewhere(at: Option<usize>) -> bool
+    ensures { IsTrue result ↔ places.IsSomewhere at }
+{
+    match at {
+        Some(_) => true,
+        None => false,
+    }
+}
+
+/// Whether they have, by where the pair stands last in what lies between.
+pub(crate) fn has_place_other(
+    old: KeptEnds,
+    new: KeptEnds,
+    middle: &[Item],
+    number: usize,
+    p: &PairRef<'_>,
+    at: Option<usize>,
+) -> bool
+    requires kept { (item : declared.Item) × (slice_get middle.now number ≡ Some item) × (keeping.is_kept item ≡ true) }
+    requires place { places.IsPlace middle.now p.now at }
+    ensures { orders.HasOtherPlace old new middle.now number p.now result }
+{
+    if is_below(at, number) {
+        return false;
+    }
+    let above = is_somewhere(at);
     comes_before_kept(old, above) != comes_before_kept(new, above)
 }

@@ -7,6 +7,7 @@ mod left;
 mod masked;
 mod order;
 mod pair;
+mod place;
 mod reversing;
 mod standing;
 mod weighing;
@@ -14,5 +15,6 @@ mod window;
 
 pub use left::{Left, LeftDecls, LeftRule, LeftSelectors};
 pub use pair::PairRef;
+pub use place::Standing;
 pub use weighing::{decls_weigh, same_specificity, weighs_kept};
 pub use window::Window;

@@ -1,11 +1,12 @@
 //! Whether a pair stands in items with masks, and how two pairs do.
 
-ghost use Rattle.std.specs.Prelude.{◌≡◌, ◌↔◌, IsTrue, ◌≤◌, length, map, take, zip};
+ghost use Rattle.std.specs.Prelude.{◌≡◌, ◌↔◌, IsTrue, ◌≤◌, ◌∷◌, [], length, map, take, zip};
 ghost use Rattle.std.specs.List.{list_any};
 ghost use Rattle.css_model.specs.Cascade.Order.{HasPair};
 ghost use Rattle.item_masks.specs.Masks.{item_mask, pair_mask};
 ghost use Rattle.window_order.specs.Found.{IsFound, IsFoundLast};
 ghost use Rattle.window_order.specs.Orders as orders;
+ghost use Rattle.window_order.specs.Places as places;
 ghost use Rattle.window_order.specs.Standing as standing;
 
 use crate::order::{Found, PairOrder, found_last, second_below};
@@ -37,6 +38,29 @@ pub(crate) fn stands_by_masks(items: &[Item], masks: &[ItemMask], p: &MaskedPair
     ensures { IsTrue result ↔ HasPair items.now p.now }
 {
     stands_masked(items, masks, p)
+}
+
+/// Whether it stands in an item, by its mask and that of the item.
+fn stands_in_masked(item: &Item, of_item: ItemMask, p: &MaskedPair<'_>) -> bool
+    requires { of_item ≡ item_mask item.now }
+    ensures { IsTrue result ↔ HasPair (item.now ∷ []) p.now }
+{
+    is_in_masked(item, of_item, p)
+}
+
+/// The number of the last of some items in which a pair stands, by its mask and theirs.
+pub(crate) fn last_by_masks(items: &[Item], masks: &[ItemMask], p: &MaskedPair<'_>) -> Option<usize>
+    requires { masks.now ≡ map item_mask items.now }
+    ensures { places.IsPlace items.now p.now result }
+{
+    let mut rest = items;
+    'rest: while let Some((last, above)) = rest.split_last() {
+        if stands_in_masked(last, masks[above.len()], p) {
+            return Some(above.len());
+        }
+        rest = above;
+    }
+    None
 }
 
 /// What an item with a mask tells that has these above it. It is looked at only where its mask meets that of one of the

@@ -29,7 +29,7 @@ impl<'a> Window<'a> {
     }
 
     /// What lies between.
-    fn between(&self) -> &'a [Item]
+    pub(crate) fn between(&self) -> &'a [Item]
         ensures { result.now ≡ reversed.middle_of self.now }
     {
         &self.items[self.middle..self.last]
@@ -50,7 +50,7 @@ impl<'a> Window<'a> {
     }
 
     /// The masks of what lies between.
-    fn between_masks(&self) -> &'a [ItemMask]
+    pub(crate) fn between_masks(&self) -> &'a [ItemMask]
         ensures { result.now ≡ map item_mask (reversed.middle_of self.now) }
     {
         &self.masks[self.middle..self.last]
@@ -64,14 +64,14 @@ impl<'a> Window<'a> {
     }
 
     /// Whether a pair stands behind.
-    fn stands_behind(&self, p: &MaskedPair<'_>) -> bool
+    pub(crate) fn stands_behind(&self, p: &MaskedPair<'_>) -> bool
         ensures { IsTrue result ↔ HasPair (reversed.behind_of self.now) p.now }
     {
         stands_by_masks(self.behind(), self.behind_masks(), p)
     }
 
     /// How two pairs stand in the parts at the ends before the step.
-    fn old_ends(&self, p: &PairRef<'_>, q: &PairRef<'_>) -> PairEnds
+    pub(crate) fn old_ends(&self, p: &PairRef<'_>, q: &PairRef<'_>) -> PairEnds
         ensures { orders.AreEnds (reversed.first_of self.now) (reversed.last_of self.now) p.now q.now result }
     {
         PairEnds {
@@ -81,7 +81,7 @@ impl<'a> Window<'a> {
     }
 
     /// How they do afterwards.
-    fn new_ends(&self, p: &PairRef<'_>, q: &PairRef<'_>) -> PairEnds
+    pub(crate) fn new_ends(&self, p: &PairRef<'_>, q: &PairRef<'_>) -> PairEnds
         ensures { orders.AreEnds (left.items_of self.now.first_left) (left.items_of self.now.last_left) p.now q.now result }
     {
         PairEnds {
@@ -148,7 +148,7 @@ impl<'a> Window<'a> {
     }
 
     /// Whether a pair stands in the parts at the ends before the step.
-    fn old_kept_ends(&self, p: &PairRef<'_>) -> KeptEnds
+    pub(crate) fn old_kept_ends(&self, p: &PairRef<'_>) -> KeptEnds
         ensures { orders.AreKeptEnds (reversed.first_of self.now) (reversed.last_of self.now) p.now result }
     {
         KeptEnds {
@@ -158,7 +158,7 @@ impl<'a> Window<'a> {
     }
 
     /// Whether it does so afterwards.
-    fn new_kept_ends(&self, p: &PairRef<'_>) -> KeptEnds
+    pub(crate) fn new_kept_ends(&self, p: &PairRef<'_>) -> KeptEnds
         ensures { orders.AreKeptEnds (left.items_of self.now.first_left) (left.items_of self.now.last_left) p.now result }
     {
         KeptEnds {
@@ -168,7 +168,7 @@ impl<'a> Window<'a> {
     }
 
     /// The number among the items of the middle part of the kept item of this number.
-    fn place_between(&self, number: usize) -> usize
+    pub(crate) fn place_between(&self, number: usize) -> usize
         requires above { self.now.start ≤ number }
         requires below { number ≤ self.now.last }
         requires kept { (item : declared.Item) × (slice_get self.now.items.now number ≡ Some item) × (is_kept item ≡ true) }

@@ -7,4 +7,4 @@ returns-in-Pair-clause-told c =
 
 pub returns-in-Kept-clause-told : goal.returns-in-Kept-clause-told
 returns-in-Kept-clause-told c =
-    kept_faced c.args.pairs.now.answers c.args.window.now c.args.p.now c.args.facing.now c.in-Kept.number c.in-Kept.is c.requires.faces c.is_kept_reversed.result c.is_kept_reversed.ensures
+    kept_faced c.args.pairs.now.answers c.args.window.now c.args.p.now c.args.facing.now c.in-Kept.number c.in-Kept.is c.requires.faces c.is_known_kept_reversed.result c.is_known_kept_reversed.ensures.told

@@ -20,6 +20,7 @@ returns-in-Some-clause-told c =
 pub loop-decl-preserved : goal.loop-decl-preserved
 loop-decl-preserved c = record {
   stays = stays_on c.args.pairs.now c.loop-decl.pairs c.of_decl.new.pairs c.loop-decl.invariant.stays c.of_decl.ensures.stays;
+  known = c.of_decl.ensures.known;
   pass = one_more_none c.args.window.now c.args.source.now.rule.now.decls (OfDecl c.args.window.now.items.now c.args.met.now.number c.args.met.now.item.now c.args.source.now) c.loop-decl.pairs c.of_decl.new.pairs c.loop-decl.decl c.in_ok-found.field-0 c.in_default.is c.of_decl.ensures.stays c.loop-decl.invariant.pass c.in_ok-found.ensures.told;
 }
 

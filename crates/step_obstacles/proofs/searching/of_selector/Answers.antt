@@ -6,7 +6,7 @@ use Rattle.css_model.specs.declared.selector.Specificity.{Specificity}
 use Rattle.css_model.specs.declared.sheet.SelItem.{SelItem}
 use Rattle.css_model.specs.Documents.Specificity.{specificity_of}
 use Rattle.step_obstacles.proofs.Masked.{at_map}
-use Rattle.step_obstacles.proofs.Named.{blocks_named, in_profile, pair, passes_named, passes_unlike}
+use Rattle.step_obstacles.proofs.Named.{blocks_named, in_profile, noted_as_stands, pair, passes_named, passes_unlike, stands_as_noted}
 use Rattle.step_obstacles.proofs.searching.of_selector.Goals as goal
 use Rattle.step_obstacles.specs.Blocked.{IsTold}
 use Rattle.step_obstacles.specs.Turns.{MayWeigh, hindrance_of, specificities_of}
@@ -40,13 +40,23 @@ blocks-requires-clause-profile c =
     let x = c.requires.number in
     in_profile c.args.window.now c.args.moved.now.at c.args.number x.0 c.requires.moved.at x.1 c.requires.askable c.selector_of.result.now (c.selector_of.ensures x.0 x.1)
 
-pub returns-then-branch-clause-told : goal.returns-then-branch-clause-told
-returns-then-branch-clause-told c = λ x at.
+pub returns-then-blocked-clause-told : goal.returns-then-blocked-clause-told
+returns-then-blocked-clause-told c = λ x at.
     blocks_named c.args.window.now c.args.moved.now.at c.args.number x c.requires.moved.at at c.blocks-2.new.pairs.answers c.args.facing.now c.requires.faces c.selector_of.result.now (c.selector_of.ensures x at)
-    (subst (λ (b : Bool). IsTold c.blocks-2.new.pairs.answers c.args.window.now (hindrance_of c.args.window.now.items.now c.args.facing.now (pair c.selector_of.result.now c.args.moved.now.at.decl.now)) b) c.if-branch.true c.in_ok-blocks.ensures.told)
+    (subst (λ (b : Bool). IsTold c.blocks-2.new.pairs.answers c.args.window.now (hindrance_of c.args.window.now.items.now c.args.facing.now (pair c.selector_of.result.now c.args.moved.now.at.decl.now)) b) c.if-blocked.true c.in_ok-blocked.ensures.told)
     c.named.result c.named.ensures
 
 pub returns-clause-told : goal.returns-clause-told
 returns-clause-told c = λ x at.
     passes_named c.args.window.now c.args.moved.now.at c.args.number x c.requires.moved.at at c.blocks-2.new.pairs.answers c.args.facing.now c.selector_of.result.now (c.selector_of.ensures x at)
-    (subst (λ (b : Bool). IsTold c.blocks-2.new.pairs.answers c.args.window.now (hindrance_of c.args.window.now.items.now c.args.facing.now (pair c.selector_of.result.now c.args.moved.now.at.decl.now)) b) c.if-branch.false c.in_ok-blocks.ensures.told)
+    (subst (λ (b : Bool). IsTold c.blocks-2.new.pairs.answers c.args.window.now (hindrance_of c.args.window.now.items.now c.args.facing.now (pair c.selector_of.result.now c.args.moved.now.at.decl.now)) b) c.if-blocked.false c.in_ok-blocked.ensures.told)
+
+pub blocks-requires-clause-of_p : goal.blocks-requires-clause-of_p
+blocks-requires-clause-of_p c =
+    let x = c.requires.number in
+    stands_as_noted c.args.window.now c.args.moved.now.at c.args.number x.0 c.requires.moved.at x.1 c.noted_selector-of_p.result c.noted_selector-of_p.ensures c.selector_of.result.now (c.selector_of.ensures x.0 x.1)
+
+pub note_selector-requires-clause-noted : goal.note_selector-requires-clause-noted
+note_selector-requires-clause-noted c =
+    let x = c.requires.number in
+    noted_as_stands c.args.window.now c.args.moved.now.at c.args.number x.0 c.requires.moved.at x.1 c.blocks-2.new.of_p c.selector_of.result.now (c.selector_of.ensures x.0 x.1) c.blocks-2.ensures.of_p

@@ -20,6 +20,8 @@ returns-in-Some-clause-told c =
 pub loop-number-preserved : goal.loop-number-preserved
 loop-number-preserved c = record {
   stays = stays_on c.args.pairs.now c.loop-number.pairs c.of_selector.new.pairs c.loop-number.invariant.stays c.of_selector.ensures.stays;
+  known = c.of_selector.ensures.known;
+  faced = c.of_selector.ensures.faced;
   pass = one_more_none c.args.window.now c.args.moved.now.at.rule.now.selectors (λ x by. by ≡ hindrance_of c.args.window.now.items.now c.args.facing.now (pair_of x c.args.moved.now.at.decl.now)) c.loop-number.pairs c.of_selector.new.pairs c.loop-number.number c.in_ok-found.field-0 c.in_default.is c.of_selector.ensures.stays c.loop-number.invariant.pass c.in_ok-found.ensures.told;
 }
 

@@ -21,6 +21,7 @@ returns-in-Some-clause-told c =
 pub loop-number-preserved : goal.loop-number-preserved
 loop-number-preserved c = record {
   stays = stays_on c.args.pairs.now c.loop-number.pairs c.with_selector.new.pairs c.loop-number.invariant.stays c.with_selector.ensures.stays;
+  known = c.with_selector.ensures.known;
   pass = one_more_none c.args.window.now c.args.other.now.rule.now.selectors (λ y by. OfSelectors c.args.moved.now.at.rule.now c.args.moved.now.at.decl.now (λ p. OfPair p (pair_of y c.args.other.now.decl.now)) by) c.loop-number.pairs c.with_selector.new.pairs c.loop-number.number c.in_ok-found.field-0 c.in_default.is c.with_selector.ensures.stays c.loop-number.invariant.pass c.in_ok-found.ensures.told;
 }
 

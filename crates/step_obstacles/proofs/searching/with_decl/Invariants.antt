@@ -3,6 +3,7 @@ use Rattle.sheet_order.specs.Allowing.{Stays}
 use Rattle.step_obstacles.proofs.searching.with_decl.Given as goal
 use Rattle.step_obstacles.specs.Among.{Among}
 use Rattle.step_obstacles.specs.Blocked.{AllPass}
+use Rattle.step_obstacles.specs.Known.{IsKnown}
 use Rattle.step_obstacles.specs.Turns.{OfSelectors, pair_of}
 use Rattle.wall_laws.specs.Holding.{OfPair}
 
@@ -10,5 +11,6 @@ use Rattle.wall_laws.specs.Holding.{OfPair}
 abbrev pub invariant-loop-number : goal.invariant-loop-number
 invariant-loop-number l = record {
   stays : Stays l.fn.pairs l.pairs;
+  known : IsKnown l.window l.known;
   pass : AllPass l.pairs.answers l.window (Among (take l.number l.other.rule.now.selectors) (λ y by. OfSelectors l.moved.at.rule.now l.moved.at.decl.now (λ p. OfPair p (pair_of y l.other.decl.now)) by));
 }

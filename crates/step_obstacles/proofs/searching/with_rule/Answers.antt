@@ -20,6 +20,7 @@ returns-in-Some-clause-told c =
 pub loop-number-preserved : goal.loop-number-preserved
 loop-number-preserved c = record {
   stays = stays_on c.args.pairs.now c.loop-number.pairs c.with_number.new.pairs c.loop-number.invariant.stays c.with_number.ensures.stays;
+  known = c.with_number.ensures.known;
   pass = one_more_none c.args.window.now c.args.rule.now.decls (λ g by. OfOther c.args.moved.now.at.rule.now c.args.moved.now.at.decl.now c.args.rule.now g.decl by) c.loop-number.pairs c.with_number.new.pairs c.loop-number.number c.in_ok-found.field-0 c.in_default.is c.with_number.ensures.stays c.loop-number.invariant.pass c.in_ok-found.ensures.told;
 }
 

@@ -3,11 +3,13 @@ use Rattle.sheet_order.specs.Allowing.{Stays}
 use Rattle.step_obstacles.proofs.searching.with_rule.Given as goal
 use Rattle.step_obstacles.specs.Among.{Among}
 use Rattle.step_obstacles.specs.Blocked.{AllPass}
+use Rattle.step_obstacles.specs.Known.{IsKnown}
 use Rattle.step_obstacles.specs.Turns.{OfOther}
 
 -- the first ones let the step pass
 abbrev pub invariant-loop-number : goal.invariant-loop-number
 invariant-loop-number l = record {
   stays : Stays l.fn.pairs l.pairs;
+  known : IsKnown l.window l.known;
   pass : AllPass l.pairs.answers l.window (Among (take l.number l.rule.decls) (λ g by. OfOther l.moved.at.rule.now l.moved.at.decl.now l.rule g.decl by));
 }

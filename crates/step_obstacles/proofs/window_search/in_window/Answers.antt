@@ -17,6 +17,7 @@ returns-in-Some-clause-told c =
 pub loop-turn-preserved : goal.loop-turn-preserved
 loop-turn-preserved c = record {
   stays = stays_on c.args.pairs.now c.loop-turn.pairs c.of_number.new.pairs c.loop-turn.invariant.stays c.of_number.ensures.stays;
+  known = c.of_number.ensures.known;
   pass = turn_more c.args.window.now c.args.sources.now c.args.upwards c.loop-turn.pairs c.of_number.new.pairs c.loop-turn.turn c.number_of-number.result c.in_ok-found.field-0 c.in_default.is c.number_of-number.ensures
       c.of_number.ensures.stays c.loop-turn.invariant.pass c.in_ok-found.ensures.told;
 }

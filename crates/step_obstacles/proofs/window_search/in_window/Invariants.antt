@@ -1,11 +1,13 @@
 use Rattle.sheet_order.specs.Allowing.{Stays}
 use Rattle.step_obstacles.proofs.window_search.in_window.Given as goal
 use Rattle.step_obstacles.specs.Blocked.{AllPass}
+use Rattle.step_obstacles.specs.Known.{IsKnown}
 use Rattle.step_obstacles.specs.Turns.{OfTurns}
 
 -- the items that had their turn let the step pass
 abbrev pub invariant-loop-turn : goal.invariant-loop-turn
 invariant-loop-turn l = record {
   stays : Stays l.fn.pairs l.pairs;
+  known : IsKnown l.window l.known;
   pass : AllPass l.pairs.answers l.window (OfTurns l.window l.upwards l.turn l.sources);
 }

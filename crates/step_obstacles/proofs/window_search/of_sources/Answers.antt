@@ -17,6 +17,7 @@ returns-in-Some-clause-told c =
 pub loop-source-preserved : goal.loop-source-preserved
 loop-source-preserved c = record {
   stays = stays_on c.args.pairs.now c.loop-source.pairs c.of_source.new.pairs c.loop-source.invariant.stays c.of_source.ensures.stays;
+  known = c.of_source.ensures.known;
   pass = one_more_got c.args.window.now c.args.sources.now (OfSource c.args.window.now.items.now c.args.number c.args.item.now) c.loop-source.pairs c.of_source.new.pairs c.loop-source.source-index c.source-item.result c.in_ok-found.field-0 c.in_default.is
       (omega arith) c.of_source.ensures.stays c.loop-source.invariant.pass
       (subst (λ (s : Source). IsToldOf c.of_source.new.pairs.answers c.args.window.now (OfSource c.args.window.now.items.now c.args.number c.args.item.now s) c.in_ok-found.field-0) c.source-item.is c.in_ok-found.ensures.told);

@@ -1,0 +1,162 @@
+//! What is known of where pairs stand while the items of a window are looked at.
+
+ghost use Rattle.std.specs.Prelude.{◌≡◌, ◌↔◌, IfOk, IsTrue};
+ghost use Rattle.std.specs.List.{All};
+ghost use Rattle.step_obstacles.specs.Known.{IsEntry, IsKnown, IsNoted};
+ghost use Rattle.window_order.specs.declared.place.Standing.TheVariants.{Unasked};
+ghost use Rattle.window_order.specs.declared.window.Window as windows;
+
+use obstacles::PairPlace;
+use std::alloc::{AllocError, Global};
+use window_order::Standing;
+
+/// What is known of the pair at a place.
+#[derive(Clone, Copy)]
+pub(crate) struct Entry {
+    /// The place.
+    pub(crate) place: PairPlace,
+    /// Where the pair stands.
+    pub(crate) standing: Standing,
+}
+
+/// What is known of pairs. A pair has one slot, by its place, which others may have too: of these the last noted is
+/// known. The slots are made when the first is noted.
+#[derive(Drop)]
+pub(crate) struct Known {
+    /// The entries in their slots.
+    pub(crate) entries: Vec<Entry>,
+}
+
+/// Nothing known.
+pub(crate) fn nothing_known(alloc: Global) -> Known
+    ensures { (w : windows.Window) → IsKnown w result }
+{
+    Known {
+        entries: Vec::new(alloc),
+    }
+}
+
+/// An entry of which nothing is known.
+fn empty_entry() -> Entry
+    ensures { result.standing ≡ Unasked }
+{
+    Entry {
+        place: PairPlace {
+            item: 0,
+            sel: 0,
+            decl: 0,
+        },
+        standing: Standing::Unasked,
+    }
+}
+
+/// How many slots are made for as many pairs: a power of two.
+fn room_for(pairs: usize) -> usize {
+    if pairs <= 8 {
+        16
+    } else if pairs <= 64 {
+        128
+    } else if pairs <= 512 {
+        1024
+    } else if pairs <= 4096 {
+        8192
+    } else {
+        65536
+    }
+}
+
+/// As many empty entries. The error comes where memory is short.
+fn empty_entries(alloc: Global, count: usize) -> Result<Vec<Entry>, AllocError>
+    ensures { IfOk result (λ list. All (λ e. e.standing ≡ Unasked) list.items) }
+{
+    let mut list = Vec::with_capacity(alloc, count)?;
+    for _ in 0..count {
+        list.push(empty_entry())?;
+    }
+    Ok(list)
+}
+
+/// How many slots there are.
+fn slots_in(known: &Known) -> usize {
+    known.entries.len()
+}
+
+/// The slot of a place in a rule with as many selectors, among as many slots, a power of two.
+fn slot_of(place: PairPlace, selectors: usize, slots: usize) -> usize {
+    let number = (place.decl as usize)
+        .wrapping_mul(selectors)
+        .wrapping_add(place.sel as usize);
+    let spread = number.wrapping_add((place.item as usize).wrapping_mul(0x9e37_79b1));
+    spread & slots.wrapping_sub(1)
+}
+
+/// Whether two places are one.
+fn same_place(first: PairPlace, second: PairPlace) -> bool
+    ensures { IsTrue result ↔ first ≡ second }
+{
+    first.item == second.item && first.sel == second.sel && first.decl == second.decl
+}
+
+/// What an entry tells of a place.
+fn told_by(entry: &Entry, place: PairPlace) -> Standing
+    ensures { (w : windows.Window) → IsEntry w entry.now → IsNoted w place result }
+{
+    if same_place(entry.place, place) {
+        entry.standing
+    } else {
+        Standing::Unasked
+    }
+}
+
+/// What is known of the pair at a place of a rule with as many selectors.
+pub(crate) fn noted(known: &Known, place: PairPlace, selectors: usize) -> Standing
+    ensures { (w : windows.Window) → IsKnown w known.now → IsNoted w place result }
+{
+    match known
+        .entries
+        .get(slot_of(place, selectors, slots_in(known)))
+    {
+        Some(entry) => told_by(entry, place),
+        None => Standing::Unasked,
+    }
+}
+
+/// Puts an entry to its slot.
+fn put(known: &mut Known, slot: usize, entry: Entry)
+    ensures { (w : windows.Window) → IsKnown w known.old → IsEntry w entry → IsKnown w known.new }
+{
+    if slot < known.entries.len() {
+        known.entries[slot] = entry;
+    }
+}
+
+/// Makes the slots, if there are none, for as many pairs. The error comes where memory is short.
+fn make_slots(alloc: Global, known: &mut Known, pairs: usize) -> Result<(), AllocError>
+    ensures { (w : windows.Window) → IsKnown w known.old → IsKnown w known.new }
+{
+    if known.entries.len() == 0 {
+        known.entries = empty_entries(alloc, room_for(pairs))?;
+    }
+    Ok(())
+}
+
+/// Notes where the pair at a place of a rule with as many selectors and pairs stands, if it is known. The error comes
+/// where memory is short.
+pub(crate) fn note(
+    alloc: Global,
+    known: &mut Known,
+    place: PairPlace,
+    standing: Standing,
+    selectors: usize,
+    pairs: usize,
+) -> Result<(), AllocError>
+    ensures { (w : windows.Window) → IsKnown w known.old → IsNoted w place standing → IsKnown w known.new }
+{
+    if let Standing::Unasked = standing {
+        return Ok(());
+    }
+    make_slots(alloc, known, pairs)?;
+    let slot = slot_of(place, selectors, slots_in(known));
+    put(known, slot, Entry { place, standing });
+    Ok(())
+}
