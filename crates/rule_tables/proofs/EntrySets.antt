@@ -94,17 +94,6 @@ entry_same a b h = by (nat_cmp a.digest b.digest) (nat_cmp a.label b.label) refl
     by Equal Greater e f h = absurd (true≢false (sym h))
     by Greater p e f h = absurd (true≢false (sym h))
 
-nat_is_itself : (n : ℕ) → is_eq (nat_cmp n n) ≡ true
-nat_is_itself n = ap is_eq (nat_itself n)
-
-nat_same : (a b : ℕ) → is_eq (nat_cmp a b) ≡ true → a ≡ b
-nat_same a b h = by (nat_cmp a b) refl h
-  where
-    by : (o : Ordering) → nat_cmp a b ≡ o → is_eq o ≡ true → a ≡ b
-    by Less e h = absurd (true≢false (sym h))
-    by Equal e h = exact_unsigned a b e
-    by Greater e h = absurd (true≢false (sym h))
-
 pub put_entry : (old new : List Entry) (x : Entry) →
     ((q : Entry) → list_any (λ k. is_eq (entry_cmp q k)) new ≡ cond (is_eq (entry_cmp x q)) true (list_any (λ k. is_eq (entry_cmp q k)) old)) → Puts old (x ∷ []) new
 put_entry old new x is = puts_by_test (λ (q k : Entry). is_eq (entry_cmp q k)) entry_itself entry_same old new x is
@@ -112,10 +101,6 @@ put_entry old new x is = puts_by_test (λ (q k : Entry). is_eq (entry_cmp q k)) 
 pub take_entry : (old new : List Entry) (x : Entry) →
     ((q : Entry) → list_any (λ k. is_eq (entry_cmp q k)) new ≡ cond (is_eq (entry_cmp x q)) false (list_any (λ k. is_eq (entry_cmp q k)) old)) → TakesOut old (x ∷ []) new
 take_entry old new x is = takes_by_test (λ (q k : Entry). is_eq (entry_cmp q k)) entry_itself entry_same old new x is
-
-pub put_number : (old new : List ℕ) (x : ℕ) →
-    ((q : ℕ) → list_any (λ k. is_eq (nat_cmp q k)) new ≡ cond (is_eq (nat_cmp x q)) true (list_any (λ k. is_eq (nat_cmp q k)) old)) → Puts old (x ∷ []) new
-put_number old new x is = puts_by_test (λ (q k : ℕ). is_eq (nat_cmp q k)) nat_is_itself nat_same old new x is
 
 -- ---- Several changes, one after the other
 

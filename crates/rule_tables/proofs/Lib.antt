@@ -1,5 +1,6 @@
 mod Cutting
 mod EntrySets
+mod Numbers
 mod OtherRules
 mod Sharing
 mod Standing

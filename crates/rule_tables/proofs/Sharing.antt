@@ -8,7 +8,7 @@ use Rattle.css_model.specs.Sheets.StyleRule.{HaveSameSelectors, selectors_of}
 use Rattle.list_facts.proofs.Members.{Contains-cons_cases, Contains-here, Contains-nil, Contains-there}
 use Rattle.rule_tables.specs.declared.entries.Entry.{Entry}
 use Rattle.rule_tables.specs.Digests.{selector_digest, decl_digest}
-use Rattle.rule_tables.specs.Entries.{PutsUnder, entry}
+use Rattle.rule_tables.specs.Entries.{HaveSameMembers, PutsUnder, entry}
 use Rattle.rule_tables.specs.Tables.{CanBePartners, Cover, IsUnderOne, IsUnderPart, Labelled, PutsShared, PutsUnderOne, TableParts, decl_digests, entries_by_decl, entries_by_selector, selector_digests}
 use Rattle.rule_tables.specs.Tables.{by_selectors, by_decl}
 use Rattle.rule_tables.proofs.EntrySets.{mapped, unmapped}
@@ -44,9 +44,9 @@ one_step entries digest digests a b c f g label = (λ h. there ((g label).0 h), 
       | inr r ↦ inr (h.0, r, h.2)
     ]
 
-pub decls_step : (entries : List Entry) (rest behind : List DeclItem) (first : DeclItem) → rest ≡ first ∷ behind → (a b c : List ℕ) → PutsUnder entries (decl_digest first.decl) a b →
-    PutsUnderOne entries (decl_digests behind) b c → PutsUnderOne entries (decl_digests rest) a c
-decls_step entries rest behind first is a b c f g = subst (λ (ds : List DeclItem). PutsUnderOne entries (decl_digests ds) a c) (sym is) (one_step entries (decl_digest first.decl) (decl_digests behind) a b c f g)
+pub digests_step : (entries : List Entry) (rest behind : List ℕ) (first : ℕ) → rest ≡ first ∷ behind → (a b c : List ℕ) → PutsUnder entries first a b →
+    PutsUnderOne entries behind b c → PutsUnderOne entries rest a c
+digests_step entries rest behind first is a b c f g = subst (λ (ds : List ℕ). PutsUnderOne entries ds a c) (sym is) (one_step entries first behind a b c f g)
 
 none_under : (entries : List Entry) (a : List ℕ) → PutsUnderOne entries [] a a
 none_under entries a label = (λ h. inl h, back)
@@ -55,8 +55,20 @@ none_under entries a label = (λ h. inl h, back)
     back (inl h) = h
     back (inr h) = absurd (Contains-nil h.0 h.1)
 
-pub decls_end : (entries : List Entry) (rest : List DeclItem) → rest ≡ [] → (a : List ℕ) → PutsUnderOne entries (decl_digests rest) a a
-decls_end entries rest is a = subst (λ (ds : List DeclItem). PutsUnderOne entries (decl_digests ds) a a) (sym is) (none_under entries a)
+pub digests_end : (entries : List Entry) (rest : List ℕ) → rest ≡ [] → (a : List ℕ) → PutsUnderOne entries rest a a
+digests_end entries rest is a = subst (λ (ds : List ℕ). PutsUnderOne entries ds a a) (sym is) (none_under entries a)
+
+-- the same digests in another order, or more than once
+pub under_the_same : (entries : List Entry) (once digests : List ℕ) → HaveSameMembers once digests → (a b : List ℕ) → PutsUnderOne entries once a b → PutsUnderOne entries digests a b
+under_the_same entries once digests same a b puts label = (λ h. there ((puts label).0 h), λ h. (puts label).1 (back h))
+  where
+    there : Contains a label ⊎ IsUnderOne entries once label → Contains a label ⊎ IsUnderOne entries digests label
+    there (inl h) = inl h
+    there (inr h) = inr (h.0, (same h.0).0 h.1, h.2)
+
+    back : Contains a label ⊎ IsUnderOne entries digests label → Contains a label ⊎ IsUnderOne entries once label
+    back (inl h) = inl h
+    back (inr h) = inr (h.0, (same h.0).1 h.1, h.2)
 
 -- ---- All partners are found, and no label that stands under no digest of a part
 
@@ -93,7 +105,7 @@ only_such t r none some found empty shared under label h = by ((under label).0 h
 -- ---- As the code has the parts
 
 module _ (t : TableParts) (r : RuleParts) (a b : List Entry) (ss : List SelItem) (ds : List DeclItem)
-    (is_a : a ≡ t.selectors) (is_b : b ≡ t.decls) (is_ss : ss ≡ r.selectors) (is_ds : ds ≡ r.decls) (none some found list : List ℕ) (is_list : list ≡ found) where
+    (is_a : a ≡ t.selectors) (is_b : b ≡ t.decls) (is_ss : ss ≡ r.selectors) (is_ds : ds ≡ r.decls) (none some found list : List ℕ) (same : HaveSameMembers list found) where
   shared_there : PutsShared a (selector_digests ss) none some → PutsShared t.selectors (selector_digests r.selectors) none some
   shared_there h = subst (λ (o : List Entry). PutsShared o (selector_digests r.selectors) none some) is_a (subst (λ (zs : List SelItem). PutsShared a (selector_digests zs) none some) is_ss h)
 
@@ -103,7 +115,7 @@ module _ (t : TableParts) (r : RuleParts) (a b : List Entry) (ss : List SelItem)
   pub all_listed : PutsShared a (selector_digests ss) none some → PutsUnderOne b (decl_digests ds) some found →
       (rules : List Labelled) (x : Labelled) → Cover t rules → Contains rules x → CanBePartners r x.rule → Contains list x.label
   all_listed shared under rules x stand in_list can =
-      subst (λ (ls : List ℕ). Contains ls x.label) (sym is_list) (partners_found t r none some found (shared_there shared) (under_there under) rules x stand in_list can)
+      (same x.label).1 (partners_found t r none some found (shared_there shared) (under_there under) rules x stand in_list can)
 
   pub only_listed : none ≡ [] → PutsShared a (selector_digests ss) none some → PutsUnderOne b (decl_digests ds) some found → (label : ℕ) → Contains list label → IsUnderPart t r label
-  only_listed empty shared under label h = only_such t r none some found empty (shared_there shared) (under_there under) label (subst (λ (ls : List ℕ). Contains ls label) is_list h)
+  only_listed empty shared under label h = only_such t r none some found empty (shared_there shared) (under_there under) label ((same label).0 h)

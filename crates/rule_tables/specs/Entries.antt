@@ -17,6 +17,10 @@ decl_entries label decls = map (λ d. entry (decl_digest d.decl) label) decls
 
 -- ---- Changes of a set, by the lists of what it has
 
+-- two lists have the same elements
+abbrev pub HaveSameMembers : {X : Type 0} → List X → List X → Type 0
+HaveSameMembers {X} xs ys = (x : X) → Contains xs x ↔ Contains ys x
+
 -- the new set has the old elements and these
 abbrev pub Puts : {X : Type 0} → List X → List X → List X → Type 0
 Puts {X} old more new = (x : X) → Contains new x ↔ (Contains old x ⊎ Contains more x)

@@ -102,21 +102,21 @@ pub(crate) fn take_decls(entries: &mut BTreeSet<Entry>, decls: &[DeclItem], labe
     }
 }
 
-/// Puts a label in, if it is not there.
-fn put_label(found: &mut BTreeSet<u64>, label: u64) -> Result<(), AllocError>
-    ensures { OnOk result (spec.Puts found.old.keys (label ∷ []) found.new.keys) }
+/// Puts a label behind the others.
+fn put_label(found: &mut Vec<u64>, label: u64) -> Result<(), AllocError>
+    ensures { OnOk result (spec.Puts found.old.items (label ∷ []) found.new.items) }
 {
-    found.insert(label)?;
+    found.push(label)?;
     Ok(())
 }
 
-/// Puts in the labels that stand under a digest.
+/// Puts in the labels that stand under a digest, also those that are there.
 pub(crate) fn put_labels(
-    found: &mut BTreeSet<u64>,
+    found: &mut Vec<u64>,
     entries: &BTreeSet<Entry>,
     digest: u32,
 ) -> Result<(), AllocError>
-    ensures { OnOk result (spec.PutsUnder entries.now.keys digest found.old.keys found.new.keys) }
+    ensures { OnOk result (spec.PutsUnder entries.now.keys digest found.old.items found.new.items) }
 {
     let digest = u64::from(digest);
     let start = Entry { digest, label: 0 };

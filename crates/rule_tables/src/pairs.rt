@@ -37,6 +37,39 @@ fn is_pair_of_other<R: LabelledRules>(
     rules.has_pair(label, selector, decl)
 }
 
+/// How many rules under a digest are looked at before it is known that they are few.
+const SOON: usize = 4;
+
+/// Whether one of the first rules under a digest is another rule that has a selector and a declaration. Where none of them
+/// is, a later one may be.
+pub(crate) fn is_pair_soon<R: LabelledRules>(
+    entries: &BTreeSet<Entry>,
+    digest: u32,
+    rules: &R,
+    own: u64,
+    selector: &Selector,
+    decl: &Decl,
+) -> bool
+    ensures { IsTrue result → pairs.AnotherHasBoth (R.rules rules.now) own selector.now decl.now }
+{
+    let digest = u64::from(digest);
+    let start = Entry { digest, label: 0 };
+    let end = Entry {
+        digest: digest + 1,
+        label: 0,
+    };
+    let mut rest = entries.range(Range { start, end });
+    for _ in 0..SOON {
+        let Some(entry) = rest.next() else {
+            return false;
+        };
+        if is_pair_of_other(rules, own, entry.label, selector, decl) {
+            return true;
+        }
+    }
+    false
+}
+
 /// Whether one of the rules under a digest is another rule that has a selector and a declaration, where each rule that
 /// has both stands there.
 pub(crate) fn is_pair_under<R: LabelledRules>(

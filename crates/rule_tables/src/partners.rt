@@ -3,9 +3,10 @@
 ghost use Rattle.std.specs.Prelude.{◌≡◌, [], IfNone, IfOk, IfSome, OnOk};
 ghost use Rattle.std.specs.List.{Contains};
 ghost use Rattle.std.specs.List.Sorted.{IsStrictlyIncreasing};
+ghost use Rattle.rule_tables.specs.Entries.{HaveSameMembers};
 ghost use Rattle.rule_tables.specs.Tables as spec;
 
-use crate::digests::{decl_digest, selector_digests};
+use crate::digests::{decl_digests, selector_digests};
 use crate::entries::{Entry, put_labels};
 use css_model::{DeclItem, SelItem};
 use std::alloc::{AllocError, Global};
@@ -82,11 +83,11 @@ fn find_rarest(entries: &BTreeSet<Entry>, digests: &[u32]) -> Option<u32>
 
 /// Puts in labels that stand under digests: at least those that stand under all of them.
 fn put_under_rarest(
-    found: &mut BTreeSet<u64>,
+    found: &mut Vec<u64>,
     entries: &BTreeSet<Entry>,
     digests: &[u32],
 ) -> Result<(), AllocError>
-    ensures { OnOk result (spec.PutsShared entries.now.keys digests.now found.old.keys found.new.keys) }
+    ensures { OnOk result (spec.PutsShared entries.now.keys digests.now found.old.items found.new.items) }
 {
     match find_rarest(entries, digests) {
         Some(digest) => put_labels(found, entries, digest),
@@ -97,37 +98,61 @@ fn put_under_rarest(
 /// Puts in labels that stand under digests of selectors: at least those that stand under all of them.
 pub(crate) fn put_shared(
     alloc: Global,
-    found: &mut BTreeSet<u64>,
+    found: &mut Vec<u64>,
     entries: &BTreeSet<Entry>,
     selectors: &[SelItem],
 ) -> Result<(), AllocError>
-    ensures { OnOk result (spec.PutsShared entries.now.keys (spec.selector_digests selectors.now) found.old.keys found.new.keys) }
+    ensures { OnOk result (spec.PutsShared entries.now.keys (spec.selector_digests selectors.now) found.old.items found.new.items) }
 {
     let digests = selector_digests(alloc, selectors)?;
     put_under_rarest(found, entries, &digests)?;
     Ok(())
 }
 
-/// Puts in the labels that stand under the digest of one of these declarations.
-pub(crate) fn put_under_decls(
-    found: &mut BTreeSet<u64>,
+/// Puts in the labels that stand under one of these digests.
+fn put_under_each(
+    found: &mut Vec<u64>,
     entries: &BTreeSet<Entry>,
-    decls: &[DeclItem],
+    digests: &[u32],
 ) -> Result<(), AllocError>
-    ensures { OnOk result (spec.PutsUnderOne entries.now.keys (spec.decl_digests decls.now) found.old.keys found.new.keys) }
+    ensures { OnOk result (spec.PutsUnderOne entries.now.keys digests.now found.old.items found.new.items) }
 {
-    let mut rest = decls;
+    let mut rest = digests;
     'rest: while let Some((first, behind)) = rest.split_first() {
-        put_labels(found, entries, decl_digest(&first.decl))?;
+        put_labels(found, entries, *first)?;
         rest = behind;
     }
     Ok(())
 }
 
-/// The labels as a list, ascending.
-pub(crate) fn list_labels(alloc: Global, found: BTreeSet<u64>) -> Result<Vec<u64>, AllocError>
-    ensures ascends { IfOk result (λ list. IsStrictlyIncreasing list.items) }
-    ensures same { IfOk result (λ list. list.items ≡ found.keys) }
+/// The same digests, each once. Takes no memory.
+fn each_once(mut digests: Vec<u32>) -> Vec<u32>
+    ensures { HaveSameMembers result.items digests.items }
 {
-    found.into_iter().collect(alloc)
+    digests.sort_unstable();
+    digests.dedup();
+    digests
+}
+
+/// Puts in the labels that stand under the digest of one of these declarations. Each digest is looked for once.
+pub(crate) fn put_under_decls(
+    alloc: Global,
+    found: &mut Vec<u64>,
+    entries: &BTreeSet<Entry>,
+    decls: &[DeclItem],
+) -> Result<(), AllocError>
+    ensures { OnOk result (spec.PutsUnderOne entries.now.keys (spec.decl_digests decls.now) found.old.items found.new.items) }
+{
+    let digests = each_once(decl_digests(alloc, decls)?);
+    put_under_each(found, entries, &digests)
+}
+
+/// The same labels, each once, ascending. They are a few lists that ascend, one behind the other, which a stable sort finds.
+pub(crate) fn in_order(mut found: Vec<u64>) -> Result<Vec<u64>, AllocError>
+    ensures ascends { IfOk result (λ list. IsStrictlyIncreasing list.items) }
+    ensures same { IfOk result (λ list. HaveSameMembers list.items found.items) }
+{
+    found.sort()?;
+    found.dedup();
+    Ok(found)
 }

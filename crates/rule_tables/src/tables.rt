@@ -8,8 +8,8 @@ ghost use Rattle.rule_tables.specs.Tables as spec;
 
 use crate::digests::{decl_digest, selector_digest};
 use crate::entries::{Entry, put_decls, put_selectors, take_decls, take_selectors};
-use crate::pairs::{LabelledRules, is_pair_under};
-use crate::partners::{is_rarer, list_labels, put_shared, put_under_decls};
+use crate::pairs::{LabelledRules, is_pair_soon, is_pair_under};
+use crate::partners::{in_order, is_rarer, put_shared, put_under_decls};
 use css_model::{Decl, Item, Rule, Selector};
 use std::alloc::{AllocError, Global};
 use std::collections::BTreeSet;
@@ -108,14 +108,15 @@ impl Tables {
             → Contains rules x → spec.CanBePartners rule.now x.rule → Contains found.items x.label) }
         ensures only { IfOk result (λ found. (label : ℕ) → Contains found.items label → spec.IsUnderPart self.now rule.now label) }
     {
-        let mut found = BTreeSet::new(alloc);
+        let mut found = Vec::new(alloc);
         put_shared(alloc, &mut found, &self.selectors, &rule.selectors)?;
-        put_under_decls(&mut found, &self.decls, &rule.decls)?;
-        list_labels(alloc, found)
+        put_under_decls(alloc, &mut found, &self.decls, &rule.decls)?;
+        in_order(found)
     }
 
     /// Whether a selector and a declaration stand together in one of these rules that has another label than `own`, where
-    /// the tables cover the rules. Takes no memory. The time is that of the entries of the rarer one of the two digests.
+    /// the tables cover the rules. Takes no memory. The time is that of the entries of the rarer one of the two digests,
+    /// or short where one of the first rules with the declaration has the selector.
     pub fn is_elsewhere<R: LabelledRules>(
         &self,
         rules: &R,
@@ -128,6 +129,9 @@ impl Tables {
     {
         let by_selector = selector_digest(selector);
         let by_decl = decl_digest(decl);
+        if is_pair_soon(&self.decls, by_decl, rules, own, selector, decl) {
+            return true;
+        }
         if is_rarer(&self.selectors, by_selector, &self.decls, by_decl) {
             return is_pair_under(&self.selectors, by_selector, rules, own, selector, decl);
         }

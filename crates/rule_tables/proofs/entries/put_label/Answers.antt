@@ -1,5 +1,6 @@
-use Rattle.rule_tables.proofs.EntrySets.{put_number}
+use Rattle.std.proofs.Common.{[], ◌∷◌}
+use Rattle.rule_tables.proofs.Numbers.{put_behind}
 use Rattle.rule_tables.proofs.entries.put_label.Goals as goal
 
 pub returns : goal.returns
-returns c = put_number c.args.found.now.keys c.insert.new.self.keys c.args.label c.in_ok-insert.ensures.updates.0
+returns c = put_behind c.args.found.now.items c.push.new.self.items (c.args.label ∷ []) c.in_ok-push.ensures.items

@@ -1,14 +1,12 @@
-use Rattle.std.proofs.Common.{ℕ, subst}
-use Rattle.std.proofs.lemmas.List.{nil_from_length}
-use Rattle.rule_tables.specs.Entries.{PutsUnder}
-use Rattle.rule_tables.proofs.Sharing.{decls_end, decls_step}
+use Rattle.std.proofs.Common.{ℕ, List, sym, subst}
+use Rattle.rule_tables.specs.Entries.{HaveSameMembers}
+use Rattle.rule_tables.specs.Tables.{decl_digests}
+use Rattle.rule_tables.proofs.EntrySets.{then_ok}
+use Rattle.rule_tables.proofs.Sharing.{under_the_same}
 use Rattle.rule_tables.proofs.partners.put_under_decls.Goals as goal
-
-pub rest-preserved : goal.rest-preserved
-rest-preserved c = λ final h. c.rest.invariant final (decls_step c.args.entries.now.keys c.rest.rest.now c.in-Some.behind.now c.in-Some.first.now c.in-Some.ensures.cases.0
-    c.rest.found.keys c.put_labels.new.found.keys final
-    (subst (λ (digest : ℕ). PutsUnder c.args.entries.now.keys digest c.rest.found.keys c.put_labels.new.found.keys) c.decl_digest.ensures c.in_ok-put_labels.ensures) h)
 
 pub returns : goal.returns
 returns c =
-    c.rest.invariant c.rest.found.keys (decls_end c.args.entries.now.keys c.rest.rest.now (nil_from_length c.rest.rest.now (rw c.in_default.is at c.split_first.ensures.cases)) c.rest.found.keys)
+    let same : HaveSameMembers c.deref.result.now (decl_digests c.args.decls.now) =
+    subst (λ (ds : List ℕ). HaveSameMembers ds (decl_digests c.args.decls.now)) (sym c.deref.ensures.value) (subst (λ (ds : List ℕ). HaveSameMembers c.each_once-digests.result.items ds) c.in_ok-decl_digests.ensures c.each_once-digests.ensures) in
+    then_ok c.put_under_each.result (under_the_same c.args.entries.now.keys c.deref.result.now (decl_digests c.args.decls.now) same c.args.found.now.items c.put_under_each.new.found.items) c.put_under_each.ensures
