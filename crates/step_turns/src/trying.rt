@@ -1,6 +1,6 @@
 //! A step is tried, while steps are looked at.
 
-ghost use Rattle.std.specs.Prelude.{◌≡◌, ◌≤◌, OnOk, length, true};
+ghost use Rattle.std.specs.Prelude.{◌≡◌, ◌↔◌, ◌≤◌, OnOk, length, true};
 ghost use Rattle.lead_plan.specs.Weights.{room};
 ghost use Rattle.plan_laws.specs.Plannable.{IsPlannable};
 ghost use Rattle.rule_tables.specs.Tables.{Cover};
@@ -20,6 +20,40 @@ use plan_board::Board;
 use rule_tables::Tables;
 use std::alloc::AllocError;
 use step_laws::Step;
+
+/// Puts the turn of a step of the sheet to those that were found, if it is in the scope of the lead `after`, saves something
+/// and comes later than the lead. `apart` says that the rules of a step of two items are known to have no selector in common.
+fn put_turn(
+    board: &Board,
+    source: &KnownLengths<'_>,
+    after: &Lead,
+    step: &Step,
+    apart: bool,
+    found: &mut Found,
+) -> Result<(), AllocError>
+    requires plannable { IsPlannable source.now board.now.items }
+    requires has { HasStep board.now.items step.now }
+    requires apart { apart ≡ true → StepApart board.now.items step.now }
+    requires later { AreLater source.now board.now after.now found.old }
+    requires few { length found.old.leads ≤ room }
+    ensures keeps { OnOk result (Keeps found.old found.new) }
+    ensures covers { OnOk result (Covers source.now board.now after.now found.new step.now) }
+    ensures later { OnOk result (AreLater source.now board.now after.now found.new) }
+    ensures few { length found.new.leads ≤ room }
+{
+    if !is_beside(board, after, step) {
+        return Ok(());
+    }
+    let saving = saved_if_apart(source, board.sheet(), step, apart);
+    if saving == 0 {
+        return Ok(());
+    }
+    let lead = lead_of(board, step, saving, after);
+    if !is_sooner(after, &lead) {
+        return Ok(());
+    }
+    found.put(lead)
+}
 
 /// Puts the turn of a step to those that were found, if that is one of the sheet in the scope of the lead `after`, saves
 /// something and comes later than the lead. `once` says that the parts of the kind that it cuts are known to stand in their
@@ -48,21 +82,10 @@ pub(crate) fn try_step(
     if !is_step_of(board, tables, step, once) {
         return Ok(());
     }
-    if !is_beside(board, after, step) {
-        return Ok(());
-    }
-    let saving = saved_if_apart(source, board.sheet(), step, apart);
-    if saving == 0 {
-        return Ok(());
-    }
-    let lead = lead_of(board, step, saving, after);
-    if !is_sooner(after, &lead) {
-        return Ok(());
-    }
-    found.put(lead)
+    put_turn(board, source, after, step, apart, found)
 }
 
-/// Puts the turns of two steps of which the sheet has both or none, each by `try_step`.
+/// Puts the turns of two steps of which the sheet has both or none, each as `try_step` does: the first one alone is tested.
 pub(crate) fn try_both(
     board: &Board,
     tables: &Tables,
@@ -77,7 +100,7 @@ pub(crate) fn try_both(
     requires cover { Cover tables.now (rules_of board.now) }
     requires apart_first { apart ≡ true → StepApart board.now.items first.now }
     requires apart_second { apart ≡ true → StepApart board.now.items second.now }
-    requires alike { HasStep board.now.items second.now → HasStep board.now.items first.now }
+    requires alike { HasStep board.now.items first.now ↔ HasStep board.now.items second.now }
     requires later { AreLater source.now board.now after.now found.old }
     requires few { length found.old.leads ≤ room }
     ensures keeps { OnOk result (Keeps found.old found.new) }
@@ -89,6 +112,6 @@ pub(crate) fn try_both(
     if !is_step_of(board, tables, first, false) {
         return Ok(());
     }
-    try_step(board, tables, source, after, first, false, apart, found)?;
-    try_step(board, tables, source, after, second, false, apart, found)
+    put_turn(board, source, after, first, apart, found)?;
+    put_turn(board, source, after, second, apart, found)
 }

@@ -10,7 +10,7 @@ use Rattle.step_turns.specs.Looking.{IsAmong}
 use Rattle.step_turns.specs.Named.{IsLedBeside}
 use Rattle.step_turns.proofs.Looking.{later_turn, nothing_saved, still_later}
 use Rattle.step_turns.proofs.Results.{on_ok}
-use Rattle.step_turns.proofs.trying.try_step.Goals as goal
+use Rattle.step_turns.proofs.trying.put_turn.Goals as goal
 
 pub saved_if_apart-saving-requires-clause-apart : goal.saved_if_apart-saving-requires-clause-apart
 saved_if_apart-saving-requires-clause-apart c = λ known. subst (λ (xs : List Item). StepApart xs c.args.step.now) (sym c.sheet.ensures) (c.requires.apart known)
@@ -26,7 +26,7 @@ pub returns-clause-later : goal.returns-clause-later
 returns-clause-later c =
     let saving : IsSaving c.args.source.now c.args.board.now.items c.args.step.now c.saved_if_apart-saving.result =
     subst (λ (xs : List Item). IsSaving c.args.source.now xs c.args.step.now c.saved_if_apart-saving.result) c.sheet.ensures c.saved_if_apart-saving.ensures in
-    let has : HasStep c.args.board.now.items c.args.step.now = search rules in
+    let has : HasStep c.args.board.now.items c.args.step.now = c.requires.has in
     let beside : IsLedBeside c.args.board.now c.args.after.now c.args.step.now = search rules in
     let some : 0 < c.saved_if_apart-saving.result = search rules in
     let later : IsSooner (lead_told c.args.after.now).turn (lead_told c.lead_of-lead.result).turn = search rules in
