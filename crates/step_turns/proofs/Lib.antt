@@ -3,6 +3,7 @@ mod Differing
 mod Digesting
 mod Finding
 mod Looking
+mod Masked
 mod NamedSteps
 mod Owned
 mod Ranks

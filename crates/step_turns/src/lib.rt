@@ -5,6 +5,8 @@ mod apart;
 mod cuts;
 mod doubles;
 mod found;
+mod joins;
+mod masks;
 mod naming;
 mod next;
 mod order;

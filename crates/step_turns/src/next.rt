@@ -10,7 +10,7 @@ ghost use Rattle.plan_laws.specs.Plannable.{IsPlannable};
 ghost use Rattle.rule_tables.specs.Tables.{Cover};
 ghost use Rattle.step_laws.specs.declared.step.Step as declared;
 ghost use Rattle.step_laws.specs.declared.step.Step.TheVariants as kinds;
-ghost use Rattle.step_laws.specs.Steps.{first_item, last_item};
+ghost use Rattle.step_laws.specs.Steps.{first_item};
 ghost use Rattle.step_savings.specs.Apart.{AreApart, RulesApart};
 ghost use Rattle.step_turns.specs.Digested.{Tells};
 ghost use Rattle.step_turns.specs.Looking.{AreLater, Covers, IsWith, Keeps};
@@ -23,7 +23,9 @@ use crate::apart::{is_apart, told_digests};
 use crate::cuts::find_rule;
 use crate::doubles::{decls_stand_once, selectors_stand_once};
 use crate::found::Found;
-use crate::trying::{try_both, try_step};
+use crate::joins::try_joins;
+use crate::masks::share_no_selector;
+use crate::trying::try_step;
 use css_model::Rule;
 use lead_plan::{Lead, Scope};
 use merge_plan::KnownLengths;
@@ -133,37 +135,6 @@ fn try_cuts(
     try_selector_cuts(board, tables, source, after, number, selectors, once, found)
 }
 
-/// Puts the turns of the steps of two items.
-fn try_joins(
-    board: &Board,
-    tables: &Tables,
-    source: &KnownLengths<'_>,
-    after: &Lead,
-    upper: u32,
-    lower: u32,
-    apart: bool,
-    found: &mut Found,
-) -> Result<(), AllocError>
-    requires plannable { IsPlannable source.now board.now.items }
-    requires cover { Cover tables.now (rules_of board.now) }
-    requires apart { apart ≡ true → RulesApart board.now.items upper lower }
-    requires later { AreLater source.now board.now after.now found.old }
-    requires few { length found.old.leads ≤ room }
-    ensures keeps { OnOk result (Keeps found.old found.new) }
-    ensures covers { OnOk result ((k : declared.Step) → IsOfTwo k → first_item k ≡ upper → last_item k ≡ lower → Covers source.now board.now after.now found.new k) }
-    ensures later { OnOk result (AreLater source.now board.now after.now found.new) }
-    ensures few { length found.new.leads ≤ room }
-{
-    let up = Step::JoinSelUp { upper, lower };
-    let down = Step::JoinSelDown { upper, lower };
-    try_both(board, tables, source, after, &up, &down, apart, found)?;
-    let up = Step::JoinDeclUp { upper, lower };
-    let down = Step::JoinDeclDown { upper, lower };
-    try_both(board, tables, source, after, &up, &down, apart, found)?;
-    let step = Step::Share { upper, lower };
-    try_step(board, tables, source, after, &step, false, apart, found)
-}
-
 /// Whether an item owns no step with another one, where a lead leads the steps that it owns.
 fn owns_none(after: &Lead, theirs: &Mark, ours: &Mark) -> bool
     ensures { result ≡ true → (after.now.scope ≡ scopes.Owned) × (ours.now.birth ≤ theirs.now.birth) }
@@ -182,6 +153,19 @@ fn is_apart_there(board: &Board, told: &Option<BTreeSet<u32>>, number: u32) -> b
         Some(rule) => is_apart(told, rule),
         None => false,
     }
+}
+
+/// Whether the rules of two numbers are known to have no selector in common. The digests that are told are of the first one's.
+fn are_apart(board: &Board, told: &Option<BTreeSet<u32>>, number: u32, other: u32) -> bool
+    requires number { number < length board.now.items }
+    requires other { other < length board.now.items }
+    requires told { (r : RuleParts) → slice_get board.now.items number ≡ Some (item.Rule r) → Tells told.now r }
+    ensures { result ≡ true → RulesApart board.now.items number other }
+{
+    if share_no_selector(board, number, other) {
+        return true;
+    }
+    is_apart_there(board, told, other)
 }
 
 /// Puts the turns of the steps of an item and another one with this label.
@@ -216,7 +200,7 @@ fn try_partner(
     if owns_none(after, &theirs, &ours) {
         return Ok(());
     }
-    let apart = is_apart_there(board, told, other);
+    let apart = are_apart(board, told, number, other);
     if other < number {
         try_joins(board, tables, source, after, other, number, apart, found)
     } else {

@@ -1,6 +1,6 @@
 use Rattle.std.proofs.Common.{◌≡◌, ◌≤◌}
 use Rattle.lead_plan.specs.declared.lead.Scope.TheVariants.{Owned}
-use Rattle.step_turns.proofs.Digesting.{apart_above, apart_below}
+use Rattle.step_turns.proofs.Digesting.{apart_turned}
 use Rattle.step_turns.proofs.Owned.{born_later, partner_above, partner_below}
 use Rattle.step_turns.proofs.Results.{on_ok}
 use Rattle.step_turns.proofs.Telling.{label_of_mark}
@@ -13,12 +13,7 @@ returns-then-owns_none-clause-covers c =
     (label_of_mark c.args.board.now.marks c.in-Some.other c.args.label c.mark-theirs.result c.in-Some.ensures.some c.mark-theirs.ensures) young.0 young.1 c.requires.owned
 
 pub try_joins-requires-clause-apart : goal.try_joins-requires-clause-apart
-try_joins-requires-clause-apart c = λ known.
-    apart_below c.args.board.now.items c.args.number c.in-Some.other c.args.told.now c.requires.told (c.is_apart_there-apart.ensures known)
-
-pub try_joins-requires-else-other-number-clause-apart : goal.try_joins-requires-else-other-number-clause-apart
-try_joins-requires-else-other-number-clause-apart c = λ known.
-    apart_above c.args.board.now.items c.args.number c.in-Some.other c.args.told.now c.requires.told (c.is_apart_there-apart.ensures known)
+try_joins-requires-clause-apart c = λ known. apart_turned c.args.board.now.items c.args.number c.in-Some.other (c.are_apart-apart.ensures known)
 
 pub returns-then-other-number-clause-covers : goal.returns-then-other-number-clause-covers
 returns-then-other-number-clause-covers c =

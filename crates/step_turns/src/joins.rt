@@ -1,0 +1,145 @@
+//! The steps of two rules are tried.
+
+ghost use Rattle.std.specs.Prelude.{◌≡◌, ◌<◌, ◌≤◌, OnOk, length, true};
+ghost use Rattle.lead_plan.specs.Weights.{room};
+ghost use Rattle.plan_laws.specs.Plannable.{IsPlannable};
+ghost use Rattle.rule_tables.specs.Tables.{Cover};
+ghost use Rattle.step_laws.specs.declared.step.Step as declared;
+ghost use Rattle.step_laws.specs.declared.step.Step.TheVariants as kinds;
+ghost use Rattle.step_laws.specs.Steps.{first_item, last_item};
+ghost use Rattle.step_savings.specs.Apart.{RulesApart};
+ghost use Rattle.step_turns.specs.Looking.{AreLater, Covers, Keeps};
+ghost use Rattle.step_turns.specs.Marked.{rules_of};
+ghost use Rattle.wall_laws.specs.Renumbering.{IsOfTwo};
+
+use crate::found::Found;
+use crate::masks::{decls_differ, selectors_differ, share_no_decl};
+use crate::trying::{try_both, try_step};
+use lead_plan::Lead;
+use merge_plan::KnownLengths;
+use plan_board::Board;
+use rule_tables::Tables;
+use std::alloc::AllocError;
+use step_laws::Step;
+
+/// Puts the turns of the joins of two rules by their selectors.
+fn try_selector_joins(
+    board: &Board,
+    tables: &Tables,
+    source: &KnownLengths<'_>,
+    after: &Lead,
+    upper: u32,
+    lower: u32,
+    apart: bool,
+    found: &mut Found,
+) -> Result<(), AllocError>
+    requires plannable { IsPlannable source.now board.now.items }
+    requires cover { Cover tables.now (rules_of board.now) }
+    requires upper { upper < length board.now.items }
+    requires lower { lower < length board.now.items }
+    requires apart { apart ≡ true → RulesApart board.now.items upper lower }
+    requires later { AreLater source.now board.now after.now found.old }
+    requires few { length found.old.leads ≤ room }
+    ensures keeps { OnOk result (Keeps found.old found.new) }
+    ensures up { OnOk result (Covers source.now board.now after.now found.new (kinds.JoinSelUp upper lower)) }
+    ensures down { OnOk result (Covers source.now board.now after.now found.new (kinds.JoinSelDown upper lower)) }
+    ensures later { OnOk result (AreLater source.now board.now after.now found.new) }
+    ensures few { length found.new.leads ≤ room }
+{
+    if selectors_differ(board, upper, lower) {
+        return Ok(());
+    }
+    let up = Step::JoinSelUp { upper, lower };
+    let down = Step::JoinSelDown { upper, lower };
+    try_both(board, tables, source, after, &up, &down, apart, found)
+}
+
+/// Puts the turns of the joins of two rules by their declarations.
+fn try_decl_joins(
+    board: &Board,
+    tables: &Tables,
+    source: &KnownLengths<'_>,
+    after: &Lead,
+    upper: u32,
+    lower: u32,
+    apart: bool,
+    found: &mut Found,
+) -> Result<(), AllocError>
+    requires plannable { IsPlannable source.now board.now.items }
+    requires cover { Cover tables.now (rules_of board.now) }
+    requires upper { upper < length board.now.items }
+    requires lower { lower < length board.now.items }
+    requires apart { apart ≡ true → RulesApart board.now.items upper lower }
+    requires later { AreLater source.now board.now after.now found.old }
+    requires few { length found.old.leads ≤ room }
+    ensures keeps { OnOk result (Keeps found.old found.new) }
+    ensures up { OnOk result (Covers source.now board.now after.now found.new (kinds.JoinDeclUp upper lower)) }
+    ensures down { OnOk result (Covers source.now board.now after.now found.new (kinds.JoinDeclDown upper lower)) }
+    ensures later { OnOk result (AreLater source.now board.now after.now found.new) }
+    ensures few { length found.new.leads ≤ room }
+{
+    if decls_differ(board, upper, lower) {
+        return Ok(());
+    }
+    let up = Step::JoinDeclUp { upper, lower };
+    let down = Step::JoinDeclDown { upper, lower };
+    try_both(board, tables, source, after, &up, &down, apart, found)
+}
+
+/// Puts the turn of the share of two rules.
+fn try_share(
+    board: &Board,
+    tables: &Tables,
+    source: &KnownLengths<'_>,
+    after: &Lead,
+    upper: u32,
+    lower: u32,
+    apart: bool,
+    found: &mut Found,
+) -> Result<(), AllocError>
+    requires plannable { IsPlannable source.now board.now.items }
+    requires cover { Cover tables.now (rules_of board.now) }
+    requires upper { upper < length board.now.items }
+    requires lower { lower < length board.now.items }
+    requires apart { apart ≡ true → RulesApart board.now.items upper lower }
+    requires later { AreLater source.now board.now after.now found.old }
+    requires few { length found.old.leads ≤ room }
+    ensures keeps { OnOk result (Keeps found.old found.new) }
+    ensures covers { OnOk result (Covers source.now board.now after.now found.new (kinds.Share upper lower)) }
+    ensures later { OnOk result (AreLater source.now board.now after.now found.new) }
+    ensures few { length found.new.leads ≤ room }
+{
+    if share_no_decl(board, upper, lower) {
+        return Ok(());
+    }
+    let step = Step::Share { upper, lower };
+    try_step(board, tables, source, after, &step, false, apart, found)
+}
+
+/// Puts the turns of the steps of two items. Of a kind of which their masks tell that there is none, none is tried.
+pub(crate) fn try_joins(
+    board: &Board,
+    tables: &Tables,
+    source: &KnownLengths<'_>,
+    after: &Lead,
+    upper: u32,
+    lower: u32,
+    apart: bool,
+    found: &mut Found,
+) -> Result<(), AllocError>
+    requires plannable { IsPlannable source.now board.now.items }
+    requires cover { Cover tables.now (rules_of board.now) }
+    requires upper { upper < length board.now.items }
+    requires lower { lower < length board.now.items }
+    requires apart { apart ≡ true → RulesApart board.now.items upper lower }
+    requires later { AreLater source.now board.now after.now found.old }
+    requires few { length found.old.leads ≤ room }
+    ensures keeps { OnOk result (Keeps found.old found.new) }
+    ensures covers { OnOk result ((k : declared.Step) → IsOfTwo k → first_item k ≡ upper → last_item k ≡ lower → Covers source.now board.now after.now found.new k) }
+    ensures later { OnOk result (AreLater source.now board.now after.now found.new) }
+    ensures few { length found.new.leads ≤ room }
+{
+    try_selector_joins(board, tables, source, after, upper, lower, apart, found)?;
+    try_decl_joins(board, tables, source, after, upper, lower, apart, found)?;
+    try_share(board, tables, source, after, upper, lower, apart, found)
+}
