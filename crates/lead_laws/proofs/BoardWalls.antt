@@ -1,5 +1,5 @@
 -- Walls of a board.
-use Rattle.std.proofs.Common.{◌≡◌, ◌≢◌, ◌⊎◌, ℕ, zero, suc, ◌+◌, ◌<◌, ◌≤◌, Bool, true, false, List, [], ◌∷◌, ◌++◌, Option, Some, None, length, get_or, take, refl, sym, ap, ◌∙◌, subst, inl, inr, arith}
+use Rattle.std.proofs.Common.{◌≡◌, ◌≢◌, ◌⊎◌, ℕ, zero, suc, ◌+◌, ◌<◌, ◌≤◌, Bool, true, false, List, [], ◌∷◌, ◌++◌, Option, Some, None, length, take, refl, sym, ap, ◌∙◌, subst, inl, inr, arith}
 use Rattle.std.specs.Prelude.{slice_get, slice_index}
 use Rattle.std.specs.List.{Contains}
 use Rattle.cascade_laws.proofs.ForCallers.{some-same}
@@ -22,8 +22,6 @@ use Rattle.lead_laws.specs.Remembering.{entry_of, pairs_of, AreNowRemembered, Ar
 use Rattle.lead_laws.proofs.Kept.{from_map, map_kept, to_map}
 use Rattle.lead_laws.proofs.StepNames.{within}
 use Rattle.lead_plan.specs.declared.aside.Entry.{Entry}
-use Rattle.lead_plan.specs.declared.lead.Lead.{Lead}
-use Rattle.lead_plan.specs.Told.{lead_told}
 use Rattle.list_facts.proofs.Members.{Contains-cons_cases, Contains-nil}
 use Rattle.order_laws.specs.Edits.{is_moved, Edit, edited}
 use Rattle.plan_board.specs.BoardParts.{BoardParts}

@@ -1,5 +1,6 @@
 mod BoardWalls
 mod Covered
+pub mod ForCallers
 mod Kept
 mod Mending
 mod Moves

@@ -2,6 +2,7 @@
 use Rattle.std.proofs.Common.{◌≡◌, ◌⊎◌, ℕ, ◌<◌, ◌≤◌, List, [], ◌∷◌, ◌++◌, Some, refl, sym, subst, inl, inr}
 use Rattle.std.specs.Prelude.{slice_get}
 use Rattle.std.specs.List.{Contains}
+use Rattle.std.proofs.lemmas.List.Elements.{Contains-append_cases, Contains-append_right}
 use Rattle.css_model.specs.Cascade.Order.{Pair}
 use Rattle.css_model.specs.declared.sheet.Item.{Item}
 use Rattle.css_model.specs.Sheets.Sound.{IsSound}
@@ -23,7 +24,7 @@ use Rattle.plan_laws.specs.Cover.{Turn}
 use Rattle.step_laws.specs.declared.step.Step.{Step}
 use Rattle.step_laws.specs.Free.{Answered, AreAmong}
 use Rattle.step_laws.specs.Sizes.{size, Saves}
-use Rattle.step_laws.specs.Steps.{IsStep}
+use Rattle.step_laws.specs.Steps.{IsStep, first_item, last_item}
 use Rattle.wall_laws.specs.Holding.{Hindrance, Hinders, HasRoom, IsUntouched, Aside}
 use Rattle.wall_laws.specs.Renumbering.{new_number, renumbered}
 
@@ -95,6 +96,28 @@ more_known passed change may_change remember answers source b leads leads' more 
           (change answers source b.items before after l (passed answers source b.items before after l more (led_on source b leads leads' aside (more ++ aside) l f) own refl blocked)) known.held;
       remembered = remember source b.items before after more entries entries' refl refl refl further now known.remembered;
     }
+
+pub aside_known : HeldMayChange → MoreAreRemembered → (answers : List Answered) (source : List ℕ) (b : BoardParts) (leads : List Lead) (more aside : List Aside) (entries : List Entry) →
+    ((a : Aside) → Contains more a → IsBlockedHere answers source b.items (holding_of b leads aside) a) → AreNowRemembered source b.items (holding_of b leads aside) more entries →
+    IsKnown answers source b leads aside entries → IsKnown answers source b leads (more ++ aside) entries
+aside_known may_change remember answers source b leads more aside entries blocked now known = record {
+  held = may_change answers answers source b.items (holding_of b leads aside) (holding_of b leads (more ++ aside)) (λ x among. among)
+      (record { same_labels = refl; same_births = refl; same_next = refl; held = still; aside = new }) known.held;
+  remembered = remember source b.items (holding_of b leads aside) (holding_of b leads (more ++ aside)) more entries entries refl refl refl (λ x among. among) now known.remembered;
+}
+  where
+    still : (k : Step) (e : Edit) (n : ℕ) → IsStep b.items k e → Saves source b.items e n → 0 < n →
+        IsLed (holding_of b leads aside) n k ⊎ ((by : Hindrance) × IsSetAside (holding_of b leads aside) n k by) → IsLed (holding_of b leads (more ++ aside)) n k ⊎ ((by : Hindrance) × IsSetAside (holding_of b leads (more ++ aside)) n k by)
+    still k e n is saves some (inl led) = inl led
+    still k e n is saves some (inr (by, among)) = inr (by, Contains-append_right more aside (record { turn = named (births_of b.marks) n k; by = by }) among)
+
+    new : (a : Aside) → Contains (more ++ aside) a → Contains aside a
+        ⊎ ((first_item a.turn.step < b.next) × (last_item a.turn.step < b.next)
+        × ((k : Step) (e : Edit) (n : ℕ) → IsStep b.items k e → Saves source b.items e n → 0 < n → a.turn ≡ named (births_of b.marks) n k → Hinders answers b.items e a.by))
+    new a among = elim (Contains-append_cases more aside a among) [
+      | inl h ↦ inr (blocked a h)
+      | inr h ↦ inl h
+    ]
 
 -- ---- A step is taken
 

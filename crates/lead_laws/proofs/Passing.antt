@@ -8,7 +8,8 @@ use Rattle.hold_laws.specs.Leads.{Lead, Holding, IsLeadOf, IsLed, IsSetAside, Is
 use Rattle.hold_laws.specs.Scopes.{IsInScope}
 use Rattle.hold_laws.specs.Turns.{TurnsAreOrdered, NamesTellSteps, named}
 use Rattle.lead_laws.specs.Passed.{IsLedOn, IsBlockedHere, IsPassed}
-use Rattle.lead_laws.proofs.StepNames.{within, new_first, new_last, ascending_differ}
+use Rattle.lead_laws.proofs.ForCallers.{ascending_differ}
+use Rattle.lead_laws.proofs.StepNames.{within, new_first, new_last}
 use Rattle.list_facts.proofs.Members.{Contains-here, Contains-there, Contains-cons_cases}
 use Rattle.order_laws.specs.Edits.{Edit}
 use Rattle.plan_laws.specs.Cover.{Turn, IsSooner}

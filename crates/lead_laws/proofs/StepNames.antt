@@ -1,7 +1,6 @@
 -- The items of a step, and their names.
-use Rattle.std.proofs.Common.{◌≡◌, ◌≢◌, ℕ, ◌<◌, List, length, get_or, Some, refl, sym, ap, ap₂, subst, arith}
+use Rattle.std.proofs.Common.{◌≡◌, ◌≢◌, ℕ, ◌<◌, List, length, Some, refl, sym, ap, ap₂, subst, arith}
 use Rattle.std.specs.Prelude.{nat_lt, slice_get, slice_index}
-use Rattle.std.specs.List.{AllPairs}
 use Rattle.std.proofs.lemmas.Bool.{cond_both}
 use Rattle.std.proofs.lemmas.Option.{get_or_from_slice_get, slice_get-get_or, slice_get_within}
 use Rattle.css_model.specs.declared.sheet.Item.{Item}
@@ -70,10 +69,6 @@ new_last f (JoinDeclDown x y) = refl
 new_last f (Share x y) = refl
 
 -- ---- Their names
-
--- names that ascend differ
-pub ascending_differ : (names : List ℕ) → AllPairs (λ l m. l < m) names → AllPairs (λ l m. l ≢ m) names
-ascending_differ names ascend i j d before inside = λ same. absurd (let less : get_or names i d < get_or names j d = ascend i j d before inside in omega (arith, less, same))
 
 -- one numbering after the other
 again : (f g h : ℕ → ℕ) (k : Step) → g (f (first_item k)) ≡ h (first_item k) → g (f (last_item k)) ≡ h (last_item k) → renumbered g (renumbered f k) ≡ renumbered h k

@@ -71,6 +71,12 @@ MoreIsKnown = (answers : List Answered) (source : List ℕ) (b : BoardParts) (le
     ((x : Entry) → Contains entries x → Contains entries' x) →
     IsKnown answers source b leads aside entries → IsKnown answers source b leads' (more ++ aside) entries'
 
+-- And where turns are set aside whose steps are blocked and remembered, while the same turns lead.
+abbrev pub AsideIsKnown : Type 0
+AsideIsKnown = (answers : List Answered) (source : List ℕ) (b : BoardParts) (leads : List Lead) (more aside : List Aside) (entries : List Entry) →
+    ((a : Aside) → Contains more a → IsBlockedHere answers source b.items (holding_of b leads aside) a) → AreNowRemembered source b.items (holding_of b leads aside) more entries →
+    IsKnown answers source b leads aside entries → IsKnown answers source b leads (more ++ aside) entries
+
 -- A board becomes another one behind an edit. All turns that led lead, one before all steps leads for each item that
 -- is born now, and those under moved pairs lead again. No entry is taken out.
 pub record IsTaken (b b' : BoardParts) (d : Edit) (bound : ℕ) (leads leads' : List Lead) (entries entries' : List Entry) : Type 0 where

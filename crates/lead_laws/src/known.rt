@@ -1,6 +1,6 @@
 //! What a plan by turns that lead always knows of its board.
 
-ghost use Rattle.lead_laws.specs.Known.{AnswersMayCome, BlockedIsKnown, MoreIsKnown, NoneIsKnown, StartIsKnown, TakenIsKnown};
+ghost use Rattle.lead_laws.specs.Known.{AnswersMayCome, AsideIsKnown, BlockedIsKnown, MoreIsKnown, NoneIsKnown, StartIsKnown, TakenIsKnown};
 
 use crate::mark_names::{kept_are_renamed, marks_are_names};
 use crate::mended::taken_goes_over;
@@ -51,6 +51,14 @@ pub fn more_is_known()
 {
     more_is_passed();
     passed_is_change();
+    held_may_change();
+    more_are_remembered();
+}
+
+/// It is where turns are set aside whose steps are blocked and remembered, while the same turns lead.
+pub fn aside_is_known()
+    ensures { AsideIsKnown }
+{
     held_may_change();
     more_are_remembered();
 }

@@ -12,8 +12,8 @@ mod walls;
 
 pub use beside::{cover_goes_on, cover_is_of_each, homes_go_on, others_stay_covered};
 pub use known::{
-    answers_may_come, blocked_is_known, more_is_known, none_is_known, start_is_known,
-    taken_is_known,
+    answers_may_come, aside_is_known, blocked_is_known, more_is_known, none_is_known,
+    start_is_known, taken_is_known,
 };
 pub use mark_names::{kept_are_renamed, marks_are_names};
 pub use mended::taken_goes_over;

@@ -3,10 +3,9 @@ use Rattle.std.proofs.Common.{◌≡◌, ◌⊎◌, List, [], ◌∷◌, refl, s
 use Rattle.std.specs.List.{Contains}
 use Rattle.css_model.specs.Cascade.Order.{Pair}
 use Rattle.css_model.specs.declared.sheet.Item.{Item}
-use Rattle.lead_laws.specs.Remembering.{entry_of, pairs_of, HasEntryOf}
+use Rattle.lead_laws.specs.Remembering.{entry_of, pairs_of}
 use Rattle.lead_plan.specs.declared.aside.Entry.{Entry}
 use Rattle.lead_plan.specs.declared.lead.Lead.{Lead}
-use Rattle.lead_plan.specs.Told.{lead_told}
 use Rattle.list_facts.proofs.Members.{Contains-cons_cases, Contains-nil}
 use Rattle.obstacles.specs.Blocking.{IsAt, IsOther, Names}
 use Rattle.obstacles.specs.declared.obstacle.Obstacle.{Obstacle}
@@ -17,25 +16,25 @@ use Rattle.wall_laws.specs.Holding.{Hindrance, OfPair, OfKept}
 
 module _ (items : List Item) (o : Obstacle) (lead : Lead) (between new : List Entry) (moved : (p : Pair) → IsAt items o.moved p → Contains between (entry_of p lead)) (more : (x : Entry) → Contains between x → Contains new x)
     (other : (place : PairPlace) (p : Pair) → o.other ≡ others.Pair place → IsAt items place p → Contains new (entry_of p lead)) where
-  moved_put : (a : Pair) → IsAt items o.moved a → HasEntryOf new a (lead_told lead).turn
-  moved_put a at = (lead, refl, more (entry_of a lead) (moved a at))
+  moved_put : (a : Pair) → IsAt items o.moved a → Contains new (entry_of a lead)
+  moved_put a at = more (entry_of a lead) (moved a at)
 
-  other_put : (a b : Pair) (x : Other) → o.other ≡ x → IsOther items x (OfPair a b) → HasEntryOf new b (lead_told lead).turn
-  other_put a b (others.Pair place) is at = (lead, refl, other place b is at)
+  other_put : (a b : Pair) (x : Other) → o.other ≡ x → IsOther items x (OfPair a b) → Contains new (entry_of b lead)
+  other_put a b (others.Pair place) is at = other place b is at
   other_put a b (others.Kept n) is none = absurd none
 
-  pub named_put : (by : Hindrance) → Names items o by → (p : Pair) → Contains (pairs_of by) p → HasEntryOf new p (lead_told lead).turn
+  pub named_put : (by : Hindrance) → Names items o by → (p : Pair) → Contains (pairs_of by) p → Contains new (entry_of p lead)
   named_put (OfPair a b) names p among = which (Contains-cons_cases a (b ∷ []) p among)
     where
-      last : (b ≡ p) ⊎ Contains [] p → HasEntryOf new p (lead_told lead).turn
-      last (inl e) = subst (λ (q : Pair). HasEntryOf new q (lead_told lead).turn) e (other_put a b o.other refl names.other)
+      last : (b ≡ p) ⊎ Contains [] p → Contains new (entry_of p lead)
+      last (inl e) = subst (λ (q : Pair). Contains new (entry_of q lead)) e (other_put a b o.other refl names.other)
       last (inr g) = absurd (Contains-nil p g)
 
-      which : (a ≡ p) ⊎ Contains (b ∷ []) p → HasEntryOf new p (lead_told lead).turn
-      which (inl e) = subst (λ (q : Pair). HasEntryOf new q (lead_told lead).turn) e (moved_put a names.moved)
+      which : (a ≡ p) ⊎ Contains (b ∷ []) p → Contains new (entry_of p lead)
+      which (inl e) = subst (λ (q : Pair). Contains new (entry_of q lead)) e (moved_put a names.moved)
       which (inr g) = last (Contains-cons_cases b [] p g)
   named_put (OfKept a n) names p among = which (Contains-cons_cases a [] p among)
     where
-      which : (a ≡ p) ⊎ Contains [] p → HasEntryOf new p (lead_told lead).turn
-      which (inl e) = subst (λ (q : Pair). HasEntryOf new q (lead_told lead).turn) e (moved_put a names.moved)
+      which : (a ≡ p) ⊎ Contains [] p → Contains new (entry_of p lead)
+      which (inl e) = subst (λ (q : Pair). Contains new (entry_of q lead)) e (moved_put a names.moved)
       which (inr g) = absurd (Contains-nil p g)

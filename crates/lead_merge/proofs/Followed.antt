@@ -1,17 +1,19 @@
 -- What comes in the place of a lead that leads no more.
 use Rattle.std.proofs.Common.{◌≡◌, ◌⊎◌, ℕ, ◌+◌, ◌<◌, ◌≤◌, arith, true, false, List, [], ◌∷◌, Option, Some, None, refl, sym, ap, ◌∙◌, subst, inl, inr}
-use Rattle.std.specs.Prelude.{IfSome, slice_get}
+use Rattle.std.specs.Prelude.{IfSome, slice_get, slice_index}
 use Rattle.std.specs.List.{Contains}
 use Rattle.std.specs.Option.{option_map}
-use Rattle.std.proofs.lemmas.Bool.{false≢true}
+use Rattle.std.proofs.lemmas.Bool.{cases_lt, false≢true}
 use Rattle.std.proofs.lemmas.Option.{slice_get-map}
+use Rattle.cascade_laws.proofs.ForCallers.{some-same}
 use Rattle.hold_laws.specs.Leads as held
 use Rattle.hold_laws.specs.Leads.{IsLed}
-use Rattle.hold_laws.specs.Scopes.{IsInScope}
+use Rattle.hold_laws.specs.Scopes.{IsInScope, IsUp}
 use Rattle.hold_laws.specs.Turns.{named}
+use Rattle.lead_laws.specs.BoardWalls.{IsWalled}
 use Rattle.lead_laws.specs.Known.{IsFollowed}
 use Rattle.lead_laws.specs.MarkNames.{holding_of}
-use Rattle.lead_merge.specs.Following.{Follows}
+use Rattle.lead_merge.specs.Following.{AreWalledOff, Follows}
 use Rattle.lead_plan.specs.declared.lead.Lead.{Lead}
 use Rattle.lead_plan.specs.declared.lead.Scope.{Scope}
 use Rattle.lead_plan.specs.declared.lead.Scope.TheVariants.{Alone, Owned, Ups, Downs}
@@ -20,14 +22,16 @@ use Rattle.lead_plan.specs.Weights.{is_alone}
 use Rattle.list_facts.proofs.Members.{Contains-cons_cases, Contains-nil}
 use Rattle.list_facts.proofs.Options.{mapped}
 use Rattle.order_laws.specs.Edits.{Edit}
+use Rattle.plan_board.specs.BoardParts.{BoardParts}
 use Rattle.plan_board.specs.declared.marks.Mark.{Mark}
 use Rattle.plan_board.specs.MarkList.{births_of, labels_of}
 use Rattle.plan_laws.specs.Cover.{IsSooner}
 use Rattle.plan_state.specs.PlanParts.{PlanParts}
 use Rattle.plan_state.specs.State.{IsBoard}
 use Rattle.step_laws.specs.declared.step.Step.{Step}
+use Rattle.step_laws.specs.declared.step.Step.TheVariants.{CutDecl, CutSel, JoinSelUp, JoinSelDown, JoinDeclUp, JoinDeclDown, Share}
 use Rattle.step_laws.specs.Sizes.{Saves}
-use Rattle.step_laws.specs.Steps.{IsStep}
+use Rattle.step_laws.specs.Steps.{IsStep, first_item, last_item}
 use Rattle.wall_laws.specs.Holding.{Aside}
 use Rattle.step_turns.specs.Looking.{FoundParts, Reaches}
 use Rattle.step_turns.specs.Named.{IsLaterTurn, IsLedBeside}
@@ -103,13 +107,37 @@ alone_followed source p lead leads aside single = record {
   later = λ k e n is saves some in_it sooner. absurd (none_in_it lead.scope (births_of p.board.marks) lead.owner k single in_it);
 }
 
+-- a join goes past a wall, or it does not
+up_or_not : (k : Step) → IsUp k ⊎ (IsUp k → ⊥)
+up_or_not (CutDecl n i) = inr (λ up. up)
+up_or_not (CutSel n i) = inr (λ up. up)
+up_or_not (JoinSelUp x y) = inl tt
+up_or_not (JoinSelDown x y) = inr (λ up. up)
+up_or_not (JoinDeclUp x y) = inl tt
+up_or_not (JoinDeclDown x y) = inr (λ up. up)
+up_or_not (Share x y) = inr (λ up. up)
+
+walled_or_not : (b : BoardParts) (walls : List ℕ) (k : Step) → IsWalled b walls k ⊎ (IsWalled b walls k → ⊥)
+walled_or_not b walls k = which (up_or_not k) (slice_get walls (slice_index (births_of b.marks) (last_item k))) refl
+  where
+    which : IsUp k ⊎ (IsUp k → ⊥) → (found : Option ℕ) → slice_get walls (slice_index (births_of b.marks) (last_item k)) ≡ found → IsWalled b walls k ⊎ (IsWalled b walls k → ⊥)
+    which (inr other) found at = inr (λ walled. other walled.0)
+    which (inl up) None at = inr (λ walled. let e : None ≡ Some walled.1.0 = sym at ∙ walled.1.1 in cc)
+    which (inl up) (Some label) at = elim (cases_lt (slice_index (labels_of b.marks) (first_item k)) label) [
+      | inl l ↦ inl (up, (label, at, l))
+      | inr l ↦ inr (λ walled. let e : label ≡ walled.1.0 = some-same (sym at ∙ walled.1.1) in let f : slice_index (labels_of b.marks) (first_item k) < walled.1.0 = walled.1.2 in omega (arith, l, e, f))
+    ]
+
 -- where what follows leads, the lead is followed
 pub is_followed : (source : List ℕ) (p : PlanParts) (lead : Lead) (found : FoundParts) (leads leads' : List held.Lead) (aside : List Aside) → Follows source p lead found →
     ((l : held.Lead) → Contains leads l → Contains leads' l) → ((l : Lead) → Contains found.leads l → Contains leads' (alone l)) → IfSome found.others (λ n. Contains leads' (lead_told n)) →
-    IsFollowed source p.board (lead_told lead ∷ leads) leads' aside (lead_told lead)
-is_followed source p lead found leads leads' aside f stay single there = record {
+    AreWalledOff source p leads' aside → IsFollowed source p.board (lead_told lead ∷ leads) leads' aside (lead_told lead)
+is_followed source p lead found leads leads' aside f stay single there walled = record {
   others = others_stay (lead_told lead) leads leads' stay;
-  later = λ k e n is saves some in_it sooner. inl (led k n in_it (f.covers k e n is saves some in_it sooner));
+  later = λ k e n is saves some in_it sooner. elim (walled_or_not p.board p.walls k) [
+    | inl past ↦ walled k e n is saves some past
+    | inr clear ↦ inl (led k n in_it (f.covers k e n is saves some (in_it, clear) sooner))
+  ];
 }
   where
     led : (k : Step) (n : ℕ) → IsLedBeside p.board lead k → Reaches found (named (labels_of p.board.marks) n k) → IsLed (holding_of p.board leads' aside) n k

@@ -3,3 +3,5 @@ mod Followed
 mod Passed
 mod Results
 mod Tried
+mod Walled
+mod Walls

@@ -13,3 +13,11 @@ module _ {A E : Type 0} where
   pub on_both : (r : Result A E) (P Q R : Type 0) → (P → Q → R) → OnOk r P → OnOk r Q → OnOk r R
   on_both (Ok a) P Q R f p q = f p q
   on_both (Err e) P Q R f p q = tt
+
+  pub on_three : (r : Result A E) (P Q R S : Type 0) → (P → Q → R → S) → OnOk r P → OnOk r Q → OnOk r R → OnOk r S
+  on_three (Ok a) P Q R S f p q h = f p q h
+  on_three (Err e) P Q R S f p q h = tt
+
+  pub on_four : (r : Result A E) (P Q R S T : Type 0) → (P → Q → R → S → T) → OnOk r P → OnOk r Q → OnOk r R → OnOk r S → OnOk r T
+  on_four (Ok a) P Q R S T f p q h k = f p q h k
+  on_four (Err e) P Q R S T f p q h k = tt

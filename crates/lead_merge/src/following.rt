@@ -4,7 +4,7 @@ ghost use Rattle.std.specs.Prelude.{◌≡◌, ◌∷◌, ◌+◌, ◌<◌, ◌�
 ghost use Rattle.std.specs.List.{Contains};
 ghost use Rattle.hold_laws.specs.Leads as held;
 ghost use Rattle.lead_laws.specs.Known.{IsFollowed};
-ghost use Rattle.lead_merge.specs.Following.{Follows};
+ghost use Rattle.lead_merge.specs.Following.{AreWalledOff, Follows};
 ghost use Rattle.lead_plan.specs.Told.{alone, lead_told};
 ghost use Rattle.lead_plan.specs.declared.lead.Lead as declared;
 ghost use Rattle.lead_plan.specs.Weights.{is_alone, room, total, weight};
@@ -39,7 +39,15 @@ fn next_of(
     ensures { IfOk result (Follows source.now plan.now lead.now) }
 {
     let at = home_of(&plan.homes, lead.owner);
-    next_leads(alloc, &plan.board, &plan.tables, source, at, lead)
+    next_leads(
+        alloc,
+        &plan.board,
+        &plan.tables,
+        source,
+        &plan.walls,
+        at,
+        lead,
+    )
 }
 
 /// Lets a turn lead its step alone.
@@ -99,8 +107,9 @@ pub(crate) fn follow(
 ) -> Result<(), AllocError>
     requires { IsBoard source.now plan.old }
     ensures same { OnOk result (plan.new ≡ record plan.old { leads = plan.new.leads }) }
-    ensures followed { OnOk result ((aside : List Aside) → IsFollowed source.now plan.old.board (lead_told lead.now ∷ plan.old.leads) plan.new.leads aside
-        (lead_told lead.now)) }
+    ensures stay { OnOk result ((l : held.Lead) → Contains plan.old.leads l → Contains plan.new.leads l) }
+    ensures followed { OnOk result ((aside : List Aside) → AreWalledOff source.now plan.old plan.new.leads aside
+        → IsFollowed source.now plan.old.board (lead_told lead.now ∷ plan.old.leads) plan.new.leads aside (lead_told lead.now)) }
     ensures less { OnOk result (total plan.new.leads < total plan.old.leads + weight (lead_told lead.now)) }
 {
     if lead.is_alone() {

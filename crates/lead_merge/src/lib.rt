@@ -6,5 +6,6 @@ mod merging;
 mod passing;
 mod setting_aside;
 mod trying;
+mod walling;
 
 pub use merging::merge;

@@ -33,7 +33,7 @@ fn next_step<O: Obstacles>(
     ensures done { IfOk result (λ next. IfNone next (IsDone (O.answers obstacles.new) source.now plan.old.board.items)) }
 {
     no_lead_is_done();
-    'leads: while let Some(lead) = plan.waiting.take_first() {
+    'leads: while let Some(lead) = plan.take_first() {
         if let Some(step) = try_lead(alloc, obstacles, source, plan, &lead)? {
             return Ok(Some(step));
         }

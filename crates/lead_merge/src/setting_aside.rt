@@ -1,11 +1,14 @@
 //! Leads that are set aside, under the pairs that block their steps.
 
-ghost use Rattle.std.specs.Prelude.{◌≡◌, OnOk, Some, slice_get};
+ghost use Rattle.std.specs.Prelude.{◌≡◌, ◌+◌, OnOk, Some, slice_get};
 ghost use Rattle.std.specs.List.{Contains};
 ghost use Rattle.css_model.specs.Cascade.Order.{Pair};
 ghost use Rattle.css_model.specs.declared.sheet.DeclItem as declared_item;
 ghost use Rattle.css_model.specs.declared.sheet.SelItem as declared;
+ghost use Rattle.css_model.specs.Sheets.Limits.{max_bytes};
+ghost use Rattle.lead_laws.specs.BoardWalls.{up_lead};
 ghost use Rattle.lead_laws.specs.Remembering.{entry_of, pairs_of, HasEntryOf};
+ghost use Rattle.lead_merge.specs.Walling.{HasUpEntries};
 ghost use Rattle.lead_plan.specs.declared.aside.Entry.{Entry};
 ghost use Rattle.lead_plan.specs.Told.{lead_told};
 ghost use Rattle.obstacles.specs.Blocking.{IsAt, IsOther, Names};
@@ -13,16 +16,17 @@ ghost use Rattle.obstacles.specs.declared.obstacle.Other.TheVariants as others;
 ghost use Rattle.obstacles.specs.declared.obstacle.PairPlace as declared_place;
 ghost use Rattle.wall_laws.specs.Holding.{Hindrance};
 
-use css_model::{Decl, Rule, Selector, Sheet};
-use lead_plan::{Aside, Lead, Scope};
+use css_model::{Decl, MAX_BYTES, Rule, Selector, Sheet};
+use lead_plan::{Aside, Kind, Lead, Scope};
 use obstacles::{Obstacle, Other, PairPlace};
 use plan_state::Plan;
 use rule_tables::{decl_digest, selector_digest};
 use std::alloc::AllocError;
+use std::cmp::Reverse;
 use step_savings::rule_at;
 
 /// The selector of this number.
-fn selector_of(rule: &Rule, number: u32) -> &Selector
+pub(crate) fn selector_of(rule: &Rule, number: u32) -> &Selector
     requires { (s : declared.SelItem) × (slice_get rule.now.selectors number ≡ Some s) }
     ensures { (s : declared.SelItem) → slice_get rule.now.selectors number ≡ Some s → result.now ≡ s.selector }
 {
@@ -33,7 +37,7 @@ fn selector_of(rule: &Rule, number: u32) -> &Selector
 }
 
 /// The declaration of this number.
-fn decl_of(rule: &Rule, number: u32) -> &Decl
+pub(crate) fn decl_of(rule: &Rule, number: u32) -> &Decl
     requires { (d : declared_item.DeclItem) × (slice_get rule.now.decls number ≡ Some d) }
     ensures { (d : declared_item.DeclItem) → slice_get rule.now.decls number ≡ Some d → result.now ≡ d.decl }
 {
@@ -96,7 +100,7 @@ fn put_named(
     requires { (by : Hindrance) × Names sheet.now.items obstacle.now by }
     ensures more { (x : Entry) → Contains aside.old x → Contains aside.new x }
     ensures put { OnOk result ((by : Hindrance) → Names sheet.now.items obstacle.now by → (p : Pair) → Contains (pairs_of by) p
-        → HasEntryOf aside.new p (lead_told lead.now).turn) }
+        → Contains aside.new (entry_of p lead.now)) }
 {
     put_pair(aside, sheet, &obstacle.moved, lead)?;
     put_other(aside, sheet, &obstacle.other, lead)
@@ -121,4 +125,34 @@ pub(crate) fn put_aside(plan: &mut Plan, lead: &Lead, obstacle: &Obstacle) -> Re
         → HasEntryOf plan.new.entries p (lead_told lead.now).turn) }
 {
     put_named(&mut plan.aside, plan.board.sheet(), obstacle, &alone(lead))
+}
+
+/// The turn before all steps that leads all joins up of the item of a birth.
+fn lead_of_ups(owner: u32) -> Lead
+    ensures { lead_told result ≡ up_lead (max_bytes + 1) owner }
+{
+    Lead {
+        saving: Reverse(MAX_BYTES + 1),
+        kind: Kind::DeclCut,
+        first: 0,
+        second: 0,
+        owner,
+        scope: Scope::Ups,
+    }
+}
+
+/// Sets the lead of all joins up of the item of a birth aside, under each pair of what an obstacle names. All else of the
+/// plan stays.
+pub(crate) fn put_up(plan: &mut Plan, birth: u32, obstacle: &Obstacle) -> Result<(), AllocError>
+    requires { (by : Hindrance) × Names plan.old.board.items obstacle.now by }
+    ensures same { OnOk result (plan.new ≡ record plan.old { entries = plan.new.entries }) }
+    ensures more { OnOk result ((x : Entry) → Contains plan.old.entries x → Contains plan.new.entries x) }
+    ensures put { OnOk result (HasUpEntries plan.old.board.items plan.new.entries obstacle.now birth) }
+{
+    put_named(
+        &mut plan.aside,
+        plan.board.sheet(),
+        obstacle,
+        &lead_of_ups(birth),
+    )
 }

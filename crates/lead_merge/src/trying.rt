@@ -14,9 +14,9 @@ ghost use Rattle.plan_state.specs.State.{IsLedBy, IsState};
 ghost use Rattle.step_laws.specs.Free.{AreAmong, IsFree};
 ghost use Rattle.step_laws.specs.Steps.{HasStep, IsStep};
 
-use crate::passing::{lead_again, pass_blocked, pass_none};
+use crate::passing::{lead_again, pass_blocked, pass_none, pass_walled};
 use hold_laws::{first_lead_is_taken, turns_are_ordered};
-use lead_laws::answers_may_come;
+use lead_laws::{answers_may_come, walls_stay};
 use lead_plan::Lead;
 use merge_plan::KnownLengths;
 use obstacles::{Obstacle, Obstacles};
@@ -24,7 +24,7 @@ use plan_board::Board;
 use plan_state::Plan;
 use std::alloc::{AllocError, Global};
 use step_laws::Step;
-use step_turns::step_of_lead;
+use step_turns::{is_walled, step_of_lead};
 
 /// What blocks a step of a board's sheet, and `None` exactly where it is free.
 fn obstacle_on<O: Obstacles>(
@@ -43,7 +43,7 @@ fn obstacle_on<O: Obstacles>(
 }
 
 /// The step that a lead names, which was taken out as the first of those that lead, if it is free; then it leads again.
-/// Else the lead is passed.
+/// Else the lead is passed. What is past a wall is not asked for.
 pub(crate) fn try_lead<O: Obstacles>(
     alloc: Global,
     obstacles: &mut O,
@@ -61,12 +61,17 @@ pub(crate) fn try_lead<O: Obstacles>(
     ensures less { IfOk result (λ found. IfNone found (total plan.new.leads < total plan.old.leads + weight (lead_told lead.now))) }
 {
     answers_may_come();
+    walls_stay();
     first_lead_is_taken();
     turns_are_ordered();
     let Some(step) = step_of_lead(&plan.board, &plan.tables, source, lead) else {
         pass_none(alloc, source, plan, lead)?;
         return Ok(None);
     };
+    if is_walled(&plan.board, &plan.walls, &step) {
+        pass_walled(alloc, source, plan, lead, &step)?;
+        return Ok(None);
+    }
     match obstacle_on(obstacles, &plan.board, &step)? {
         None => {
             lead_again(plan, lead)?;

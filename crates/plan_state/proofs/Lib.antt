@@ -5,3 +5,4 @@ mod Plannable
 mod Results
 mod Starting
 mod Taken
+mod TakenDown

@@ -1,5 +1,5 @@
 -- A plan of which nothing is known.
-use Rattle.std.proofs.Common.{◌≡◌, ℕ, ◌+◌, ◌<◌, ◌≤◌, List, [], ◌∷◌, Some, length, get_or, sym, refl, ◌∙◌, subst, arith}
+use Rattle.std.proofs.Common.{◌≡◌, ℕ, ◌+◌, ◌<◌, ◌≤◌, List, [], ◌∷◌, Some, None, length, get_or, sym, refl, ◌∙◌, subst, arith}
 use Rattle.std.specs.Prelude.{slice_get}
 use Rattle.std.specs.List.{Contains}
 use Rattle.std.proofs.lemmas.Option.{slice_get-map, slice_get_within, slice_get-get_or}
@@ -11,6 +11,7 @@ use Rattle.hold_laws.specs.Leads as held
 use Rattle.hold_laws.specs.Scopes.{Owned}
 use Rattle.hold_laws.specs.Turns.{first_turn}
 use Rattle.lead_laws.specs.Beside.{CoverIsOfEach}
+use Rattle.lead_laws.specs.BoardWalls.{AreWalls}
 use Rattle.lead_laws.specs.Known.{IsKnown, StartIsKnown}
 use Rattle.lead_laws.specs.MarkNames.{IsMarked}
 use Rattle.list_facts.proofs.Options.{mapped}
@@ -48,9 +49,9 @@ module _ (next : ℕ) (b : BoardParts) (marked : IsMarked b) (tables : TablePart
       let w : (m : Mark) × (slice_get b.marks n ≡ Some m) × (m.birth ≡ birth) = mapped (λ (m : Mark). m.birth) (slice_get b.marks n) birth (sym (slice_get-map (λ (m : Mark). m.birth) b.marks n) ∙ at) in
       subst (λ (k : ℕ). Contains leads (first_lead k)) w.2 ((one n w.0 w.1 (subst (λ (k : ℕ). next ≤ k) (sym w.2) later)).1.lead)
 
-pub start_state : StartIsKnown → CoverIsOfEach → (answers : List Answered) (source : List ℕ) (p : PlanParts) → IsPlannable source p.board.items → IsMarked p.board → p.entries ≡ [] →
+pub start_state : StartIsKnown → CoverIsOfEach → (answers : List Answered) (source : List ℕ) (p : PlanParts) → IsPlannable source p.board.items → IsMarked p.board → p.entries ≡ [] → p.walls ≡ [] →
     AreGreeted 0 p.board.marks p.board.items p.tables p.leads p.homes → IsState answers source p
-start_state start cover answers source p plannable marked none greeted = record {
+start_state start cover answers source p plannable marked none no_walls greeted = record {
   board = record {
     plannable = plannable;
     marked = marked;
@@ -60,4 +61,8 @@ start_state start cover answers source p plannable marked none greeted = record 
   aside = [];
   known = subst (IsKnown answers source p.board p.leads []) (sym none)
       (start answers source p.board p.leads (max_bytes + 1) marked (let short = plannable.short in omega (arith, short)) (λ n birth at. lead_there 0 p.board marked p.tables p.leads p.homes greeted n birth at (omega arith)));
+  walls = subst (AreWalls answers p.board p.entries (max_bytes + 1) p.leads) (sym no_walls) (record { past = omega arith; each = λ birth label at some. absurd (nowhere birth label at) });
 }
+  where
+    nowhere : (birth label : ℕ) → slice_get [] birth ≡ Some label → ⊥
+    nowhere birth label at = let e : None ≡ Some label = at in cc

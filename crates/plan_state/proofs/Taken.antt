@@ -1,11 +1,13 @@
 -- A plan after a step that is taken in place.
 use Rattle.std.proofs.Common.{◌≡◌, ℕ, ◌+◌, ◌<◌, ◌≤◌, true, List, [], ◌∷◌, length, sym, subst, arith}
 use Rattle.std.specs.List.{Contains}
+use Rattle.std.specs.Prelude.{Some, slice_get}
 use Rattle.css_model.specs.Cascade.Order.{Pair}
 use Rattle.css_model.specs.Sheets.Limits.{max_bytes, max_items}
 use Rattle.hold_laws.specs.Leads as held
 use Rattle.hold_laws.specs.Room.{SheetsHaveRoom}
 use Rattle.lead_laws.specs.Beside.{CoverGoesOn, HomesGoOn, StayCovered}
+use Rattle.lead_laws.specs.BoardWalls.{AreWalls, WallsGoOver}
 use Rattle.lead_laws.specs.Known.{IsTaken, TakenIsKnown}
 use Rattle.lead_laws.specs.MarkNames.{IsMarked}
 use Rattle.lead_laws.specs.Remembering.{untouched}
@@ -13,6 +15,7 @@ use Rattle.lead_plan.specs.declared.aside.Entry.{Entry}
 use Rattle.lead_plan.specs.Told.{lead_told}
 use Rattle.order_laws.specs.Edits.{is_moved, Edit, edited}
 use Rattle.plan_board.specs.Marking.{AreKept}
+use Rattle.plan_board.specs.MarkList.{labels_of}
 use Rattle.plan_laws.specs.Plannable.{IsPlannable}
 use Rattle.rule_tables.specs.Tables.{TableParts, with_label}
 use Rattle.step_laws.specs.declared.step.Step.{Step}
@@ -20,16 +23,17 @@ use Rattle.step_laws.specs.Free.{Answered}
 use Rattle.step_laws.specs.Leading.{Takes}
 use Rattle.step_laws.specs.Left.{StepsMakeOf, EachIsMadeOfItself}
 use Rattle.step_laws.specs.Sizes.{Saves}
-use Rattle.step_laws.specs.Steps.{IsStep}
+use Rattle.step_laws.specs.Steps.{IsStep, first_item, last_item}
 use Rattle.plan_state.specs.Greeting.{AreGreeted, StayBefore}
 use Rattle.plan_state.specs.PlanParts.{PlanParts}
 use Rattle.plan_state.specs.State.{IsState}
 use Rattle.plan_state.specs.Waking.{IsAwake}
+use Rattle.plan_state.specs.Walls.{SomeStay}
 use Rattle.plan_state.proofs.Plannable.{plannable_after, saved_by}
 use Rattle.plan_state.proofs.Starting.{home_there, covered_there, lead_there}
 
 -- what was done to a plan: its turns were woken, the step's items were taken out of its tables, its step was taken, and its items were greeted
-pub record IsDone (p p' : PlanParts) (woken : List held.Lead) (left : TableParts) (e : Edit) : Type 0 where
+pub record IsDone (p p' : PlanParts) (woken : List held.Lead) (left : TableParts) (k : Step) (e : Edit) : Type 0 where
   pub items : p'.board.items ≡ edited e p.board.items
   pub marked : IsMarked p'.board
   pub kept : AreKept p.board p'.board e
@@ -40,10 +44,11 @@ pub record IsDone (p p' : PlanParts) (woken : List held.Lead) (left : TableParts
   pub greeted : AreGreeted p.board.next p'.board.marks p'.board.items p'.tables p'.leads p'.homes
   pub stay : StayBefore p.board.next left woken p.homes p'.tables p'.leads p'.homes
   pub entries : p'.entries ≡ p.entries
+  pub walls : SomeStay p.walls p'.walls (λ birth label. (n : ℕ) → slice_get (labels_of p.board.marks) n ≡ Some label → (first_item k ≡ n → ⊥) × (last_item k ≡ n → ⊥))
 
-pub taken_state : TakenIsKnown → SheetsHaveRoom → CoverGoesOn → HomesGoOn → StepsMakeOf → EachIsMadeOfItself → (answers : List Answered) (source : List ℕ) (p p' : PlanParts) (woken : List held.Lead) (left : TableParts) (k : Step) (e : Edit) →
-    IsStep p.board.items k e → length p.board.items + 1 < max_items → IsDone p p' woken left e → Takes answers source p.board.items (edited e p.board.items) → IsState answers source p → IsState answers source p'
-taken_state taken room cover homes make itself answers source p p' woken left k e is few d takes s = record {
+pub taken_state : TakenIsKnown → WallsGoOver → SheetsHaveRoom → CoverGoesOn → HomesGoOn → StepsMakeOf → EachIsMadeOfItself → (answers : List Answered) (source : List ℕ) (p p' : PlanParts) (woken : List held.Lead) (left : TableParts) (k : Step) (e : Edit) →
+    IsStep p.board.items k e → length p.board.items + 1 < max_items → IsDone p p' woken left k e → Takes answers source p.board.items (edited e p.board.items) → IsState answers source p → IsState answers source p'
+taken_state taken over room cover homes make itself answers source p p' woken left k e is few d takes s = record {
   board = record {
     plannable = subst (IsPlannable source) (sym d.items) (plannable_after make itself source p.board.items s.board.plannable answers (edited e p.board.items) takes);
     marked = d.marked;
@@ -55,6 +60,8 @@ taken_state taken room cover homes make itself answers source p p' woken left k 
   known = (let saved : (n : ℕ) × Saves source p.board.items e n = saved_by answers source p.board.items e takes in
       taken answers source p.board p'.board k e (max_bytes + 1) saved.0 p.leads p'.leads s.aside p.entries p'.entries s.board.marked is s.board.plannable.sound (room p.board.items few)
       (let short = s.board.plannable.short in omega (arith, short)) saved.1 changed s.known);
+  walls = subst (λ (xs : List Entry). AreWalls answers p'.board xs (max_bytes + 1) p'.leads p'.walls) (sym d.entries)
+      (over answers p.board p'.board k e p.entries (max_bytes + 1) p.leads p'.leads p.walls p'.walls s.board.marked is d.kept d.items d.later changed.woken changed.led (let l = d.walls.long in omega (arith, l)) d.walls.left s.walls);
 }
   where
     changed : IsTaken p.board p'.board e (max_bytes + 1) p.leads p'.leads p.entries p'.entries

@@ -2,3 +2,4 @@ pub mod Greeting
 pub mod PlanParts
 pub mod State
 pub mod Waking
+pub mod Walls

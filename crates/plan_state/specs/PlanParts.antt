@@ -5,10 +5,12 @@ use Rattle.lead_plan.specs.declared.aside.Entry.{Entry}
 use Rattle.plan_board.specs.BoardParts.{BoardParts}
 use Rattle.rule_tables.specs.Tables.{TableParts}
 
--- the sheet with its marks, its tables, the turns that lead, what is set aside, and under each birth a label
+-- the sheet with its marks, its tables, the turns that lead, what is set aside, and under each birth a label and that of
+-- a wall
 pub record PlanParts : Type 0 where
   pub board : BoardParts
   pub tables : TableParts
   pub leads : List held.Lead
   pub entries : List Entry
   pub homes : List ℕ
+  pub walls : List ℕ

@@ -3,9 +3,11 @@
 #![tactic(auto)]
 
 mod greeting;
+mod leading;
 mod leaving;
 mod plan;
 mod taking;
 mod waking;
+mod walls;
 
 pub use plan::Plan;

@@ -28,6 +28,8 @@ pub struct Plan {
     pub aside: Aside,
     /// The label of the item of each birth, while there is one.
     pub homes: Vec<u64>,
+    /// Under each birth the label from which on the item has a wall; where it has none, 0.
+    pub walls: Vec<u64>,
 }
 
 impl Model for Plan {
@@ -41,6 +43,7 @@ impl Model for Plan {
       leads = p.waiting;
       entries = p.aside;
       homes = p.homes.items;
+      walls = p.walls.items;
     } };
 }
 
@@ -60,12 +63,14 @@ impl Plan {
         let mut homes = Vec::new(alloc);
         greet(&board, 0, &mut tables, &mut waiting, &mut homes)?;
         let aside = Aside::new(alloc);
+        let walls = Vec::new(alloc);
         Ok(Plan {
             board,
             tables,
             waiting,
             aside,
             homes,
+            walls,
         })
     }
 }

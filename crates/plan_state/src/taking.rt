@@ -14,9 +14,10 @@ use crate::greeting::greet;
 use crate::leaving::uncover;
 use crate::plan::Plan;
 use crate::waking::wake_moved;
+use crate::walls::take_down_for;
 use css_model::MAX_ITEMS;
 use hold_laws::sheets_have_room;
-use lead_laws::{cover_goes_on, homes_go_on, taken_is_known};
+use lead_laws::{cover_goes_on, homes_go_on, taken_is_known, walls_go_over};
 use merge_steps::apply;
 use plan_board::Board;
 use std::alloc::{AllocError, Global};
@@ -48,6 +49,7 @@ impl Plan {
     {
         sheets_have_room();
         taken_is_known();
+        walls_go_over();
         cover_goes_on();
         homes_go_on();
         each_is_made_of_itself();
@@ -58,8 +60,10 @@ impl Plan {
             mut waiting,
             aside,
             mut homes,
+            mut walls,
         } = self;
         wake_moved(alloc, &aside, &mut waiting, board.sheet(), step)?;
+        take_down_for(&mut walls, &board, step);
         uncover(&mut tables, &board, step);
         let next = board.next();
         let board = board.take(alloc, step)?;
@@ -70,6 +74,7 @@ impl Plan {
             waiting,
             aside,
             homes,
+            walls,
         })
     }
 

@@ -9,5 +9,6 @@ mod Owned
 mod Ranks
 mod Results
 mod Rules
+mod FromLabel
 mod StepParts
 mod Telling

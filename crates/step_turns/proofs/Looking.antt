@@ -5,6 +5,7 @@ use Rattle.std.proofs.lemmas.Bool.{cases_lt}
 use Rattle.cascade_laws.proofs.ForCallers.{some-same}
 use Rattle.list_facts.proofs.Members.{Contains-cons_cases, Contains-nil}
 use Rattle.hold_laws.specs.Turns.{named, TurnsAreOrdered}
+use Rattle.lead_laws.specs.BoardWalls.{IsWalled}
 use Rattle.lead_plan.specs.declared.lead.Lead.{Lead}
 use Rattle.lead_plan.specs.Told.{lead_told}
 use Rattle.merge_plan.specs.Planning.{IsSaving}
@@ -48,12 +49,15 @@ keeps_both a b c f g t h = g t (f t h)
 
 -- ---- A step that is tried
 
-module _ (source : List ℕ) (board : BoardParts) (after : Lead) where
-  pub no_step : (best : FoundParts) (k : Step) → (HasStep board.items k → ⊥) → Covers source board after best k
+module _ (source : List ℕ) (board : BoardParts) (walls : List ℕ) (after : Lead) where
+  pub no_step : (best : FoundParts) (k : Step) → (HasStep board.items k → ⊥) → Covers source board walls after best k
   no_step best k none e n is saves some beside later = absurd (none (e, is))
 
-  pub nothing_saved : (best : FoundParts) (k : Step) → IsSaving source board.items k 0 → Covers source board after best k
+  pub nothing_saved : (best : FoundParts) (k : Step) → IsSaving source board.items k 0 → Covers source board walls after best k
   nothing_saved best k saving e n is saves some beside later = absurd (let most : n ≤ 0 = (saving e is).1 n saves in omega (arith, most, some))
+
+  pub past_wall : (best : FoundParts) (k : Step) → IsWalled board walls k → Covers source board walls after best k
+  past_wall best k walled e n is saves some looked later = absurd (looked.1 walled)
 
   one_saving : (k : Step) (m : ℕ) → IsSaving source board.items k m → 0 < m → (e : Edit) (n : ℕ) → IsStep board.items k e → Saves source board.items e n → n ≡ m
   one_saving k m saving some e n is saves =
@@ -62,12 +66,12 @@ module _ (source : List ℕ) (board : BoardParts) (after : Lead) where
       omega (arith, other, this)
 
   pub not_later : (best : FoundParts) (k : Step) (m : ℕ) (lead : Lead) → IsSaving source board.items k m → 0 < m → (lead_told lead).turn ≡ named (labels_of board.marks) m k →
-      (IsSooner (lead_told after).turn (lead_told lead).turn → ⊥) → Covers source board after best k
+      (IsSooner (lead_told after).turn (lead_told lead).turn → ⊥) → Covers source board walls after best k
   not_later best k m lead saving some turn late e n is saves more beside later =
       absurd (late (subst (λ (t : Turn). IsSooner (lead_told after).turn t) (ap (λ (x : ℕ). named (labels_of board.marks) x k) (one_saving k m saving some e n is saves) ∙ sym turn) later))
 
   pub reached_covers : (best : FoundParts) (k : Step) (m : ℕ) (lead : Lead) → IsSaving source board.items k m → 0 < m → (lead_told lead).turn ≡ named (labels_of board.marks) m k →
-      Reaches best (lead_told lead).turn → Covers source board after best k
+      Reaches best (lead_told lead).turn → Covers source board walls after best k
   reached_covers best k m lead saving some turn reached e n is saves more beside later =
       subst (Reaches best) (turn ∙ ap (λ (x : ℕ). named (labels_of board.marks) x k) (sym (one_saving k m saving some e n is saves))) reached
 
@@ -95,30 +99,30 @@ module _ (source : List ℕ) (board : BoardParts) (after : Lead) where
       which (inl h) = before l h
       which (inr e) = subst (IsLaterTurn source board after) (sym e) here
 
-  pub kept_covers : (old new : FoundParts) → Keeps old new → (k : Step) → Covers source board after old k → Covers source board after new k
+  pub kept_covers : (old new : FoundParts) → Keeps old new → (k : Step) → Covers source board walls after old k → Covers source board walls after new k
   kept_covers old new keeps k covers e n is saves some beside later = keeps (named (labels_of board.marks) n k) (covers e n is saves some beside later)
 
   -- ---- Cuts of a rule, one after the other
 
-  pub cut_more : (cut : ℕ → Step) (old new : FoundParts) (n : ℕ) → Keeps old new → ((i : ℕ) → i < n → Covers source board after old (cut i)) → Covers source board after new (cut n) →
-      (i : ℕ) → i < n + 1 → Covers source board after new (cut i)
+  pub cut_more : (cut : ℕ → Step) (old new : FoundParts) (n : ℕ) → Keeps old new → ((i : ℕ) → i < n → Covers source board walls after old (cut i)) → Covers source board walls after new (cut n) →
+      (i : ℕ) → i < n + 1 → Covers source board walls after new (cut i)
   cut_more cut old new n keeps covers here i less = which (before i n less)
     where
       before : (i n : ℕ) → i < n + 1 → (i < n) ⊎ (i ≡ n)
       before i n l = elim (cases_lt i n) [ inl m ↦ inl m | inr m ↦ inr (let e : i ≡ n = omega arith in e) ]
 
-      which : (i < n) ⊎ (i ≡ n) → Covers source board after new (cut i)
+      which : (i < n) ⊎ (i ≡ n) → Covers source board walls after new (cut i)
       which (inl l) = kept_covers old new keeps (cut i) (covers i l)
-      which (inr e) = subst (λ (m : ℕ). Covers source board after new (cut m)) (sym e) here
+      which (inr e) = subst (λ (m : ℕ). Covers source board walls after new (cut m)) (sym e) here
 
-  pub all_cuts : (best : FoundParts) (number decls selectors : ℕ) → ((i : ℕ) → i < decls → Covers source board after best (CutDecl number i)) →
-      ((i : ℕ) → i < selectors → Covers source board after best (CutSel number i)) →
+  pub all_cuts : (best : FoundParts) (number decls selectors : ℕ) → ((i : ℕ) → i < decls → Covers source board walls after best (CutDecl number i)) →
+      ((i : ℕ) → i < selectors → Covers source board walls after best (CutSel number i)) →
       ((i : ℕ) (e : Edit) → IsStep board.items (CutDecl number i) e → i < decls) → ((i : ℕ) (e : Edit) → IsStep board.items (CutSel number i) e → i < selectors) →
-      (k : Step) → (IsOfTwo k → ⊥) → first_item k ≡ number → Covers source board after best k
+      (k : Step) → (IsOfTwo k → ⊥) → first_item k ≡ number → Covers source board walls after best k
   all_cuts best number decls selectors by_decl by_selector in_decls in_selectors (CutDecl n i) two first =
-      subst (λ (x : ℕ). Covers source board after best (CutDecl x i)) (sym first) (λ f l step. by_decl i (in_decls i f step) f l step)
+      subst (λ (x : ℕ). Covers source board walls after best (CutDecl x i)) (sym first) (λ f l step. by_decl i (in_decls i f step) f l step)
   all_cuts best number decls selectors by_decl by_selector in_decls in_selectors (CutSel n i) two first =
-      subst (λ (x : ℕ). Covers source board after best (CutSel x i)) (sym first) (λ f l step. by_selector i (in_selectors i f step) f l step)
+      subst (λ (x : ℕ). Covers source board walls after best (CutSel x i)) (sym first) (λ f l step. by_selector i (in_selectors i f step) f l step)
   all_cuts best number decls selectors by_decl by_selector in_decls in_selectors (JoinSelUp x y) two first = absurd (two tt)
   all_cuts best number decls selectors by_decl by_selector in_decls in_selectors (JoinSelDown x y) two first = absurd (two tt)
   all_cuts best number decls selectors by_decl by_selector in_decls in_selectors (JoinDeclUp x y) two first = absurd (two tt)
@@ -127,33 +131,33 @@ module _ (source : List ℕ) (board : BoardParts) (after : Lead) where
 
   -- ---- The steps of two items
 
-  pub all_joins : (best : FoundParts) (upper lower : ℕ) → Covers source board after best (JoinSelUp upper lower) → Covers source board after best (JoinSelDown upper lower) →
-      Covers source board after best (JoinDeclUp upper lower) → Covers source board after best (JoinDeclDown upper lower) → Covers source board after best (Share upper lower) →
-      (k : Step) → IsOfTwo k → first_item k ≡ upper → last_item k ≡ lower → Covers source board after best k
+  pub all_joins : (best : FoundParts) (upper lower : ℕ) → Covers source board walls after best (JoinSelUp upper lower) → Covers source board walls after best (JoinSelDown upper lower) →
+      Covers source board walls after best (JoinDeclUp upper lower) → Covers source board walls after best (JoinDeclDown upper lower) → Covers source board walls after best (Share upper lower) →
+      (k : Step) → IsOfTwo k → first_item k ≡ upper → last_item k ≡ lower → Covers source board walls after best k
   all_joins best upper lower a b c d f (CutDecl n i) two first last = absurd two
   all_joins best upper lower a b c d f (CutSel n i) two first last = absurd two
   all_joins best upper lower a b c d f (JoinSelUp x y) two first last =
-      subst (λ (m : ℕ). Covers source board after best (JoinSelUp m y)) (sym first) (subst (λ (n : ℕ). Covers source board after best (JoinSelUp upper n)) (sym last) a)
+      subst (λ (m : ℕ). Covers source board walls after best (JoinSelUp m y)) (sym first) (subst (λ (n : ℕ). Covers source board walls after best (JoinSelUp upper n)) (sym last) a)
   all_joins best upper lower a b c d f (JoinSelDown x y) two first last =
-      subst (λ (m : ℕ). Covers source board after best (JoinSelDown m y)) (sym first) (subst (λ (n : ℕ). Covers source board after best (JoinSelDown upper n)) (sym last) b)
+      subst (λ (m : ℕ). Covers source board walls after best (JoinSelDown m y)) (sym first) (subst (λ (n : ℕ). Covers source board walls after best (JoinSelDown upper n)) (sym last) b)
   all_joins best upper lower a b c d f (JoinDeclUp x y) two first last =
-      subst (λ (m : ℕ). Covers source board after best (JoinDeclUp m y)) (sym first) (subst (λ (n : ℕ). Covers source board after best (JoinDeclUp upper n)) (sym last) c)
+      subst (λ (m : ℕ). Covers source board walls after best (JoinDeclUp m y)) (sym first) (subst (λ (n : ℕ). Covers source board walls after best (JoinDeclUp upper n)) (sym last) c)
   all_joins best upper lower a b c d f (JoinDeclDown x y) two first last =
-      subst (λ (m : ℕ). Covers source board after best (JoinDeclDown m y)) (sym first) (subst (λ (n : ℕ). Covers source board after best (JoinDeclDown upper n)) (sym last) d)
+      subst (λ (m : ℕ). Covers source board walls after best (JoinDeclDown m y)) (sym first) (subst (λ (n : ℕ). Covers source board walls after best (JoinDeclDown upper n)) (sym last) d)
   all_joins best upper lower a b c d f (Share x y) two first last =
-      subst (λ (m : ℕ). Covers source board after best (Share m y)) (sym first) (subst (λ (n : ℕ). Covers source board after best (Share upper n)) (sym last) f)
+      subst (λ (m : ℕ). Covers source board walls after best (Share m y)) (sym first) (subst (λ (n : ℕ). Covers source board walls after best (Share upper n)) (sym last) f)
 
   -- ---- Partners, one after the other
 
   abbrev pub AllWith : FoundParts → ℕ → List ℕ → Type 0
-  AllWith best number labels = (label : ℕ) (k : Step) → Contains labels label → IsWith board number label k → Covers source board after best k
+  AllWith best number labels = (label : ℕ) (k : Step) → Contains labels label → IsWith board number label k → Covers source board walls after best k
 
   pub partner_more : (old new : FoundParts) (number : ℕ) (all rest behind : List ℕ) (label : ℕ) → rest ≡ label ∷ behind → Keeps old new →
-      ((x : ℕ) (k : Step) → Contains all x → IsWith board number x k → Covers source board after old k ⊎ Contains rest x) → ((k : Step) → IsWith board number label k → Covers source board after new k) →
-      (x : ℕ) (k : Step) → Contains all x → IsWith board number x k → Covers source board after new k ⊎ Contains behind x
+      ((x : ℕ) (k : Step) → Contains all x → IsWith board number x k → Covers source board walls after old k ⊎ Contains rest x) → ((k : Step) → IsWith board number label k → Covers source board walls after new k) →
+      (x : ℕ) (k : Step) → Contains all x → IsWith board number x k → Covers source board walls after new k ⊎ Contains behind x
   partner_more old new number all rest behind label is keeps before here x k among with_it = which (before x k among with_it)
     where
-      which : Covers source board after old k ⊎ Contains rest x → Covers source board after new k ⊎ Contains behind x
+      which : Covers source board walls after old k ⊎ Contains rest x → Covers source board walls after new k ⊎ Contains behind x
       which (inl c) = inl (kept_covers old new keeps k c)
       which (inr h) = elim (Contains-cons_cases label behind x (subst (λ (xs : List ℕ). Contains xs x) is h)) [
         | inl e ↦ inl (here k (subst (λ (y : ℕ). IsWith board number y k) (sym e) with_it))
@@ -161,9 +165,9 @@ module _ (source : List ℕ) (board : BoardParts) (after : Lead) where
       ]
 
   pub all_partners : (best : FoundParts) (number : ℕ) (all rest : List ℕ) → rest ≡ [] →
-      ((x : ℕ) (k : Step) → Contains all x → IsWith board number x k → Covers source board after best k ⊎ Contains rest x) → AllWith best number all
+      ((x : ℕ) (k : Step) → Contains all x → IsWith board number x k → Covers source board walls after best k ⊎ Contains rest x) → AllWith best number all
   all_partners best number all rest is before x k among with_it = which (before x k among with_it)
     where
-      which : Covers source board after best k ⊎ Contains rest x → Covers source board after best k
+      which : Covers source board walls after best k ⊎ Contains rest x → Covers source board walls after best k
       which (inl c) = c
       which (inr h) = absurd (Contains-nil x (subst (λ (xs : List ℕ). Contains xs x) is h))

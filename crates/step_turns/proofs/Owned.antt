@@ -91,7 +91,7 @@ one_of_two xs Downs birth k (down, first) = inl (sym first)
 
 -- ---- All steps in the scope of a lead
 
-module _ (source : List ℕ) (board : BoardParts) (after : Lead) (are : AreMarks board.marks board.next) (beside : length board.marks ≡ length board.items)
+module _ (source : List ℕ) (board : BoardParts) (walls : List ℕ) (after : Lead) (are : AreMarks board.marks board.next) (beside : length board.marks ≡ length board.items)
     (plannable : IsPlannable source board.items) (number : ℕ) (own : Mark) (own_at : slice_get board.marks number ≡ Some own) (own_is : own.birth ≡ after.owner) where
   mark_at : (n : ℕ) → n < length board.items → (m : Mark) × (slice_get board.marks n ≡ Some m)
   mark_at n less = mark_there board.marks n (subst (λ (c : ℕ). n < c) (sym beside) less)
@@ -105,13 +105,13 @@ module _ (source : List ℕ) (board : BoardParts) (after : Lead) (are : AreMarks
   module _ (best : FoundParts) (rule : RuleParts) (rule_at : slice_get board.items number ≡ Some (Rule rule)) (tables : TableParts) (cover : Cover tables (rules_of board)) (found : List ℕ)
       (partners : StepsHavePartners) (labelled_are : RulesAreLabelled)
       (all : (rules : List Labelled) (x : Labelled) → Cover tables rules → Contains rules x → CanBePartners rule x.rule → Contains found x.label)
-      (cuts : (k : Step) → (IsOfTwo k → ⊥) → first_item k ≡ number → Covers source board after best k) (withs : AllWith source board after best number found) where
+      (cuts : (k : Step) → (IsOfTwo k → ⊥) → first_item k ≡ number → Covers source board walls after best k) (withs : AllWith source board walls after best number found) where
     -- a partner stands under its label
     label_found : (n : ℕ) (m : Mark) (q : RuleParts) → slice_get board.marks n ≡ Some m → slice_get board.items n ≡ Some (Rule q) → CanBePartners rule q → Contains found m.label
     label_found n m q at rule_there can =
         all (rules_of board) (with_label q m.label) cover (labelled_are board.items (labels_of board.marks) n q m.label rule_there (there_of (λ x. x.label) board.marks n m at)) can
 
-    of_upper : (k : Step) (e : Edit) → IsOfTwo k → IsStep board.items k e → first_item k ≡ number → Covers source board after best k
+    of_upper : (k : Step) (e : Edit) → IsOfTwo k → IsStep board.items k e → first_item k ≡ number → Covers source board walls after best k
     of_upper k e two is first =
         let lower : (r : RuleParts) × (slice_get board.items (last_item k) ≡ Some (Rule r)) = last_rule board.items k (e, is) in
         let m : (m : Mark) × (slice_get board.marks (last_item k) ≡ Some m) = mark_at (last_item k) (slice_get_within board.items (last_item k) (Rule lower.0) lower.1) in
@@ -119,7 +119,7 @@ module _ (source : List ℕ) (board : BoardParts) (after : Lead) (are : AreMarks
         let can : CanBePartners rule lower.0 = (partners board.items k e rule lower.0 is (order_of board.items k e two is) at lower.1 (has_parts source board.items (first_item k) rule plannable at)).0 in
         withs m.0.label k (label_found (last_item k) m.0 lower.0 m.1 lower.1 can) (record { other = last_item k; mark = m.0; own = own; mark_at = m.1; own_at = own_at; label_is = refl; of_two = two; items_are = inr (first, refl) })
 
-    of_lower : (k : Step) (e : Edit) → IsOfTwo k → IsStep board.items k e → last_item k ≡ number → Covers source board after best k
+    of_lower : (k : Step) (e : Edit) → IsOfTwo k → IsStep board.items k e → last_item k ≡ number → Covers source board walls after best k
     of_lower k e two is last =
         let upper : (r : RuleParts) × (slice_get board.items (first_item k) ≡ Some (Rule r)) = first_rule board.items k (e, is) in
         let m : (m : Mark) × (slice_get board.marks (first_item k) ≡ Some m) = mark_at (first_item k) (slice_get_within board.items (first_item k) (Rule upper.0) upper.1) in
@@ -127,17 +127,17 @@ module _ (source : List ℕ) (board : BoardParts) (after : Lead) (are : AreMarks
         let can : CanBePartners rule upper.0 = (partners board.items k e upper.0 rule is (order_of board.items k e two is) upper.1 at (has_parts source board.items (first_item k) upper.0 plannable upper.1)).1 in
         withs m.0.label k (label_found (first_item k) m.0 upper.0 m.1 upper.1 can) (record { other = first_item k; mark = m.0; own = own; mark_at = m.1; own_at = own_at; label_is = refl; of_two = two; items_are = inl (refl, last) })
 
-    of_one : (k : Step) (e : Edit) → IsStep board.items k e → (first_item k ≡ number) ⊎ (last_item k ≡ number) → Covers source board after best k
+    of_one : (k : Step) (e : Edit) → IsStep board.items k e → (first_item k ≡ number) ⊎ (last_item k ≡ number) → Covers source board walls after best k
     of_one k e is here = which (cut_or_two k) here
       where
-        which : ((IsOfTwo k → ⊥) × (last_item k ≡ first_item k)) ⊎ IsOfTwo k → (first_item k ≡ number) ⊎ (last_item k ≡ number) → Covers source board after best k
+        which : ((IsOfTwo k → ⊥) × (last_item k ≡ first_item k)) ⊎ IsOfTwo k → (first_item k ≡ number) ⊎ (last_item k ≡ number) → Covers source board walls after best k
         which (inl (cut, same)) (inl first) = cuts k cut first
         which (inl (cut, same)) (inr last) = cuts k cut (sym same ∙ last)
         which (inr two) (inl first) = of_upper k e two is first
         which (inr two) (inr last) = of_lower k e two is last
 
-    pub all_covered : (k : Step) → Covers source board after best k
-    all_covered k e n is saves some in_it later = of_one k e is (which (one_of_two (births board) (lead_told after).scope after.owner k in_it)) e n is saves some in_it later
+    pub all_covered : (k : Step) → Covers source board walls after best k
+    all_covered k e n is saves some looked later = of_one k e is (which (one_of_two (births board) (lead_told after).scope after.owner k looked.0)) e n is saves some looked later
       where
         which : (slice_index (births board) (first_item k) ≡ after.owner) ⊎ (slice_index (births board) (last_item k) ≡ after.owner) → (first_item k ≡ number) ⊎ (last_item k ≡ number)
         which (inl h) = let upper = first_rule board.items k (e, is) in inl (is_number (first_item k) (slice_get_within board.items (first_item k) (Rule upper.0) upper.1) h)
@@ -158,8 +158,8 @@ selector_inside items n count r at same i e is =
 
 -- ---- The steps of an item and a partner
 
-module _ (source : List ℕ) (board : BoardParts) (after : Lead) (best : FoundParts) (number label : ℕ) where
-  pub no_partner : LacksLabel board.marks label → (k : Step) → IsWith board number label k → Covers source board after best k
+module _ (source : List ℕ) (board : BoardParts) (walls : List ℕ) (after : Lead) (best : FoundParts) (number label : ℕ) where
+  pub no_partner : LacksLabel board.marks label → (k : Step) → IsWith board number label k → Covers source board walls after best k
   no_partner lacks k w = absurd (lacks w.other w.mark w.mark_at w.label_is)
 
   module _ (other : ℕ) (mark own : Mark) (mark_at : slice_get board.marks other ≡ Some mark) (own_at : slice_get board.marks number ≡ Some own) (are : AreMarks board.marks board.next) (label_is : mark.label ≡ label) where
@@ -170,9 +170,9 @@ module _ (source : List ℕ) (board : BoardParts) (after : Lead) (best : FoundPa
     one_mark o a b e f = cc
 
     -- an item with the lead's birth owns no step with one that was not born before it
-    pub born_later : after.scope ≡ scopes.Owned → own.birth ≤ mark.birth → slice_index (births board) number ≡ after.owner → (k : Step) → IsWith board number label k → Covers source board after best k
-    born_later scope late own_is k w e n is saves some in_it later =
-        let owned : after.owner ≡ slice_index (births board) (owner (births board) k) = subst (λ (s : coded.Scope). IsInScope (births board) (scope_told s) after.owner k) scope in_it in
+    pub born_later : after.scope ≡ scopes.Owned → own.birth ≤ mark.birth → slice_index (births board) number ≡ after.owner → (k : Step) → IsWith board number label k → Covers source board walls after best k
+    born_later scope late own_is k w e n is saves some looked later =
+        let owned : after.owner ≡ slice_index (births board) (owner (births board) k) = subst (λ (s : coded.Scope). IsInScope (births board) (scope_told s) after.owner k) scope looked.0 in
         let a : slice_index (births board) other ≡ mark.birth = birth_at board.marks other mark mark_at in
         let b : slice_index (births board) number ≡ own.birth = birth_at board.marks number own own_at in
         let most : slice_index (births board) other ≤ slice_index (births board) (owner (births board) k) = at_most w.items_are in
@@ -189,14 +189,14 @@ module _ (source : List ℕ) (board : BoardParts) (after : Lead) (best : FoundPa
         neither (inl (first, last)) ordered is_other same = omega (arith, first, last, ordered, is_other, same)
         neither (inr (first, last)) ordered is_other same = omega (arith, first, last, ordered, is_other, same)
 
-    pub partner_above : other < number → ((k : Step) → IsOfTwo k → first_item k ≡ other → last_item k ≡ number → Covers source board after best k) → (k : Step) → IsWith board number label k → Covers source board after best k
+    pub partner_above : other < number → ((k : Step) → IsOfTwo k → first_item k ≡ other → last_item k ≡ number → Covers source board walls after best k) → (k : Step) → IsWith board number label k → Covers source board walls after best k
     partner_above less joins k w e n is saves some in_it later = which w.items_are
       where
         which : ((first_item k ≡ w.other) × (last_item k ≡ number)) ⊎ ((first_item k ≡ number) × (last_item k ≡ w.other)) → Reaches best (named (labels_of board.marks) n k)
         which (inl (first, last)) = joins k w.of_two (first ∙ same_other k w) last e n is saves some in_it later
         which (inr (first, last)) = absurd (let o : first_item k < last_item k = order_of board.items k e w.of_two is in let s : w.other ≡ other = same_other k w in omega (arith, o, s, first, last, less))
 
-    pub partner_below : number ≤ other → ((k : Step) → IsOfTwo k → first_item k ≡ number → last_item k ≡ other → Covers source board after best k) → (k : Step) → IsWith board number label k → Covers source board after best k
+    pub partner_below : number ≤ other → ((k : Step) → IsOfTwo k → first_item k ≡ number → last_item k ≡ other → Covers source board walls after best k) → (k : Step) → IsWith board number label k → Covers source board walls after best k
     partner_below more joins k w e n is saves some in_it later = which w.items_are
       where
         which : ((first_item k ≡ w.other) × (last_item k ≡ number)) ⊎ ((first_item k ≡ number) × (last_item k ≡ w.other)) → Reaches best (named (labels_of board.marks) n k)
@@ -225,7 +225,7 @@ item_at board beside after k e is in_it = which (one_of_two (births board) (lead
 abbrev LabelOfOwner : BoardParts → ℕ → ℕ → Type 0
 LabelOfOwner board birth label = (n : ℕ) → slice_get (births_of board.marks) n ≡ Some birth → slice_get (labels_of board.marks) n ≡ Some label
 
-module _ (source : List ℕ) (board : BoardParts) (after : Lead) (best : FoundParts) (beside : length board.marks ≡ length board.items) (label : ℕ) (at : LabelOfOwner board after.owner label) where
+module _ (source : List ℕ) (board : BoardParts) (walls : List ℕ) (after : Lead) (best : FoundParts) (beside : length board.marks ≡ length board.items) (label : ℕ) (at : LabelOfOwner board after.owner label) where
   -- the mark of the owner has the label
   labelled_owner : (n : ℕ) (m : Mark) → slice_get board.marks n ≡ Some m → m.birth ≡ after.owner → m.label ≡ label
   labelled_owner n m mark_at born =
@@ -236,9 +236,9 @@ module _ (source : List ℕ) (board : BoardParts) (after : Lead) (best : FoundPa
       some_same : (o : Option Mark) (a b : Mark) → o ≡ Some a → o ≡ Some b → a ≡ b
       some_same o a b e f = cc
 
-  pub no_label : LacksLabel board.marks label → (k : Step) → Covers source board after best k
-  no_label lacks k e n is saves some in_it later =
-      let w : AtNumber board after.owner = item_at board beside after k e is in_it in
+  pub no_label : LacksLabel board.marks label → (k : Step) → Covers source board walls after best k
+  no_label lacks k e n is saves some looked later =
+      let w : AtNumber board after.owner = item_at board beside after k e is looked.0 in
       absurd (lacks w.0 w.2 w.4 (labelled_owner w.0 w.2 w.4 w.5))
 
   module _ (next : ℕ) (are : AreMarks board.marks next) (number : ℕ) (number_at : IsLabelAt board.marks label number) where
@@ -250,13 +250,13 @@ module _ (source : List ℕ) (board : BoardParts) (after : Lead) (best : FoundPa
         let same : w.0 ≡ number = same_label board.marks next are w.0 number w.2 number_at.0 w.4 number_at.1 (labelled_owner w.0 w.2 w.4 w.5 ∙ sym number_at.2) in
         (w.1, w.2, ap (slice_get board.items) (sym same) ∙ w.3, ap (slice_get board.marks) (sym same) ∙ w.4, w.5)
 
-    pub other_birth : (mark : Mark) → slice_get board.marks number ≡ Some mark → (mark.birth ≡ after.owner → ⊥) → (k : Step) → Covers source board after best k
-    other_birth mark mark_at other k e n is saves some in_it later =
-        let w = stands_here k e is in_it in
+    pub other_birth : (mark : Mark) → slice_get board.marks number ≡ Some mark → (mark.birth ≡ after.owner → ⊥) → (k : Step) → Covers source board walls after best k
+    other_birth mark mark_at other k e n is saves some looked later =
+        let w = stands_here k e is looked.0 in
         absurd (other (ap (λ (z : Mark). z.birth) (one_mark (slice_get board.marks number) mark w.1 mark_at w.3) ∙ w.4))
       where
         one_mark : (o : Option Mark) (a b : Mark) → o ≡ Some a → o ≡ Some b → a ≡ b
         one_mark o a b e f = cc
 
-    pub no_rule : ((r : RuleParts) → slice_get board.items number ≡ Some (Rule r) → ⊥) → (k : Step) → Covers source board after best k
-    no_rule none k e n is saves some in_it later = let w = stands_here k e is in_it in absurd (none w.0 w.2)
+    pub no_rule : ((r : RuleParts) → slice_get board.items number ≡ Some (Rule r) → ⊥) → (k : Step) → Covers source board walls after best k
+    no_rule none k e n is saves some looked later = let w = stands_here k e is looked.0 in absurd (none w.0 w.2)

@@ -2,6 +2,7 @@
 use Rattle.std.specs.Prelude.{◌≡◌, ◌⊎◌, ℕ, ◌<◌, List, Option, Some, slice_get}
 use Rattle.std.specs.List.{Contains}
 use Rattle.hold_laws.specs.Turns.{named}
+use Rattle.lead_laws.specs.BoardWalls.{IsWalled}
 use Rattle.lead_plan.specs.declared.lead.Lead.{Lead}
 use Rattle.lead_plan.specs.Told.{lead_told}
 use Rattle.order_laws.specs.Edits.{Edit}
@@ -38,10 +39,14 @@ KeepsLast old new = (t : Turn) → ReachesLast old t → ReachesLast new t
 abbrev pub Keeps : FoundParts → FoundParts → Type 0
 Keeps old new = (t : Turn) → Reaches old t → Reaches new t
 
--- A step, if it is one of the board's sheet in the scope of this lead and saves something, has a turn that is reached,
--- or does not come later than the lead's.
-abbrev pub Covers : List ℕ → BoardParts → Lead → FoundParts → Step → Type 0
-Covers source board after found k = (e : Edit) (n : ℕ) → IsStep board.items k e → Saves source board.items e n → 0 < n → IsLedBeside board after k →
+-- a step is looked for: it is in the scope of a lead, and goes past no wall
+abbrev pub IsLookedFor : BoardParts → List ℕ → Lead → Step → Type 0
+IsLookedFor board walls after k = IsLedBeside board after k × (IsWalled board walls k → ⊥)
+
+-- A step, if it is one of the board's sheet that is looked for and saves something, has a turn that is reached, or does not
+-- come later than this lead's.
+abbrev pub Covers : List ℕ → BoardParts → List ℕ → Lead → FoundParts → Step → Type 0
+Covers source board walls after found k = (e : Edit) (n : ℕ) → IsStep board.items k e → Saves source board.items e n → 0 < n → IsLookedFor board walls after k →
     IsSooner (lead_told after).turn (named (labels_of board.marks) n k) → Reaches found (named (labels_of board.marks) n k)
 
 -- each lead that was found comes later than this one

@@ -10,10 +10,12 @@ ghost use Rattle.step_laws.specs.Steps.{first_item, last_item};
 ghost use Rattle.step_savings.specs.Apart.{RulesApart};
 ghost use Rattle.step_turns.specs.Looking.{AreLater, Covers, Keeps};
 ghost use Rattle.step_turns.specs.Marked.{rules_of};
+ghost use Rattle.step_turns.specs.PastWalls.{IsPastWall};
 ghost use Rattle.wall_laws.specs.Renumbering.{IsOfTwo};
 
 use crate::found::Found;
 use crate::masks::{decls_differ, selectors_differ, share_no_decl};
+use crate::past_walls::is_past_wall;
 use crate::trying::{try_both, try_step};
 use lead_plan::Lead;
 use merge_plan::KnownLengths;
@@ -22,14 +24,16 @@ use rule_tables::Tables;
 use std::alloc::AllocError;
 use step_laws::Step;
 
-/// Puts the turns of the joins of two rules by their selectors.
+/// Puts the turns of the joins of two rules by their selectors. `past` says that the one up is known to go past a wall.
 fn try_selector_joins(
     board: &Board,
     tables: &Tables,
     source: &KnownLengths<'_>,
+    walls: &[u64],
     after: &Lead,
     upper: u32,
     lower: u32,
+    past: bool,
     apart: bool,
     found: &mut Found,
 ) -> Result<(), AllocError>
@@ -37,12 +41,13 @@ fn try_selector_joins(
     requires cover { Cover tables.now (rules_of board.now) }
     requires upper { upper < length board.now.items }
     requires lower { lower < length board.now.items }
+    requires past { past ≡ true → IsPastWall board.now walls.now upper lower }
     requires apart { apart ≡ true → RulesApart board.now.items upper lower }
     requires later { AreLater source.now board.now after.now found.old }
     requires few { length found.old.leads ≤ room }
     ensures keeps { OnOk result (Keeps found.old found.new) }
-    ensures up { OnOk result (Covers source.now board.now after.now found.new (kinds.JoinSelUp upper lower)) }
-    ensures down { OnOk result (Covers source.now board.now after.now found.new (kinds.JoinSelDown upper lower)) }
+    ensures up { OnOk result (Covers source.now board.now walls.now after.now found.new (kinds.JoinSelUp upper lower)) }
+    ensures down { OnOk result (Covers source.now board.now walls.now after.now found.new (kinds.JoinSelDown upper lower)) }
     ensures later { OnOk result (AreLater source.now board.now after.now found.new) }
     ensures few { length found.new.leads ≤ room }
 {
@@ -51,17 +56,21 @@ fn try_selector_joins(
     }
     let up = Step::JoinSelUp { upper, lower };
     let down = Step::JoinSelDown { upper, lower };
-    try_both(board, tables, source, after, &up, &down, apart, found)
+    try_both(
+        board, tables, source, walls, after, &up, &down, past, apart, found,
+    )
 }
 
-/// Puts the turns of the joins of two rules by their declarations.
+/// Puts the turns of the joins of two rules by their declarations. `past` says that the one up is known to go past a wall.
 fn try_decl_joins(
     board: &Board,
     tables: &Tables,
     source: &KnownLengths<'_>,
+    walls: &[u64],
     after: &Lead,
     upper: u32,
     lower: u32,
+    past: bool,
     apart: bool,
     found: &mut Found,
 ) -> Result<(), AllocError>
@@ -69,12 +78,13 @@ fn try_decl_joins(
     requires cover { Cover tables.now (rules_of board.now) }
     requires upper { upper < length board.now.items }
     requires lower { lower < length board.now.items }
+    requires past { past ≡ true → IsPastWall board.now walls.now upper lower }
     requires apart { apart ≡ true → RulesApart board.now.items upper lower }
     requires later { AreLater source.now board.now after.now found.old }
     requires few { length found.old.leads ≤ room }
     ensures keeps { OnOk result (Keeps found.old found.new) }
-    ensures up { OnOk result (Covers source.now board.now after.now found.new (kinds.JoinDeclUp upper lower)) }
-    ensures down { OnOk result (Covers source.now board.now after.now found.new (kinds.JoinDeclDown upper lower)) }
+    ensures up { OnOk result (Covers source.now board.now walls.now after.now found.new (kinds.JoinDeclUp upper lower)) }
+    ensures down { OnOk result (Covers source.now board.now walls.now after.now found.new (kinds.JoinDeclDown upper lower)) }
     ensures later { OnOk result (AreLater source.now board.now after.now found.new) }
     ensures few { length found.new.leads ≤ room }
 {
@@ -83,7 +93,9 @@ fn try_decl_joins(
     }
     let up = Step::JoinDeclUp { upper, lower };
     let down = Step::JoinDeclDown { upper, lower };
-    try_both(board, tables, source, after, &up, &down, apart, found)
+    try_both(
+        board, tables, source, walls, after, &up, &down, past, apart, found,
+    )
 }
 
 /// Puts the turn of the share of two rules.
@@ -91,6 +103,7 @@ fn try_share(
     board: &Board,
     tables: &Tables,
     source: &KnownLengths<'_>,
+    walls: &[u64],
     after: &Lead,
     upper: u32,
     lower: u32,
@@ -105,7 +118,7 @@ fn try_share(
     requires later { AreLater source.now board.now after.now found.old }
     requires few { length found.old.leads ≤ room }
     ensures keeps { OnOk result (Keeps found.old found.new) }
-    ensures covers { OnOk result (Covers source.now board.now after.now found.new (kinds.Share upper lower)) }
+    ensures covers { OnOk result (Covers source.now board.now walls.now after.now found.new (kinds.Share upper lower)) }
     ensures later { OnOk result (AreLater source.now board.now after.now found.new) }
     ensures few { length found.new.leads ≤ room }
 {
@@ -113,7 +126,9 @@ fn try_share(
         return Ok(());
     }
     let step = Step::Share { upper, lower };
-    try_step(board, tables, source, after, &step, false, apart, found)
+    try_step(
+        board, tables, source, walls, after, &step, false, apart, found,
+    )
 }
 
 /// Puts the turns of the steps of two items. Of a kind of which their masks tell that there is none, none is tried.
@@ -121,6 +136,7 @@ pub(crate) fn try_joins(
     board: &Board,
     tables: &Tables,
     source: &KnownLengths<'_>,
+    walls: &[u64],
     after: &Lead,
     upper: u32,
     lower: u32,
@@ -135,11 +151,18 @@ pub(crate) fn try_joins(
     requires later { AreLater source.now board.now after.now found.old }
     requires few { length found.old.leads ≤ room }
     ensures keeps { OnOk result (Keeps found.old found.new) }
-    ensures covers { OnOk result ((k : declared.Step) → IsOfTwo k → first_item k ≡ upper → last_item k ≡ lower → Covers source.now board.now after.now found.new k) }
+    ensures covers { OnOk result ((k : declared.Step) → IsOfTwo k → first_item k ≡ upper → last_item k ≡ lower → Covers source.now board.now walls.now after.now found.new k) }
     ensures later { OnOk result (AreLater source.now board.now after.now found.new) }
     ensures few { length found.new.leads ≤ room }
 {
-    try_selector_joins(board, tables, source, after, upper, lower, apart, found)?;
-    try_decl_joins(board, tables, source, after, upper, lower, apart, found)?;
-    try_share(board, tables, source, after, upper, lower, apart, found)
+    let past = is_past_wall(board, walls, upper, lower);
+    try_selector_joins(
+        board, tables, source, walls, after, upper, lower, past, apart, found,
+    )?;
+    try_decl_joins(
+        board, tables, source, walls, after, upper, lower, past, apart, found,
+    )?;
+    try_share(
+        board, tables, source, walls, after, upper, lower, apart, found,
+    )
 }

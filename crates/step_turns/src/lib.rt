@@ -10,9 +10,13 @@ mod masks;
 mod naming;
 mod next;
 mod order;
+mod past_walls;
 mod scopes;
+mod standing;
 mod trying;
 
 pub use found::Found;
 pub use naming::step_of_lead;
 pub use next::next_leads;
+pub use past_walls::is_walled;
+pub use standing::stands_from;

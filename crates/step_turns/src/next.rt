@@ -40,6 +40,7 @@ fn try_decl_cuts(
     board: &Board,
     tables: &Tables,
     source: &KnownLengths<'_>,
+    walls: &[u64],
     after: &Lead,
     number: u32,
     count: u32,
@@ -52,13 +53,15 @@ fn try_decl_cuts(
     requires later { AreLater source.now board.now after.now found.old }
     requires few { length found.old.leads ≤ room }
     ensures keeps { OnOk result (Keeps found.old found.new) }
-    ensures covers { OnOk result ((i : ℕ) → i < count → Covers source.now board.now after.now found.new (kinds.CutDecl number i)) }
+    ensures covers { OnOk result ((i : ℕ) → i < count → Covers source.now board.now walls.now after.now found.new (kinds.CutDecl number i)) }
     ensures later { OnOk result (AreLater source.now board.now after.now found.new) }
     ensures few { length found.new.leads ≤ room }
 {
     for decl in 0..count {
         let step = Step::CutDecl { item: number, decl };
-        try_step(board, tables, source, after, &step, once, false, found)?;
+        try_step(
+            board, tables, source, walls, after, &step, once, false, found,
+        )?;
     }
     Ok(())
 }
@@ -68,6 +71,7 @@ fn try_selector_cuts(
     board: &Board,
     tables: &Tables,
     source: &KnownLengths<'_>,
+    walls: &[u64],
     after: &Lead,
     number: u32,
     count: u32,
@@ -80,13 +84,15 @@ fn try_selector_cuts(
     requires later { AreLater source.now board.now after.now found.old }
     requires few { length found.old.leads ≤ room }
     ensures keeps { OnOk result (Keeps found.old found.new) }
-    ensures covers { OnOk result ((i : ℕ) → i < count → Covers source.now board.now after.now found.new (kinds.CutSel number i)) }
+    ensures covers { OnOk result ((i : ℕ) → i < count → Covers source.now board.now walls.now after.now found.new (kinds.CutSel number i)) }
     ensures later { OnOk result (AreLater source.now board.now after.now found.new) }
     ensures few { length found.new.leads ≤ room }
 {
     for sel in 0..count {
         let step = Step::CutSel { item: number, sel };
-        try_step(board, tables, source, after, &step, once, false, found)?;
+        try_step(
+            board, tables, source, walls, after, &step, once, false, found,
+        )?;
     }
     Ok(())
 }
@@ -111,6 +117,7 @@ fn try_cuts(
     board: &Board,
     tables: &Tables,
     source: &KnownLengths<'_>,
+    walls: &[u64],
     after: &Lead,
     number: u32,
     rule: &Rule,
@@ -122,7 +129,7 @@ fn try_cuts(
     requires later { AreLater source.now board.now after.now found.old }
     requires few { length found.old.leads ≤ room }
     ensures keeps { OnOk result (Keeps found.old found.new) }
-    ensures covers { OnOk result ((k : declared.Step) → (IsOfTwo k → ⊥) → first_item k ≡ number → Covers source.now board.now after.now found.new k) }
+    ensures covers { OnOk result ((k : declared.Step) → (IsOfTwo k → ⊥) → first_item k ≡ number → Covers source.now board.now walls.now after.now found.new k) }
     ensures later { OnOk result (AreLater source.now board.now after.now found.new) }
     ensures few { length found.new.leads ≤ room }
 {
@@ -130,9 +137,13 @@ fn try_cuts(
     let decls = decl_count(rule) as u32;
     let selectors = selector_count(rule) as u32;
     let once = decls_stand_once(alloc, rule)?;
-    try_decl_cuts(board, tables, source, after, number, decls, once, found)?;
+    try_decl_cuts(
+        board, tables, source, walls, after, number, decls, once, found,
+    )?;
     let once = selectors_stand_once(alloc, rule)?;
-    try_selector_cuts(board, tables, source, after, number, selectors, once, found)
+    try_selector_cuts(
+        board, tables, source, walls, after, number, selectors, once, found,
+    )
 }
 
 /// Whether an item owns no step with another one, where a lead leads the steps that it owns.
@@ -173,6 +184,7 @@ fn try_partner(
     board: &Board,
     tables: &Tables,
     source: &KnownLengths<'_>,
+    walls: &[u64],
     after: &Lead,
     number: u32,
     label: u64,
@@ -187,7 +199,7 @@ fn try_partner(
     requires later { AreLater source.now board.now after.now found.old }
     requires few { length found.old.leads ≤ room }
     ensures keeps { OnOk result (Keeps found.old found.new) }
-    ensures covers { OnOk result ((k : declared.Step) → IsWith board.now number label k → Covers source.now board.now after.now found.new k) }
+    ensures covers { OnOk result ((k : declared.Step) → IsWith board.now number label k → Covers source.now board.now walls.now after.now found.new k) }
     ensures later { OnOk result (AreLater source.now board.now after.now found.new) }
     ensures few { length found.new.leads ≤ room }
 {
@@ -202,9 +214,13 @@ fn try_partner(
     }
     let apart = are_apart(board, told, number, other);
     if other < number {
-        try_joins(board, tables, source, after, other, number, apart, found)
+        try_joins(
+            board, tables, source, walls, after, other, number, apart, found,
+        )
     } else {
-        try_joins(board, tables, source, after, number, other, apart, found)
+        try_joins(
+            board, tables, source, walls, after, number, other, apart, found,
+        )
     }
 }
 
@@ -213,6 +229,7 @@ fn try_partners(
     board: &Board,
     tables: &Tables,
     source: &KnownLengths<'_>,
+    walls: &[u64],
     after: &Lead,
     number: u32,
     labels: &[u64],
@@ -227,28 +244,32 @@ fn try_partners(
     requires later { AreLater source.now board.now after.now found.old }
     requires few { length found.old.leads ≤ room }
     ensures keeps { OnOk result (Keeps found.old found.new) }
-    ensures covers { OnOk result ((label : ℕ) (k : declared.Step) → Contains labels.now label → IsWith board.now number label k → Covers source.now board.now after.now found.new k) }
+    ensures covers { OnOk result ((label : ℕ) (k : declared.Step) → Contains labels.now label → IsWith board.now number label k → Covers source.now board.now walls.now after.now found.new k) }
     ensures later { OnOk result (AreLater source.now board.now after.now found.new) }
     ensures few { length found.new.leads ≤ room }
 {
     let mut rest = labels;
     'rest: while let Some((label, behind)) = rest.split_first() {
-        try_partner(board, tables, source, after, number, *label, told, found)?;
+        try_partner(
+            board, tables, source, walls, after, number, *label, told, found,
+        )?;
         rest = behind;
     }
     Ok(())
 }
 
-/// The next turns in the scope of a lead, if there are some: of the steps that save something and are in it, the first ones
-/// whose turns come later than the lead's, and the first of the others, if there are more. `at` is the label of the item
-/// with the birth `after.owner`; where no item has it, there is no turn. The tables cover the rules of the sheet, with the
-/// labels of their items. The error comes where memory is short.
+/// The next turns in the scope of a lead, if there are some: of the steps that save something, are in it and go past no
+/// wall, the first ones whose turns come later than the lead's, and the first of the others, if there are more. `at` is the
+/// label of the item with the birth `after.owner`; where no item has it, there is no turn. Under a birth stands in `walls`
+/// the label of the item's wall: joins of the item up into items above that are past it. The tables cover the rules of the
+/// sheet, with the labels of their items. The error comes where memory is short.
 /// The time is that of the item's parts and of the rules with one of them.
 pub fn next_leads(
     alloc: Global,
     board: &Board,
     tables: &Tables,
     source: &KnownLengths<'_>,
+    walls: &[u64],
     at: u64,
     after: &Lead,
 ) -> Result<Found, AllocError>
@@ -256,7 +277,7 @@ pub fn next_leads(
     requires cover { Cover tables.now (rules_of board.now) }
     requires at { (n : ℕ) → slice_get (births_of board.now.marks) n ≡ Some after.now.owner → slice_get (labels_of board.now.marks) n ≡ Some at }
     ensures later { IfOk result (λ found. AreLater source.now board.now after.now found) }
-    ensures covers { IfOk result (λ found. (k : declared.Step) → Covers source.now board.now after.now found k) }
+    ensures covers { IfOk result (λ found. (k : declared.Step) → Covers source.now board.now walls.now after.now found k) }
     ensures few { IfOk result (λ found. length found.leads ≤ room) }
 {
     steps_have_partners();
@@ -274,12 +295,12 @@ pub fn next_leads(
         return Ok(found);
     };
     try_cuts(
-        alloc, board, tables, source, after, number, rule, &mut found,
+        alloc, board, tables, source, walls, after, number, rule, &mut found,
     )?;
     let partners = tables.partners(alloc, rule)?;
     let told = told_digests(alloc, rule)?;
     try_partners(
-        board, tables, source, after, number, &partners, &told, &mut found,
+        board, tables, source, walls, after, number, &partners, &told, &mut found,
     )?;
     Ok(found)
 }

@@ -1,6 +1,7 @@
 //! A step is tried, while steps are looked at.
 
 ghost use Rattle.std.specs.Prelude.{◌≡◌, ◌↔◌, ◌≤◌, OnOk, length, true};
+ghost use Rattle.lead_laws.specs.BoardWalls.{IsWalled};
 ghost use Rattle.lead_plan.specs.Weights.{room};
 ghost use Rattle.plan_laws.specs.Plannable.{IsPlannable};
 ghost use Rattle.rule_tables.specs.Tables.{Cover};
@@ -26,6 +27,7 @@ use step_laws::Step;
 fn put_turn(
     board: &Board,
     source: &KnownLengths<'_>,
+    walls: &[u64],
     after: &Lead,
     step: &Step,
     apart: bool,
@@ -37,7 +39,7 @@ fn put_turn(
     requires later { AreLater source.now board.now after.now found.old }
     requires few { length found.old.leads ≤ room }
     ensures keeps { OnOk result (Keeps found.old found.new) }
-    ensures covers { OnOk result (Covers source.now board.now after.now found.new step.now) }
+    ensures covers { OnOk result (Covers source.now board.now walls.now after.now found.new step.now) }
     ensures later { OnOk result (AreLater source.now board.now after.now found.new) }
     ensures few { length found.new.leads ≤ room }
 {
@@ -62,6 +64,7 @@ pub(crate) fn try_step(
     board: &Board,
     tables: &Tables,
     source: &KnownLengths<'_>,
+    walls: &[u64],
     after: &Lead,
     step: &Step,
     once: bool,
@@ -75,43 +78,75 @@ pub(crate) fn try_step(
     requires later { AreLater source.now board.now after.now found.old }
     requires few { length found.old.leads ≤ room }
     ensures keeps { OnOk result (Keeps found.old found.new) }
-    ensures covers { OnOk result (Covers source.now board.now after.now found.new step.now) }
+    ensures covers { OnOk result (Covers source.now board.now walls.now after.now found.new step.now) }
     ensures later { OnOk result (AreLater source.now board.now after.now found.new) }
     ensures few { length found.new.leads ≤ room }
 {
     if !is_step_of(board, tables, step, once) {
         return Ok(());
     }
-    put_turn(board, source, after, step, apart, found)
+    put_turn(board, source, walls, after, step, apart, found)
 }
 
-/// Puts the turns of two steps of which the sheet has both or none, each as `try_step` does: the first one alone is tested.
+/// The same, but for a step that is known to go past a wall.
+fn put_unless_past(
+    board: &Board,
+    source: &KnownLengths<'_>,
+    walls: &[u64],
+    after: &Lead,
+    step: &Step,
+    past: bool,
+    apart: bool,
+    found: &mut Found,
+) -> Result<(), AllocError>
+    requires plannable { IsPlannable source.now board.now.items }
+    requires has { HasStep board.now.items step.now }
+    requires past { past ≡ true → IsWalled board.now walls.now step.now }
+    requires apart { apart ≡ true → StepApart board.now.items step.now }
+    requires later { AreLater source.now board.now after.now found.old }
+    requires few { length found.old.leads ≤ room }
+    ensures keeps { OnOk result (Keeps found.old found.new) }
+    ensures covers { OnOk result (Covers source.now board.now walls.now after.now found.new step.now) }
+    ensures later { OnOk result (AreLater source.now board.now after.now found.new) }
+    ensures few { length found.new.leads ≤ room }
+{
+    if past {
+        return Ok(());
+    }
+    put_turn(board, source, walls, after, step, apart, found)
+}
+
+/// Puts the turns of two steps of which the sheet has both or none, each as `try_step` does: the first one alone is tested,
+/// and it may be known to go past a wall.
 pub(crate) fn try_both(
     board: &Board,
     tables: &Tables,
     source: &KnownLengths<'_>,
+    walls: &[u64],
     after: &Lead,
     first: &Step,
     second: &Step,
+    past: bool,
     apart: bool,
     found: &mut Found,
 ) -> Result<(), AllocError>
     requires plannable { IsPlannable source.now board.now.items }
     requires cover { Cover tables.now (rules_of board.now) }
+    requires past { past ≡ true → IsWalled board.now walls.now first.now }
     requires apart_first { apart ≡ true → StepApart board.now.items first.now }
     requires apart_second { apart ≡ true → StepApart board.now.items second.now }
     requires alike { HasStep board.now.items first.now ↔ HasStep board.now.items second.now }
     requires later { AreLater source.now board.now after.now found.old }
     requires few { length found.old.leads ≤ room }
     ensures keeps { OnOk result (Keeps found.old found.new) }
-    ensures first { OnOk result (Covers source.now board.now after.now found.new first.now) }
-    ensures second { OnOk result (Covers source.now board.now after.now found.new second.now) }
+    ensures first { OnOk result (Covers source.now board.now walls.now after.now found.new first.now) }
+    ensures second { OnOk result (Covers source.now board.now walls.now after.now found.new second.now) }
     ensures later { OnOk result (AreLater source.now board.now after.now found.new) }
     ensures few { length found.new.leads ≤ room }
 {
     if !is_step_of(board, tables, first, false) {
         return Ok(());
     }
-    put_turn(board, source, after, first, apart, found)?;
-    put_turn(board, source, after, second, apart, found)
+    put_unless_past(board, source, walls, after, first, past, apart, found)?;
+    put_turn(board, source, walls, after, second, apart, found)
 }

@@ -11,8 +11,8 @@ use Rattle.step_laws.specs.Leading.{IsDone}
 
 pub try_lead-requires-clause-first : goal.try_lead-requires-clause-first
 try_lead-requires-clause-first g c = λ l among sooner. c.in-Some.ensures.first l
-    (subst (λ (ls : List held.Lead). Contains ls l) (sym c.in-Some.ensures.taken) (Contains-there (lead_told c.in-Some.lead) c.take_first.new.self l among)) sooner
+    (subst (λ (ls : List held.Lead). Contains ls l) (sym c.in-Some.ensures.taken) (Contains-there (lead_told c.in-Some.lead) c.take_first.new.self.leads l among)) sooner
 
 pub returns-clause-done : goal.returns-clause-done
 returns-clause-done g c = subst (λ (b : BoardParts). IsDone (g.O.Obstacles.answers c.leads.obstacles) c.args.source.now b.items) c.leads.invariant.board
-    (none_left c.no_lead_is_done.ensures (g.O.Obstacles.answers c.leads.obstacles) c.args.source.now c.leads.plan (ap (λ (p : PlanParts). p.leads) (sym c.plan.view_is) ∙ c.in_default.ensures.none.0) c.leads.invariant.state)
+    (none_left c.no_lead_is_done.ensures (g.O.Obstacles.answers c.leads.obstacles) c.args.source.now c.leads.plan c.in_default.ensures.none c.leads.invariant.state)

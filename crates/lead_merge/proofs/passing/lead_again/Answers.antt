@@ -9,5 +9,5 @@ use Rattle.plan_state.specs.State.{IsLedBy}
 
 pub returns-clause-state : goal.returns-clause-state
 returns-clause-state c = on_ok c.add.result (Contains c.add.new.self (lead_told c.args.lead.now)) _
-    (λ added answers source led. again_state source _ c.args.lead.now answers (subst (λ (p : PlanParts). IsLedBy answers source p (lead_told c.args.lead.now ∷ p.leads)) (sym c.plan.view_is) led) c.add.new.self c.add.ensures.stay added)
+    (λ added answers source led. again_state c.walls_stay.ensures source _ c.args.lead.now answers (subst (λ (p : PlanParts). IsLedBy answers source p (lead_told c.args.lead.now ∷ p.leads)) (sym c.plan.view_is) led) c.add.new.self c.add.ensures.stay added)
     c.add.ensures.added

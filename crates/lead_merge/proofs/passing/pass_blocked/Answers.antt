@@ -1,8 +1,11 @@
-use Rattle.lead_merge.proofs.Passed.{set_aside_state}
-use Rattle.lead_merge.proofs.Results.{on_both}
+use Rattle.std.proofs.Common.{◌∷◌, sym, subst}
+use Rattle.lead_merge.proofs.Results.{on_ok}
 use Rattle.lead_merge.proofs.passing.pass_blocked.Goals as goal
+use Rattle.lead_plan.specs.Told.{lead_told}
+use Rattle.obstacles.specs.Blocking.{IsBlockedBy}
+use Rattle.plan_state.specs.PlanParts.{PlanParts}
 
 pub returns-clause-state : goal.returns-clause-state
-returns-clause-state c = on_both c.follow.result _ _ _
-    (λ same followed answers blocked led. set_aside_state c.blocked_is_known.ensures c.args.source.now c.args.plan.now c.put_aside.new.plan c.follow.new.plan c.args.lead.now c.args.step.now c.args.obstacle.now
-    c.in_ok-put_aside.ensures.same same c.requires.names c.in_ok-put_aside.ensures.more c.in_ok-put_aside.ensures.put followed answers blocked led) c.follow.ensures.same c.follow.ensures.followed
+returns-clause-state c = on_ok c.pass_aside.result _ _
+    (λ state answers blocked led. state answers (subst (λ (p : PlanParts). IsBlockedBy answers p.board.items c.args.step.now c.args.obstacle.now) (sym c.in_ok-set_wall.ensures.same) blocked)
+    (c.in_ok-set_wall.ensures.led answers c.args.source.now (lead_told c.args.lead.now) blocked led)) c.pass_aside.ensures.state

@@ -35,8 +35,8 @@ returns-clause-keeps c = on_ok c.try_selector_cuts.result (Keeps c.try_decl_cuts
 
 pub returns-clause-covers : goal.returns-clause-covers
 returns-clause-covers c = on_both c.try_selector_cuts.result (Keeps c.try_decl_cuts.new.found c.try_selector_cuts.new.found) _ _
-    (λ keeps covers. all_cuts c.args.source.now c.args.board.now c.args.after.now c.try_selector_cuts.new.found c.args.number c.decl_count-decls.result c.selector_count-selectors.result
-    (λ i less. kept_covers c.args.source.now c.args.board.now c.args.after.now c.try_decl_cuts.new.found c.try_selector_cuts.new.found keeps (CutDecl c.args.number i) (c.in_ok-try_decl_cuts.ensures.covers i less))
+    (λ keeps covers. all_cuts c.args.source.now c.args.board.now c.args.walls.now c.args.after.now c.try_selector_cuts.new.found c.args.number c.decl_count-decls.result c.selector_count-selectors.result
+    (λ i less. kept_covers c.args.source.now c.args.board.now c.args.walls.now c.args.after.now c.try_decl_cuts.new.found c.try_selector_cuts.new.found keeps (CutDecl c.args.number i) (c.in_ok-try_decl_cuts.ensures.covers i less))
     covers
     (decl_inside c.args.board.now.items c.args.number c.decl_count-decls.result c.args.rule.now c.requires.rule c.decl_count-decls.ensures)
     (selector_inside c.args.board.now.items c.args.number c.selector_count-selectors.result c.args.rule.now c.requires.rule c.selector_count-selectors.ensures))

@@ -14,7 +14,7 @@ loop-decl-init c = record {
 pub loop-decl-preserved : goal.loop-decl-preserved
 loop-decl-preserved c = record {
   keeps = keeps_both c.args.found.now c.loop-decl.found c.try_step.new.found c.loop-decl.invariant.keeps c.in_ok-try_step.ensures.keeps;
-  covers = cut_more c.args.source.now c.args.board.now c.args.after.now (CutDecl c.args.number) c.loop-decl.found c.try_step.new.found c.loop-decl.decl c.in_ok-try_step.ensures.keeps c.loop-decl.invariant.covers c.in_ok-try_step.ensures.covers;
+  covers = cut_more c.args.source.now c.args.board.now c.args.walls.now c.args.after.now (CutDecl c.args.number) c.loop-decl.found c.try_step.new.found c.loop-decl.decl c.in_ok-try_step.ensures.keeps c.loop-decl.invariant.covers c.in_ok-try_step.ensures.covers;
   later = c.in_ok-try_step.ensures.later;
   few = c.try_step.ensures.few;
 }

@@ -7,7 +7,7 @@ use Rattle.step_turns.proofs.next.try_decl_cuts.Given as goal
 abbrev pub invariant-loop-decl : goal.invariant-loop-decl
 invariant-loop-decl l = record {
   keeps : Keeps l.fn.found l.found;
-  covers : (i : ℕ) → i < l.decl → Covers l.source l.board l.after l.found (CutDecl l.number i);
+  covers : (i : ℕ) → i < l.decl → Covers l.source l.board l.walls l.after l.found (CutDecl l.number i);
   later : AreLater l.source l.board l.after l.found;
   few : length l.found.leads ≤ room;
 }

@@ -5,12 +5,12 @@ use Rattle.step_turns.proofs.next.try_partners.Goals as goal
 pub rest-preserved : goal.rest-preserved
 rest-preserved c = record {
   keeps = keeps_both c.args.found.now c.rest.found c.try_partner.new.found c.rest.invariant.keeps c.in_ok-try_partner.ensures.keeps;
-  covers = partner_more c.args.source.now c.args.board.now c.args.after.now c.rest.found c.try_partner.new.found c.args.number c.args.labels.now c.rest.rest.now c.in-Some.behind.now c.in-Some.label.now
+  covers = partner_more c.args.source.now c.args.board.now c.args.walls.now c.args.after.now c.rest.found c.try_partner.new.found c.args.number c.args.labels.now c.rest.rest.now c.in-Some.behind.now c.in-Some.label.now
       c.in-Some.ensures.cases.0 c.in_ok-try_partner.ensures.keeps c.rest.invariant.covers c.in_ok-try_partner.ensures.covers;
   later = c.in_ok-try_partner.ensures.later;
   few = c.try_partner.ensures.few;
 }
 
 pub returns-clause-covers : goal.returns-clause-covers
-returns-clause-covers c = all_partners c.args.source.now c.args.board.now c.args.after.now c.rest.found c.args.number c.args.labels.now c.rest.rest.now
+returns-clause-covers c = all_partners c.args.source.now c.args.board.now c.args.walls.now c.args.after.now c.rest.found c.args.number c.args.labels.now c.rest.rest.now
     (nil_from_length c.rest.rest.now (rw c.in_default.is at c.split_first.ensures.cases)) c.rest.invariant.covers

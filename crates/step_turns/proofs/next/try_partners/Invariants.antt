@@ -8,7 +8,7 @@ use Rattle.step_turns.proofs.next.try_partners.Given as goal
 abbrev pub invariant-rest : goal.invariant-rest
 invariant-rest l = record {
   keeps : Keeps l.fn.found l.found;
-  covers : (label : ℕ) (k : Step) → Contains l.initial.rest label → IsWith l.board l.number label k → Covers l.source l.board l.after l.found k ⊎ Contains l.rest label;
+  covers : (label : ℕ) (k : Step) → Contains l.initial.rest label → IsWith l.board l.number label k → Covers l.source l.board l.walls l.after l.found k ⊎ Contains l.rest label;
   later : AreLater l.source l.board l.after l.found;
   few : length l.found.leads ≤ room;
 }

@@ -14,7 +14,7 @@ loop-sel-init c = record {
 pub loop-sel-preserved : goal.loop-sel-preserved
 loop-sel-preserved c = record {
   keeps = keeps_both c.args.found.now c.loop-sel.found c.try_step.new.found c.loop-sel.invariant.keeps c.in_ok-try_step.ensures.keeps;
-  covers = cut_more c.args.source.now c.args.board.now c.args.after.now (CutSel c.args.number) c.loop-sel.found c.try_step.new.found c.loop-sel.sel c.in_ok-try_step.ensures.keeps c.loop-sel.invariant.covers c.in_ok-try_step.ensures.covers;
+  covers = cut_more c.args.source.now c.args.board.now c.args.walls.now c.args.after.now (CutSel c.args.number) c.loop-sel.found c.try_step.new.found c.loop-sel.sel c.in_ok-try_step.ensures.keeps c.loop-sel.invariant.covers c.in_ok-try_step.ensures.covers;
   later = c.in_ok-try_step.ensures.later;
   few = c.try_step.ensures.few;
 }

@@ -19,7 +19,7 @@ pub returns-then-saving-eq0-clause-covers : goal.returns-then-saving-eq0-clause-
 returns-then-saving-eq0-clause-covers c =
     let saving : IsSaving c.args.source.now c.args.board.now.items c.args.step.now c.saved_if_apart-saving.result =
     subst (λ (xs : List Item). IsSaving c.args.source.now xs c.args.step.now c.saved_if_apart-saving.result) c.sheet.ensures c.saved_if_apart-saving.ensures in
-    nothing_saved c.args.source.now c.args.board.now c.args.after.now c.args.found.now c.args.step.now
+    nothing_saved c.args.source.now c.args.board.now c.args.walls.now c.args.after.now c.args.found.now c.args.step.now
     (subst (λ (m : ℕ). IsSaving c.args.source.now c.args.board.now.items c.args.step.now m) c.if-saving-eq0.true saving)
 
 pub returns-clause-later : goal.returns-clause-later
@@ -31,6 +31,6 @@ returns-clause-later c =
     let some : 0 < c.saved_if_apart-saving.result = search rules in
     let later : IsSooner (lead_told c.args.after.now).turn (lead_told c.lead_of-lead.result).turn = search rules in
     on_ok c.put.result ((l : Lead) → IsAmong c.put.new.self l → IsAmong c.args.found.now l ⊎ (l ≡ c.lead_of-lead.result)) _
-    (still_later c.args.source.now c.args.board.now c.args.after.now c.args.found.now c.put.new.self c.lead_of-lead.result c.requires.later
-    (later_turn c.args.source.now c.args.board.now c.args.after.now c.args.step.now c.saved_if_apart-saving.result c.lead_of-lead.result has beside saving some
+    (still_later c.args.source.now c.args.board.now c.args.walls.now c.args.after.now c.args.found.now c.put.new.self c.lead_of-lead.result c.requires.later
+    (later_turn c.args.source.now c.args.board.now c.args.walls.now c.args.after.now c.args.step.now c.saved_if_apart-saving.result c.lead_of-lead.result has beside saving some
     c.lead_of-lead.ensures.turn c.lead_of-lead.ensures.saving c.lead_of-lead.ensures.owner c.lead_of-lead.ensures.scope later)) c.put.ensures.only

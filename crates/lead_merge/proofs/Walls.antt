@@ -1,0 +1,250 @@
+-- The walls that pairs make.
+use Rattle.std.proofs.Common.{◌≡◌, ◌≢◌, ◌⊎◌, ◌↔◌, ℕ, zero, suc, ◌+◌, ◌-◌, ◌<◌, ◌≤◌, List, [], ◌∷◌, ◌++◌, length, take, drop, map, Option, Some, None, refl, sym, ap, ◌∙◌, subst, inl, inr, arith}
+use Rattle.std.specs.Prelude.{get_or, slice_get}
+use Rattle.std.specs.List.{Contains, remove}
+use Rattle.std.specs.Option.{option_map}
+use Rattle.std.proofs.lemmas.Bool.{cases_lt}
+use Rattle.std.proofs.lemmas.List.{take-append-drop, length-take-le}
+use Rattle.std.proofs.lemmas.Option.{get_or_from_slice_get, slice_get-map, slice_get_within}
+use Rattle.cascade_laws.proofs.ForCallers.{some-same}
+use Rattle.css_model.specs.Cascade.Order.{IsBefore, IsLast, IsPairAt, HasPair, Pair, Weigh}
+use Rattle.css_model.specs.Cascade.Winner.{Place}
+use Rattle.css_model.specs.declared.sheet.Decl.{Decl}
+use Rattle.css_model.specs.declared.sheet.DeclItem.{DeclItem}
+use Rattle.css_model.specs.declared.sheet.Item.{Item}
+use Rattle.css_model.specs.declared.sheet.Item.TheVariants.{Rule}
+use Rattle.css_model.specs.declared.sheet.SelItem.{SelItem}
+use Rattle.css_model.specs.Documents.SelectorParts.{SelectorParts}
+use Rattle.css_model.specs.Sheets.RuleParts.{RuleParts}
+use Rattle.css_model.specs.Sheets.StyleRule.{selectors_of}
+use Rattle.lead_laws.specs.MarkNames.{IsMarked}
+use Rattle.lead_merge.specs.Walling.{MakesWall, MakesWallFor, StandsAlone}
+use Rattle.list_facts.proofs.Members.{Contains-here, Contains-there}
+use Rattle.obstacles.specs.Blocking.{IsAt, IsBlockedBy, IsOther, Names, moved_pair}
+use Rattle.obstacles.specs.declared.obstacle.Obstacle.{Obstacle}
+use Rattle.obstacles.specs.declared.obstacle.Other.{Other}
+use Rattle.obstacles.specs.declared.obstacle.Other.TheVariants as others
+use Rattle.obstacles.specs.declared.obstacle.PairPlace.{PairPlace}
+use Rattle.order_laws.proofs.ForCallers.{decl_in, last_of}
+use Rattle.plan_board.specs.BoardParts.{BoardParts}
+use Rattle.plan_board.specs.declared.marks.Mark.{Mark}
+use Rattle.plan_board.specs.MarkList.{AreMarks, labels_of}
+use Rattle.rule_tables.specs.Pairs.{HasBoth}
+use Rattle.step_laws.specs.declared.step.Step.{Step}
+use Rattle.step_laws.specs.Free.{Answered}
+use Rattle.step_laws.specs.Steps.{HasStep, decls_of}
+use Rattle.wall_laws.specs.Holding.{Hindrance, Hinders, OfKept, OfPair}
+use Rattle.wall_laws.specs.Walls.{IsWall}
+
+abbrev place : ℕ → ℕ → Place
+place item position = record { item = item; position = position }
+
+-- ---- Parts of a list
+
+get_behind : (xs ys : List Item) (i : ℕ) → slice_get (xs ++ ys) (length xs + i) ≡ slice_get ys i
+get_behind [] ys i = let z : 0 + i ≡ i = omega arith in ap (slice_get ys) z
+get_behind (x ∷ xs) ys i = let z : length (x ∷ xs) + i ≡ suc (length xs + i) = omega arith in ap (slice_get (x ∷ xs ++ ys)) z ∙ get_behind xs ys i
+
+get_removed : (xs : List Item) (n i : ℕ) (x : Item) → slice_get (remove xs n) i ≡ Some x → (m : ℕ) × (m ≢ n) × (slice_get xs m ≡ Some x)
+get_removed [] zero i x at = absurd (let e : None ≡ Some x = at in cc)
+get_removed [] (suc n) i x at = absurd (let e : None ≡ Some x = at in cc)
+get_removed (y ∷ xs) zero i x at = (suc i, (λ e. omega (arith, e)), at)
+get_removed (y ∷ xs) (suc n) zero x at = (zero, (λ e. omega (arith, e)), at)
+get_removed (y ∷ xs) (suc n) (suc i) x at = let w : (m : ℕ) × (m ≢ n) × (slice_get xs m ≡ Some x) = get_removed xs n i x at in (suc w.0, (λ e. w.1 (let f : w.0 ≡ n = omega (arith, e) in f)), w.2)
+
+kept_at : (xs : List Item) (n : ℕ) (x : Item) → 0 < n → slice_get xs 0 ≡ Some x → slice_get (remove xs n) 0 ≡ Some x
+kept_at [] n x some at = absurd (let e : None ≡ Some x = at in cc)
+kept_at (y ∷ xs) zero x some at = absurd (omega (arith, some))
+kept_at (y ∷ xs) (suc n) x some at = at
+
+-- ---- Pairs of rules
+
+selector_in : (ss : List SelItem) (k : ℕ) (x : SelItem) → slice_get ss k ≡ Some x → Contains (map (λ (s : SelItem). s.selector) ss) x.selector
+selector_in [] k x at = absurd (let e : None ≡ Some x = at in cc)
+selector_in (y ∷ ss) zero x at = subst (λ (z : SelItem). Contains (map (λ (s : SelItem). s.selector) (y ∷ ss)) z.selector) (some-same at) (Contains-here y.selector (map (λ (s : SelItem). s.selector) ss))
+selector_in (y ∷ ss) (suc k) x at = Contains-there y.selector (map (λ (s : SelItem). s.selector) ss) x.selector (selector_in ss k x at)
+
+-- the place of a pair
+pub pair_at : (items : List Item) (at : PairPlace) (p : Pair) → IsAt items at p → IsPairAt items p (place at.item at.decl)
+pair_at items at p is = record {
+  rule = is.rule;
+  decl = is.decl;
+  rule_at = is.rule_at;
+  selector_in = subst (λ (x : Pair). Contains (selectors_of is.rule) x.selector) (sym is.is) (selector_in is.rule.selectors at.sel is.selector is.selector_at);
+  decl_at = is.decl_at;
+  decl_is = ap (λ (x : Pair). x.decl) (sym is.is);
+}
+
+-- the rule there has it
+pub has_both : (items : List Item) (p : Pair) (at : Place) (h : IsPairAt items p at) → HasBoth h.rule p.selector p.decl
+has_both items p at h = (h.selector_in, subst (λ (d : Decl). Contains (decls_of h.rule) d) h.decl_is (decl_in h.rule.decls at.position h.decl h.decl_at))
+
+same_rule : (o : Option Item) (a b : RuleParts) → o ≡ Some (Rule a) → o ≡ Some (Rule b) → a ≡ b
+same_rule o a b e f = cc
+
+-- the selector and the declaration there are its
+pub pair_is : (items : List Item) (at : PairPlace) (p : Pair) → IsAt items at p → (rule : RuleParts) → slice_get items at.item ≡ Some (Rule rule) →
+    (s : SelectorParts) → ((x : SelItem) → slice_get rule.selectors at.sel ≡ Some x → s ≡ x.selector) → (d : Decl) → ((x : DeclItem) → slice_get rule.decls at.decl ≡ Some x → d ≡ x.decl) →
+    (r : RuleParts) → HasBoth r p.selector p.decl → HasBoth r s d
+pair_is items at p is rule rule_at s sel d decl r has =
+    let same : is.rule ≡ rule = same_rule (slice_get items at.item) is.rule rule is.rule_at rule_at in
+    let s_is : s ≡ is.selector.selector = sel is.selector (subst (λ (x : RuleParts). slice_get x.selectors at.sel ≡ Some is.selector) same is.selector_at) in
+    let d_is : d ≡ is.decl.decl = decl is.decl (subst (λ (x : RuleParts). slice_get x.decls at.decl ≡ Some is.decl) same is.decl_at) in
+    let p_s : p.selector ≡ s = ap (λ (x : Pair). x.selector) is.is ∙ sym s_is in
+    let p_d : p.decl ≡ d = ap (λ (x : Pair). x.decl) is.is ∙ sym d_is in
+    (subst (Contains (selectors_of r)) p_s has.0, subst (Contains (decls_of r)) p_d has.1)
+
+-- and it stands within the sheet
+pub place_within : (items : List Item) (at : PairPlace) (p : Pair) → IsAt items at p → at.item < length items
+place_within items at p is = slice_get_within items at.item (Rule is.rule) is.rule_at
+
+-- ---- What an obstacle names
+
+pub moved_there : (answers : List Answered) (items : List Item) (k : Step) (o : Obstacle) → IsBlockedBy answers items k o → (p : Pair) × IsAt items o.moved p
+moved_there answers items k o blocked = (moved_pair blocked.by, blocked.names.moved)
+
+pub other_there : (answers : List Answered) (items : List Item) (k : Step) (o : Obstacle) (at : PairPlace) → o.other ≡ others.Pair at → IsBlockedBy answers items k o → (q : Pair) × IsAt items at q
+other_there answers items k o at is blocked = which blocked.by (subst (λ (x : Other). IsOther items x blocked.by) is blocked.names.other)
+  where
+    which : (by : Hindrance) → IsOther items (others.Pair at) by → (q : Pair) × IsAt items at q
+    which (OfPair p q) there = (q, there)
+    which (OfKept p number) none = absurd none
+
+-- ---- A wall
+
+module _ (above below : List Item) (k : ℕ) (p q : Pair) (moved other : ℕ) (alone : StandsAlone (above ++ below) (length above) (length above + k) p q)
+    (p_at : IsPairAt (above ++ below) p (place (length above + k) moved)) (q_at : IsPairAt (above ++ below) q (place (length above) other)) where
+  abbrev whole : List Item
+  whole = above ++ below
+
+  some : 0 < k
+  some = let h : length above < length above + k = alone.before in omega (arith, h)
+
+  nowhere : HasPair (remove below k) p → ⊥
+  nowhere (at, h) =
+      let w : (m : ℕ) × (m ≢ k) × (slice_get below m ≡ Some (Rule h.rule)) = get_removed below k at.item (Rule h.rule) h.rule_at in
+      alone.alone (length above + w.0) h.rule (get_behind above below w.0 ∙ w.2) (omega arith) (λ e. w.1 (let f : w.0 ≡ k = omega (arith, e) in f)) (has_both (remove below k) p at h)
+
+  q_first : slice_get below 0 ≡ Some (Rule q_at.rule)
+  q_first = sym (get_behind above below 0) ∙ ap (slice_get whole) (let e : length above + 0 ≡ length above = omega arith in e) ∙ q_at.rule_at
+
+  q_below : HasPair (remove below k) q
+  q_below = (
+    place 0 other,
+    record { rule = q_at.rule; decl = q_at.decl; rule_at = kept_at below k (Rule q_at.rule) some q_first; selector_in = q_at.selector_in; decl_at = q_at.decl_at; decl_is = q_at.decl_is },
+  )
+
+  comes_last : (last_q last_p : Place) → IsLast whole q last_q → IsLast whole p last_p → last_q.item < last_p.item
+  comes_last last_q last_p of_q of_p = elim (cases_lt last_q.item (length above + k)) [
+    | inl l ↦ elim (cases_lt last_p.item (length above + k)) [
+      | inl m ↦ absurd (of_p.last (place (length above + k) moved) p_at (inl m))
+      | inr m ↦ omega (arith, l, m)
+    ]
+    | inr l ↦ absurd (alone.other last_q.item of_q.stands.rule of_q.stands.rule_at l (has_both whole q last_q of_q.stands))
+  ]
+
+  order : IsBefore whole q p
+  order =
+      let of_q : (at : Place) × IsLast whole q at = last_of whole q (place (length above) other, q_at) in
+      let of_p : (at : Place) × IsLast whole p at = last_of whole p (place (length above + k) moved, p_at) in
+      record { place = of_q.0; later = of_p.0; first = of_q.1; second = of_p.1; before = inl (comes_last of_q.0 of_p.0 of_q.1 of_p.1) }
+
+  pub is_wall : Weigh p q → IsWall above below k p_at.rule p q
+  is_wall weigh = record {
+    pair = record { rule_at = sym (get_behind above below k) ∙ p_at.rule_at; selector_in = p_at.selector_in; decl_in = (has_both whole p (place (length above + k) moved) p_at).1 };
+    nowhere_else = nowhere;
+    other = q_below;
+    weigh = weigh;
+    order = order;
+  }
+
+-- ---- By labels
+
+-- the number of a label that is not below another one is not below its number, and differs where it does
+module _ (marks : List Mark) (next : ℕ) (are : AreMarks marks next) where
+  in_order : (i j : ℕ) (a b : Mark) → i < j → slice_get marks i ≡ Some a → slice_get marks j ≡ Some b → a.label < b.label
+  in_order i j a b less at at' =
+      subst (λ (x : Mark). x.label < b.label) (get_or_from_slice_get marks i a a at)
+      (subst (λ (y : Mark). (get_or marks i a).label < y.label) (get_or_from_slice_get marks j b a at') (are.ascend i j a less (slice_get_within marks j b at')))
+
+  pub not_below : (i j : ℕ) (a b : Mark) → slice_get marks i ≡ Some a → slice_get marks j ≡ Some b → i ≤ j → a.label ≤ b.label
+  not_below i j a b at at' most = elim (cases_lt i j) [
+    | inl l ↦ (let less : a.label < b.label = in_order i j a b l at at' in omega (arith, less))
+    | inr l ↦ (let same : i ≡ j = omega (arith, most, l) in let e : a ≡ b = some-same (sym at ∙ ap (slice_get marks) same ∙ at') in let f : a.label ≡ b.label = ap (λ (m : Mark). m.label) e in omega (arith, f))
+  ]
+
+  pub differ : (i j : ℕ) (a b : Mark) → slice_get marks i ≡ Some a → slice_get marks j ≡ Some b → i ≢ j → a.label ≢ b.label
+  differ i j a b at at' other same = elim (cases_lt i j) [
+    | inl l ↦ (let less : a.label < b.label = in_order i j a b l at at' in omega (arith, less, same))
+    | inr l ↦ elim (cases_lt j i) [
+      | inl m ↦ (let less : b.label < a.label = in_order j i b a m at' at in omega (arith, less, same))
+      | inr m ↦ other (let e : i ≡ j = omega (arith, l, m) in e)
+    ]
+  ]
+
+-- A pair that does not stand in a rule with a label from one on, but this.
+abbrev pub StandsBut : BoardParts → Pair → (from own : ℕ) → Type 0
+StandsBut b p from own = (n : ℕ) (r : RuleParts) (label : ℕ) → slice_get b.items n ≡ Some (Rule r) → slice_get (labels_of b.marks) n ≡ Some label → from ≤ label → label ≢ own → HasBoth r p.selector p.decl → ⊥
+
+pub alone_by_labels : (b : BoardParts) → IsMarked b → (z y : ℕ) (at_z at_y : Mark) (p q : Pair) → z < y → slice_get b.marks z ≡ Some at_z → slice_get b.marks y ≡ Some at_y →
+    StandsBut b p at_z.label at_y.label → StandsBut b q at_y.label at_z.label → StandsAlone b.items z y p q
+alone_by_labels b marked z y at_z at_y p q less is_z is_y p_but q_but = record {
+  before = less;
+  alone = λ n r at most other has. (let m : (m : Mark) × (slice_get b.marks n ≡ Some m) = mark_at n r at in
+      p_but n r m.0.label at (label_at n m.0 m.1) (not_below b.marks b.next marked.0 z n at_z m.0 is_z m.1 most) (differ b.marks b.next marked.0 n y m.0 at_y m.1 is_y other) has);
+  other = λ n r at most has. (let m : (m : Mark) × (slice_get b.marks n ≡ Some m) = mark_at n r at in
+      q_but n r m.0.label at (label_at n m.0 m.1) (not_below b.marks b.next marked.0 y n at_y m.0 is_y m.1 most)
+      (differ b.marks b.next marked.0 n z m.0 at_z m.1 is_z (λ e. let f : n ≡ z = e in omega (arith, f, less, most))) has);
+}
+  where
+    mark_at : (n : ℕ) (r : RuleParts) → slice_get b.items n ≡ Some (Rule r) → (m : Mark) × (slice_get b.marks n ≡ Some m)
+    mark_at n r at = (let within : n < length b.items = slice_get_within b.items n (Rule r) at in let long : length b.marks ≡ length b.items = marked.1 in there b.marks n (omega (arith, within, long)))
+      where
+        there : (ms : List Mark) (n : ℕ) → n < length ms → (m : Mark) × (slice_get ms n ≡ Some m)
+        there [] n less = absurd (omega (arith, less))
+        there (m ∷ ms) zero less = (m, refl)
+        there (m ∷ ms) (suc n) less = there ms n (omega (arith, less))
+
+    label_at : (n : ℕ) (m : Mark) → slice_get b.marks n ≡ Some m → slice_get (labels_of b.marks) n ≡ Some m.label
+    label_at n m at = slice_get-map (λ (m : Mark). m.label) b.marks n ∙ ap (option_map (λ (m : Mark). m.label)) at
+
+-- ---- What an obstacle makes
+
+pub makes_wall : (b : BoardParts) (k : Step) (o : Obstacle) (at : PairPlace) (mover from : Mark) → HasStep b.items k → o.other ≡ others.Pair at →
+    ((p q : Pair) → IsAt b.items o.moved p → IsAt b.items at q → StandsAlone b.items at.item o.moved.item p q) →
+    slice_get b.marks o.moved.item ≡ Some mover → slice_get b.marks at.item ≡ Some from → MakesWallFor b k o mover.birth from.label
+makes_wall b k o at mover from has is alone is_mover is_from answers blocked = by_one blocked.by blocked.names (blocked.hinders has.0 has.1)
+  where
+    by_one : (by : Hindrance) → Names b.items o by → Hinders answers b.items has.0 by → MakesWall answers b o mover.birth from.label
+    by_one (OfKept p number) names hinders = absurd (subst (λ (x : Other). IsOther b.items x (OfKept p number)) is names.other)
+    by_one (OfPair p q) names hinders =
+        let q_is : IsAt b.items at q = subst (λ (x : Other). IsOther b.items x (OfPair p q)) is names.other in
+        let stands : StandsAlone b.items at.item o.moved.item p q = alone p q names.moved q_is in
+        let within : at.item < length b.items = slice_get_within b.items at.item (Rule q_is.rule) q_is.rule_at in
+        let parts : take at.item b.items ++ drop at.item b.items ≡ b.items = take-append-drop at.item b.items in
+        let long : length (take at.item b.items) ≡ at.item = length-take-le at.item b.items (omega (arith, within)) in
+        let y : length (take at.item b.items) + (o.moved.item - at.item) ≡ o.moved.item = (let less : at.item < o.moved.item = stands.before in omega (arith, long, less)) in
+        let p_there : IsPairAt (take at.item b.items ++ drop at.item b.items) p (place (length (take at.item b.items) + (o.moved.item - at.item)) o.moved.decl) =
+        subst (λ (xs : List Item). IsPairAt xs p (place (length (take at.item b.items) + (o.moved.item - at.item)) o.moved.decl)) (sym parts)
+        (subst (λ (n : ℕ). IsPairAt b.items p (place n o.moved.decl)) (sym y) (pair_at b.items o.moved p names.moved)) in
+        record {
+          above = take at.item b.items;
+          below = drop at.item b.items;
+          y = o.moved.item - at.item;
+          lower = p_there.rule;
+          p = p;
+          q = q;
+          names = names;
+          parts = sym parts;
+          wall = is_wall (take at.item b.items) (drop at.item b.items) (o.moved.item - at.item) p q o.moved.decl at.decl
+              (subst (λ (xs : List Item). StandsAlone xs (length (take at.item b.items)) (length (take at.item b.items) + (o.moved.item - at.item)) p q) (sym parts)
+              (subst (λ (n : ℕ). StandsAlone b.items n (length (take at.item b.items) + (o.moved.item - at.item)) p q) (sym long)
+              (subst (λ (n : ℕ). StandsAlone b.items at.item n p q) (sym y) stands)))
+              p_there
+              (subst (λ (xs : List Item). IsPairAt xs q (place (length (take at.item b.items)) at.decl)) (sym parts)
+              (subst (λ (n : ℕ). IsPairAt b.items q (place n at.decl)) (sym long) (pair_at b.items at q q_is)))
+              hinders.0.weigh;
+          apart = hinders.1;
+          mover = slice_get-map (λ (m : Mark). m.birth) b.marks (length (take at.item b.items) + (o.moved.item - at.item)) ∙ ap (option_map (λ (m : Mark). m.birth)) (ap (slice_get b.marks) y ∙ is_mover);
+          place = slice_get-map (λ (m : Mark). m.label) b.marks (length (take at.item b.items)) ∙ ap (option_map (λ (m : Mark). m.label)) (ap (slice_get b.marks) long ∙ is_from);
+        }

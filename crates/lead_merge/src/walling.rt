@@ -1,0 +1,188 @@
+//! Walls that are set, where an obstacle of a join up hinders all joins up of its lower item past a place.
+
+ghost use Rattle.std.specs.Prelude.{◌≡◌, ◌≢◌, ◌⊎◌, ◌∷◌, ◌<◌, ◌≤◌, ℕ, IfSome, List, OnOk, Some, false, true, length, slice_get};
+ghost use Rattle.std.specs.List.{Contains};
+ghost use Rattle.css_model.specs.Cascade.Order.{Pair};
+ghost use Rattle.css_model.specs.declared.sheet.Item.TheVariants as item;
+ghost use Rattle.css_model.specs.Sheets.Limits.{max_items};
+ghost use Rattle.css_model.specs.Sheets.RuleParts.{RuleParts};
+ghost use Rattle.hold_laws.specs.Leads as held;
+ghost use Rattle.lead_laws.specs.MarkNames.{IsMarked};
+ghost use Rattle.lead_merge.specs.Walling as spec;
+ghost use Rattle.lead_plan.specs.declared.aside.Entry.{Entry};
+ghost use Rattle.obstacles.specs.Blocking.{IsAt, IsBlockedBy, Names};
+ghost use Rattle.obstacles.specs.declared.obstacle.Other.TheVariants as others;
+ghost use Rattle.plan_board.specs.MarkList.{labels_of};
+ghost use Rattle.plan_state.specs.State.{IsBoard, IsLedBy};
+ghost use Rattle.rule_tables.specs.Pairs.{HasBoth};
+ghost use Rattle.rule_tables.specs.Tables.{Cover};
+ghost use Rattle.step_laws.specs.Free.{Answered};
+ghost use Rattle.step_laws.specs.Steps.{HasStep};
+ghost use Rattle.step_turns.specs.Marked.{rules_of};
+ghost use Rattle.wall_laws.specs.Holding.{Hindrance};
+
+use crate::setting_aside::{decl_of, put_up, selector_of};
+use lead_laws::walls_stay;
+use obstacles::{Obstacle, Other, PairPlace};
+use plan_board::Board;
+use plan_state::Plan;
+use rule_tables::Tables;
+use std::alloc::AllocError;
+use step_laws::Step;
+use step_savings::rule_at;
+use step_turns::stands_from;
+
+/// Whether the pair at a place stands in a rule whose label is not below one, and is another one than `own`.
+fn pair_stands_from(board: &Board, tables: &Tables, place: &PairPlace, from: u64, own: u64) -> bool
+    requires few { length board.now.items ≤ max_items }
+    requires cover { Cover tables.now (rules_of board.now) }
+    requires there { (p : Pair) × IsAt board.now.items place.now p }
+    ensures { result ≡ false → (p : Pair) → IsAt board.now.items place.now p → (n : ℕ) (r : RuleParts) (label : ℕ) → slice_get board.now.items n ≡ Some (item.Rule r)
+        → slice_get (labels_of board.now.marks) n ≡ Some label → from ≤ label → label ≢ own → HasBoth r p.selector p.decl → ⊥ }
+{
+    let rule = rule_at(board.sheet(), place.item);
+    let selector = selector_of(rule, place.sel);
+    let decl = decl_of(rule, place.decl);
+    stands_from(board, tables, from, own, selector, decl)
+}
+
+/// Whether from the item of another place on the pair at a place stands in its item alone, from which on the other pair
+/// does not stand.
+fn stands_alone(board: &Board, tables: &Tables, moved: &PairPlace, other: &PairPlace) -> bool
+    requires few { length board.now.items ≤ max_items }
+    requires cover { Cover tables.now (rules_of board.now) }
+    requires marked { IsMarked board.now }
+    requires moved_there { (p : Pair) × IsAt board.now.items moved.now p }
+    requires other_there { (q : Pair) × IsAt board.now.items other.now q }
+    ensures { result ≡ true → (p q : Pair) → IsAt board.now.items moved.now p → IsAt board.now.items other.now q
+        → spec.StandsAlone board.now.items other.now.item moved.now.item p q }
+{
+    if moved.item <= other.item {
+        return false;
+    }
+    let from = board.mark(other.item).label;
+    let own = board.mark(moved.item).label;
+    if pair_stands_from(board, tables, moved, from, own) {
+        return false;
+    }
+    !pair_stands_from(board, tables, other, own, from)
+}
+
+/// A wall: the birth of the item that it hinders, and the label of the first item that this does not move past.
+#[derive(Clone, Copy, Debug)]
+struct Wall {
+    birth: u32,
+    label: u64,
+}
+
+/// The item that moves in a join up.
+fn mover_of(step: &Step) -> Option<u32> {
+    match *step {
+        Step::JoinSelUp { lower, .. } | Step::JoinDeclUp { lower, .. } => Some(lower),
+        _ => None,
+    }
+}
+
+/// The wall that two pairs make, if they do.
+fn wall_between(
+    board: &Board,
+    tables: &Tables,
+    step: &Step,
+    obstacle: &Obstacle,
+    other: &PairPlace,
+) -> Option<Wall>
+    requires few { length board.now.items ≤ max_items }
+    requires cover { Cover tables.now (rules_of board.now) }
+    requires marked { IsMarked board.now }
+    requires step_of { HasStep board.now.items step.now }
+    requires blocked { (answers : List Answered) × IsBlockedBy answers board.now.items step.now obstacle.now }
+    requires pair { obstacle.now.other ≡ others.Pair other.now }
+    ensures { IfSome result (λ w. spec.MakesWallFor board.now step.now obstacle.now w.birth w.label) }
+{
+    if !stands_alone(board, tables, &obstacle.moved, other) {
+        return None;
+    }
+    let label = board.mark(other.item).label;
+    let birth = board.mark(obstacle.moved.item).birth;
+    Some(Wall { birth, label })
+}
+
+/// The wall that an obstacle of a step makes, if it does.
+fn wall_of(board: &Board, tables: &Tables, step: &Step, obstacle: &Obstacle) -> Option<Wall>
+    requires few { length board.now.items ≤ max_items }
+    requires cover { Cover tables.now (rules_of board.now) }
+    requires marked { IsMarked board.now }
+    requires step_of { HasStep board.now.items step.now }
+    requires blocked { (answers : List Answered) × IsBlockedBy answers board.now.items step.now obstacle.now }
+    ensures { IfSome result (λ w. spec.MakesWallFor board.now step.now obstacle.now w.birth w.label) }
+{
+    if mover_of(step) != Some(obstacle.moved.item) {
+        return None;
+    }
+    match &obstacle.other {
+        Other::Pair(other) => wall_between(board, tables, step, obstacle, other),
+        Other::Kept(_) => None,
+    }
+}
+
+/// Makes room for a wall under a birth.
+fn grow(walls: &mut Vec<u64>, birth: u32) -> Result<(), AllocError>
+    ensures room { OnOk result (birth < length walls.new.items) }
+    ensures long { OnOk result ((next : ℕ) → length walls.old.items ≤ next → birth < next → length walls.new.items ≤ next) }
+    ensures left { OnOk result ((b l : ℕ) → slice_get walls.new.items b ≡ Some l → 0 < l → slice_get walls.old.items b ≡ Some l) }
+{
+    let birth = birth as usize;
+    if walls.len() <= birth {
+        walls.resize(birth + 1, 0)?;
+    }
+    Ok(())
+}
+
+/// Puts the label of a wall under a birth, if none stands there that is as great.
+fn put_higher(walls: &mut Vec<u64>, birth: usize, label: u64)
+    requires { birth < length walls.old.items }
+    ensures long { length walls.new.items ≡ length walls.old.items }
+    ensures each { (b l : ℕ) → slice_get walls.new.items b ≡ Some l → 0 < l → (slice_get walls.old.items b ≡ Some l) ⊎ ((b ≡ birth) × (l ≡ label)) }
+{
+    if walls[birth] < label {
+        walls[birth] = label;
+    }
+}
+
+/// The same, where there may be no room yet.
+fn raise(walls: &mut Vec<u64>, birth: u32, label: u64) -> Result<(), AllocError>
+    ensures { OnOk result (spec.IsRaised walls.old.items walls.new.items birth label) }
+{
+    grow(walls, birth)?;
+    put_higher(walls, birth as usize, label);
+    Ok(())
+}
+
+/// Sets a wall that an obstacle makes: all joins up of its item past it are set aside at once, under each pair of what
+/// the obstacle names.
+fn put_wall(plan: &mut Plan, wall: &Wall, obstacle: &Obstacle) -> Result<(), AllocError>
+    requires { (by : Hindrance) × Names plan.old.board.items obstacle.now by }
+    ensures same { OnOk result (plan.new ≡ record plan.old { entries = plan.new.entries; walls = plan.new.walls }) }
+    ensures more { OnOk result ((x : Entry) → Contains plan.old.entries x → Contains plan.new.entries x) }
+    ensures put { OnOk result (spec.HasUpEntries plan.old.board.items plan.new.entries obstacle.now wall.now.birth) }
+    ensures raised { OnOk result (spec.IsRaised plan.old.walls plan.new.walls wall.now.birth wall.now.label) }
+{
+    put_up(plan, wall.birth, obstacle)?;
+    raise(&mut plan.walls, wall.birth, wall.label)
+}
+
+/// Sets the wall that an obstacle of a step makes, if it makes one. What led the steps of the plan's sheet still does.
+pub(crate) fn set_wall(plan: &mut Plan, step: &Step, obstacle: &Obstacle) -> Result<(), AllocError>
+    requires board { (source : List ℕ) × IsBoard source plan.old }
+    requires step_of { HasStep plan.old.board.items step.now }
+    requires blocked { (answers : List Answered) × IsBlockedBy answers plan.old.board.items step.now obstacle.now }
+    ensures same { OnOk result (plan.new ≡ record plan.old { entries = plan.new.entries; walls = plan.new.walls }) }
+    ensures led { OnOk result ((answers : List Answered) (source : List ℕ) (lead : held.Lead) → IsBlockedBy answers plan.old.board.items step.now obstacle.now
+        → IsLedBy answers source plan.old (lead ∷ plan.old.leads) → IsLedBy answers source plan.new (lead ∷ plan.new.leads)) }
+{
+    walls_stay();
+    match wall_of(&plan.board, &plan.tables, step, obstacle) {
+        Some(wall) => put_wall(plan, &wall, obstacle),
+        None => Ok(()),
+    }
+}
