@@ -21,8 +21,9 @@ use crate::specificities::{specificity_at, specificity_in_profile};
 use css_model::{Decl, Item, Rule};
 use obstacles::{Obstacle, PairPlace};
 use overlap::Pairs;
-use related_props::related;
+use related_props::{related, related_is_reflexive};
 use std::alloc::{AllocError, Global};
+use step_savings::is_same_decl;
 use window_order::{PairRef, Standing, Window, weighs_kept};
 
 /// The place of the pair of a selector of this number.
@@ -221,28 +222,36 @@ fn with_decl(
     Ok(None)
 }
 
+/// Whether two declarations are of one property.
+fn have_same_name(first: &Decl, second: &Decl) -> bool
+    ensures { IsTrue result ↔ first.now.name ≡ second.now.name }
+{
+    first.name == second.name
+}
+
 /// Whether two declarations differ.
 fn differ(first: &Decl, second: &Decl) -> bool
     ensures { IsTrue result ↔ first.now ≢ second.now }
 {
-    *first != *second
+    !is_same_decl(first, second)
 }
 
-/// Whether two declarations weigh. The tests come in the order of what they cost.
+/// Whether two declarations weigh. The tests come in the order of what they cost: most that get as far are of one property.
 #[tactic(auto, using(crate::proofs::Masked::weigh_shows))]
 fn weigh(moved: &DeclAt<'_>, other: &DeclAt<'_>) -> bool
     requires first { moved.now.mask ≡ decl_mask moved.now.decl.now }
     requires second { other.now.mask ≡ decl_mask other.now.decl.now }
     ensures { IsTrue result ↔ DeclsWeigh moved.now.decl.now other.now.decl.now }
 {
+    related_is_reflexive();
     if moved.mask & other.mask == 0 {
         return false;
     }
     if moved.decl.important != other.decl.important {
         return false;
     }
-    if !differ(moved.decl, other.decl) {
-        return false;
+    if have_same_name(moved.decl, other.decl) {
+        return differ(moved.decl, other.decl);
     }
     related(&moved.decl.name, &other.decl.name)
 }
