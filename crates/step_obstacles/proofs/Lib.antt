@@ -10,5 +10,6 @@ mod Moving
 mod Named
 mod PairAnswers
 mod Sources
+mod SpentRules
 mod Turning
 mod WindowFacts

@@ -2,6 +2,7 @@
 #![tactic(auto)]
 
 mod answering;
+mod behind;
 mod decl_masks;
 mod facing;
 mod held;

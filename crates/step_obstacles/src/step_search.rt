@@ -17,6 +17,7 @@ ghost use Rattle.step_obstacles.specs.StepWindow.{AreThere, IsToldBy, IsWindowFo
 ghost use Rattle.step_obstacles.specs.Turns as turns;
 ghost use Rattle.window_laws.specs.StepWindows as windows;
 
+use crate::behind::{rule_is_behind, takes_rule};
 use crate::decl_masks::{bits_of, masks_of};
 use crate::facing::Source;
 use crate::left_parts::left_by;
@@ -138,7 +139,8 @@ fn begins_below(step: &Step) -> bool {
     !matches!(step, Step::JoinSelDown { .. } | Step::JoinDeclDown { .. })
 }
 
-/// What blocks of the pairs of the rule of this number.
+/// What blocks of the pairs of the rule of this number. A cut takes most rules whose pairs all stand below; then no item above
+/// needs to be looked at.
 #[tactic(auto, using(crate::proofs::Sources::told_whole))]
 fn by_whole(
     alloc: Global,
@@ -155,6 +157,9 @@ fn by_whole(
     ensures told { IfOk result (λ found. IsToldBy pairs.new.answers sheet.now.items (moved.Rule item) window.now found) }
 {
     let source = whole(alloc, sheet, item)?;
+    if takes_rule(window, source.rule) && rule_is_behind(window, source.rule) {
+        return Ok(None);
+    }
     in_window(alloc, pairs, window, &[source], upwards)
 }
 

@@ -2,7 +2,7 @@
 use Rattle.std.proofs.Common.{◌≡◌, ◌↔◌, ◌⊎◌, ℕ, zero, suc, Bool, true, false, not, ◌&&◌, ◌||◌, List, [], ◌∷◌, Some, None, refl, sym, ◌∙◌, subst, inl, inr}
 use Rattle.std.specs.Prelude.{if◌then◌else◌, slice_get}
 use Rattle.std.specs.List.{Contains}
-use Rattle.std.proofs.lemmas.Bool.{false≢true, and_parts, and_from, or_cases, or_left, or_right}
+use Rattle.std.proofs.lemmas.Bool.{false≢true, false_from_ne_true, and_parts, and_from, or_cases, or_left, or_right}
 use Rattle.cascade_laws.proofs.ForCallers.{some-same}
 use Rattle.css_model.proofs.ForCallers.{decl_decides}
 use Rattle.css_model.specs.Cascade.Order.{Pair, HasPair, IsBefore}
@@ -63,6 +63,11 @@ first_has : (xs : List Decl) (d f : Decl) → DeclBefore xs d f → Contains xs 
 first_has [] d f h = absurd h
 first_has (x ∷ xs) d f (inl h) = Contains-there x xs d (first_has xs d f h)
 first_has (x ∷ xs) d f (inr h) = subst (λ (z : Decl). Contains (x ∷ xs) z) h.0 (Contains-here x xs)
+
+-- a test whether a pair stands in some items tells what the one that computes does
+pub test_is : (items : List Item) (p : Pair) (b : Bool) → (b ≡ true) ↔ HasPair items p → b ≡ stands items p
+test_is items p true h = sym ((stands_is items p).1 (h.0 refl))
+test_is items p false h = sym (false_from_ne_true (stands items p) (λ e. false≢true (h.1 ((stands_is items p).0 e))))
 
 pub decl_before_is : (ds : List DeclItem) (d f : Decl) → (decl_before ds d f ≡ true) ↔ DeclBefore (decls ds) d f
 decl_before_is [] d f = (λ h. absurd (false≢true h), λ h. absurd h)

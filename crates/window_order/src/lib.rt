@@ -1,6 +1,7 @@
 //! The order of pairs and kept items in the part of a sheet that a step changes, before and after the step.
 #![tactic(auto)]
 
+mod behind;
 mod ends;
 mod kept;
 mod left;

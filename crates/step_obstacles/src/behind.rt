@@ -1,0 +1,46 @@
+//! Whether all pairs of a rule stand behind a window too: such a rule may go, since none of them comes last in it.
+
+ghost use Rattle.std.specs.Prelude.{◌≡◌};
+ghost use Rattle.std.specs.List.{list_all};
+ghost use Rattle.step_obstacles.specs.Turns as turns;
+ghost use Rattle.window_order.specs.Reversed.{behind_of};
+ghost use Rattle.window_order.specs.Standing.{stands};
+
+use css_model::{Decl, DeclItem, Rule, SelItem};
+use window_order::{PairRef, Window};
+
+/// Whether the pair of a selector and a declaration stands behind.
+fn is_behind(window: &Window<'_>, selector: &SelItem, decl: &Decl) -> bool
+    ensures { result ≡ stands (behind_of window.now) (turns.pair_of selector.now decl.now) }
+{
+    window.is_behind(&PairRef {
+        selector: &selector.selector,
+        decl,
+    })
+}
+
+/// Whether the pairs of a declaration and each of some selectors do.
+fn are_behind(window: &Window<'_>, selectors: &[SelItem], decl: &Decl) -> bool
+    ensures { result ≡ list_all (λ s. stands (behind_of window.now) (turns.pair_of s decl.now)) selectors.now }
+{
+    selectors.iter().all(|selector| is_behind(window, selector, decl))
+}
+
+/// Whether those of each of some declarations do.
+fn all_are_behind(window: &Window<'_>, selectors: &[SelItem], decls: &[DeclItem]) -> bool
+    ensures { result ≡ list_all (λ d. list_all (λ s. stands (behind_of window.now) (turns.pair_of s d.decl)) selectors.now) decls.now }
+{
+    decls.iter().all(|item| are_behind(window, selectors, &item.decl))
+}
+
+/// Whether all pairs of a rule do.
+pub(crate) fn rule_is_behind(window: &Window<'_>, rule: &Rule) -> bool
+    ensures { result ≡ list_all (λ d. list_all (λ s. stands (behind_of window.now) (turns.pair_of s d.decl)) rule.now.selectors) rule.now.decls }
+{
+    all_are_behind(window, &rule.selectors, &rule.decls)
+}
+
+/// Whether a window is that of a cut that takes a whole rule.
+pub(crate) fn takes_rule(window: &Window<'_>, rule: &Rule) -> bool {
+    window.start == window.middle && (rule.decls.len() == 1 || rule.selectors.len() == 1)
+}
