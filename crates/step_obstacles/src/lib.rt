@@ -5,6 +5,8 @@ mod answering;
 mod decl_masks;
 mod facing;
 mod held;
+mod hinted;
+mod hints;
 mod known;
 mod left_parts;
 mod pair_obstacles;
