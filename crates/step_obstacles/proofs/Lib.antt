@@ -2,6 +2,7 @@ mod Askable
 mod Deciding
 pub mod ForCallers
 mod HeldAnswers
+mod Hinting
 mod KeptPlaces
 mod LeftParts
 mod Looking

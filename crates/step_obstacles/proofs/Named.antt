@@ -116,7 +116,7 @@ told_same answers w r d o s At is (Err e) h = tt
 
 -- ---- Items
 
-kept_either : (item : Item) → ((k : KeptRuleParts) × (item ≡ KeptRule k)) ⊎ ((k : Piece) × (item ≡ KeptBlock k)) → is_kept item ≡ true
+pub kept_either : (item : Item) → ((k : KeptRuleParts) × (item ≡ KeptRule k)) ⊎ ((k : Piece) × (item ≡ KeptBlock k)) → is_kept item ≡ true
 kept_either item (inl h) = ap is_kept h.1
 kept_either item (inr h) = ap is_kept h.1
 

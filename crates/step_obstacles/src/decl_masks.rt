@@ -9,7 +9,7 @@ use std::alloc::{AllocError, Global};
 use step_savings::has_decl;
 
 /// Whether a declaration stands in another rule too, if one is given.
-fn is_common(with: Option<&Rule>, decl: &Decl) -> bool
+pub(crate) fn is_common(with: Option<&Rule>, decl: &Decl) -> bool
     ensures { result ≡ turns.is_common with.entry decl.now }
 {
     match with {

@@ -6,6 +6,8 @@ mod behind;
 mod decl_masks;
 mod facing;
 mod held;
+mod hinted;
+mod hints;
 mod known;
 mod left_parts;
 mod pair_obstacles;

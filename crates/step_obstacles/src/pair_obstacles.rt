@@ -3,6 +3,7 @@
 ghost use Rattle.std.specs.Prelude.{◌≡◌};
 
 use crate::held::answers_are_true;
+use crate::hints::{Hints, no_hints};
 use crate::step_search::step_obstacle;
 use css_model::Sheet;
 use item_masks::ItemMask;
@@ -12,11 +13,13 @@ use std::alloc::{AllocError, Global};
 use std::marker::Model;
 use step_laws::Step;
 
-/// The answers for pairs of selectors; those that tell of a step whether it is free are asked for.
+/// The answers for pairs of selectors; those that tell of a step whether it is free are asked for. What blocked is looked
+/// at first the next time.
 #[derive(Debug, Drop)]
 pub struct PairObstacles {
     alloc: Global,
     pairs: Pairs,
+    hints: Hints,
 }
 
 impl Model for PairObstacles {
@@ -32,7 +35,11 @@ impl PairObstacles {
     pub fn new(alloc: Global, pairs: Pairs) -> PairObstacles
         ensures { result ≡ pairs }
     {
-        PairObstacles { alloc, pairs }
+        PairObstacles {
+            alloc,
+            pairs,
+            hints: no_hints(alloc),
+        }
     }
 
     /// The answers that it holds. Takes no memory.
@@ -61,6 +68,13 @@ impl Obstacles for PairObstacles {
         masks: &[ItemMask],
         step: &Step,
     ) -> Result<Option<Obstacle>, AllocError> {
-        step_obstacle(self.alloc, &mut self.pairs, sheet, masks, step)
+        step_obstacle(
+            self.alloc,
+            &mut self.pairs,
+            &mut self.hints,
+            sheet,
+            masks,
+            step,
+        )
     }
 }

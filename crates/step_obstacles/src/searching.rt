@@ -38,7 +38,7 @@ fn place_of(moved: &DeclAt<'_>, number: u32) -> PairPlace
 }
 
 /// The obstacle of the pair of a selector of this number and what it faces.
-fn named(moved: &DeclAt<'_>, number: u32, facing: &Facing<'_>) -> Obstacle
+pub(crate) fn named(moved: &DeclAt<'_>, number: u32, facing: &Facing<'_>) -> Obstacle
     ensures { result ≡ record { moved = record { item = moved.now.item; sel = number; decl = moved.now.number }; other = turns.other_of facing.now } }
 {
     Obstacle {

@@ -13,6 +13,7 @@ ghost use Rattle.sheet_order.specs.Narrow.{CanBePlanned};
 ghost use Rattle.sheet_order.specs.Taking as taking;
 ghost use Rattle.step_laws.specs.Free.{IsFree};
 ghost use Rattle.step_laws.specs.Steps.{HasStep, IsStep};
+ghost use Rattle.step_obstacles.specs.Hinted.{IsFirstOf};
 ghost use Rattle.step_obstacles.specs.StepWindow.{AreThere, IsToldBy, IsWindowFor};
 ghost use Rattle.step_obstacles.specs.Turns as turns;
 ghost use Rattle.window_laws.specs.StepWindows as windows;
@@ -20,10 +21,12 @@ ghost use Rattle.window_laws.specs.StepWindows as windows;
 use crate::behind::{rule_is_behind, takes_rule};
 use crate::decl_masks::{bits_of, masks_of};
 use crate::facing::Source;
+use crate::hinted::by_hint;
+use crate::hints::{Hints, Way, hint_of, mover_of, note_found, way_of};
 use crate::left_parts::left_by;
 use crate::specificities::specificities_of;
 use crate::window_search::in_window;
-use css_model::Sheet;
+use css_model::{Rule, Sheet};
 use item_masks::ItemMask;
 use obstacles::Obstacle;
 use overlap::Pairs;
@@ -134,9 +137,9 @@ fn moved_of(step: &Step) -> Moved
     }
 }
 
-/// Whether what a step moves is nearer to the last item of its window than to the first.
-fn begins_below(step: &Step) -> bool {
-    !matches!(step, Step::JoinSelDown { .. } | Step::JoinDeclDown { .. })
+/// Whether what is moved so is nearer to the last item of the window than to the first.
+fn is_from_below(way: Way) -> bool {
+    !matches!(way, Way::Down)
 }
 
 /// What blocks of the pairs of the rule of this number. A cut takes most rules whose pairs all stand below; then no item above
@@ -185,8 +188,8 @@ fn by_common(
     in_window(alloc, pairs, window, &[above, below], upwards)
 }
 
-/// What blocks of the pairs that are moved.
-fn by_moved(
+/// What blocks of the pairs that are moved, looked for among all items of the window.
+fn by_search(
     alloc: Global,
     pairs: &mut Pairs,
     window: &Window<'_>,
@@ -208,13 +211,70 @@ fn by_moved(
     }
 }
 
+/// The rule of this number, of which nothing is looked up. Takes no memory.
+fn bare<'a>(alloc: Global, sheet: &'a Sheet, item: u32, with: Option<&'a Rule>) -> Source<'a>
+    requires rule { (r : RuleParts) × (slice_get sheet.now.items item ≡ Some (kinds.Rule r)) }
+    ensures item { result.item ≡ item }
+    ensures with { result.with ≡ with.entry }
+    ensures rule { slice_get sheet.now.items item ≡ Some (kinds.Rule result.rule.now) }
+{
+    Source {
+        item,
+        rule: rule_at(sheet, item),
+        with,
+        masks: Vec::new(alloc),
+        mask: 0,
+        specificities: Vec::new(alloc),
+    }
+}
+
+/// The rule that is moved, of two the upper one, of which nothing is looked up. Takes no memory.
+fn first_moved<'a>(alloc: Global, sheet: &'a Sheet, moved: &Moved) -> Source<'a>
+    requires there { AreThere sheet.now.items moved.now }
+    ensures { IsFirstOf sheet.now.items moved.now result }
+{
+    match *moved {
+        Moved::Rule(item) => bare(alloc, sheet, item, None),
+        Moved::Common { upper, lower } => bare(alloc, sheet, upper, Some(rule_at(sheet, lower))),
+    }
+}
+
+/// What blocks of the pairs that are moved: what blocked them before, if it does still, or else what is looked for.
+#[tactic(auto, using(crate::proofs::HeldAnswers::stays_on, crate::proofs::Hinting::first_there, crate::proofs::Hinting::told_first))]
+fn by_moved(
+    alloc: Global,
+    pairs: &mut Pairs,
+    hints: &mut Hints,
+    window: &Window<'_>,
+    sheet: &Sheet,
+    moved: &Moved,
+    way: Way,
+) -> Result<Option<Obstacle>, AllocError>
+    requires askable { turns.IsAskable sheet.now.items }
+    requires items { window.now.items.now ≡ sheet.now.items }
+    requires there { AreThere sheet.now.items moved.now }
+    ensures stays { Stays pairs.old pairs.new }
+    ensures told { IfOk result (λ found. IsToldBy pairs.new.answers sheet.now.items moved.now window.now found) }
+{
+    let first = first_moved(alloc, sheet, moved);
+    let mover = mover_of(first.rule, way);
+    if let Some(found) = by_hint(pairs, window, &first, hint_of(hints, mover))? {
+        return Ok(Some(found));
+    }
+    let found = by_search(alloc, pairs, window, sheet, moved, is_from_below(way))?;
+    note_found(alloc, hints, &sheet.items, mover, found)?;
+    Ok(found)
+}
+
 /// What blocks a step of a sheet, and `None` where it is free, by the answers for pairs of selectors, which are
 /// asked for. All that was answered stays, and the budget, also after `AllocError`. The time is that of a look at
-/// each moved pair with each pair of the items from the step's first to its last one, of a cut of all items above. The
-/// memory is that of the masks of what is moved, besides that of answers: no part of a rule is copied.
+/// each moved pair with each pair of the items from the step's first to its last one, of a cut of all items above, and
+/// less where what blocked before does still. The memory is that of the masks of what is moved, besides that of answers
+/// and of hints: no part of a rule is copied.
 pub(crate) fn step_obstacle(
     alloc: Global,
     pairs: &mut Pairs,
+    hints: &mut Hints,
     sheet: &Sheet,
     masks: &[ItemMask],
     step: &Step,
@@ -234,5 +294,5 @@ pub(crate) fn step_obstacle(
     windows_tell_kept();
     let window = window_of(sheet, masks, step);
     let moved = moved_of(step);
-    by_moved(alloc, pairs, &window, sheet, &moved, begins_below(step))
+    by_moved(alloc, pairs, hints, &window, sheet, &moved, way_of(step))
 }
