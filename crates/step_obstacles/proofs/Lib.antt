@@ -12,4 +12,5 @@ mod Named
 mod PairAnswers
 mod Sources
 mod Turning
+mod Unlike
 mod WindowFacts
