@@ -13,4 +13,5 @@ mod PairAnswers
 mod Sources
 mod SpentRules
 mod Turning
+mod Unlike
 mod WindowFacts

@@ -51,10 +51,10 @@ taken_next {X} (y ∷ xs) (suc i) x h = which (taken_next xs i x) (Contains-cons
     which ih (inl e) = inl (subst (λ (z : X). Contains (y ∷ take i xs) z) e (Contains-here y (take i xs)))
     which ih (inr g) = later (ih g)
 
-taken_more : {X : Type 0} (xs : List X) (i : ℕ) (x : X) → Contains (take (i + 1) xs) x → Contains (take i xs) x ⊎ (slice_get xs i ≡ Some x)
+pub taken_more : {X : Type 0} (xs : List X) (i : ℕ) (x : X) → Contains (take (i + 1) xs) x → Contains (take i xs) x ⊎ (slice_get xs i ≡ Some x)
 taken_more {X} xs i x h = taken_next xs i x (let e : i + 1 ≡ suc i = omega arith in subst (λ (n : ℕ). Contains (take n xs) x) e h)
 
-taken_all : {X : Type 0} (xs : List X) (i : ℕ) → length xs ≤ i → take i xs ≡ xs
+pub taken_all : {X : Type 0} (xs : List X) (i : ℕ) → length xs ≤ i → take i xs ≡ xs
 taken_all {X} [] zero less = refl
 taken_all {X} [] (suc i) less = refl
 taken_all {X} (y ∷ xs) zero less = absurd (omega arith)

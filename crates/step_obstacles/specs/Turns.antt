@@ -121,6 +121,16 @@ pub record IsMasked (s : Source) : Type 0 where
 abbrev pub AreMasked : List Source → Type 0
 AreMasked sources = (s : Source) → Contains sources s → IsMasked s
 
+-- one of some selectors has a specificity that is among these
+abbrev pub HaveOneOf : List Specificity → List SelItem → Type 0
+HaveOneOf specificities selectors = (x : SelItem) × Contains selectors x × Contains specificities (specificity_of x.selector)
+
+-- a pair of an item may weigh with one of a rule: both have a specificity in common, or it is kept
+abbrev pub ItemMayWeigh : Source → Item → Type 0
+ItemMayWeigh s (kinds.Rule r) = HaveOneOf s.specificities.items r.selectors
+ItemMayWeigh s (kinds.KeptRule k) = Unit {0}
+ItemMayWeigh s (kinds.KeptBlock k) = Unit {0}
+
 -- masks of all declarations of an item, if it is a rule
 abbrev pub AreMasksIn : Item → List ℕ → Type 0
 AreMasksIn (kinds.Rule r) masks = masks ≡ map (mask_in None) r.decls

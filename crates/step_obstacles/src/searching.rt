@@ -17,7 +17,7 @@ use crate::decl_masks::{mask_at, masks_in};
 use crate::facing::{DeclAt, Facing, Met, MovedDecl, Source};
 use crate::known::{Known, note, noted};
 use crate::rule_parts::{decl_count, decl_of, selector_count, selector_of};
-use crate::specificities::{specificity_at, specificity_in_profile};
+use crate::specificities::{item_may_weigh, specificity_at, specificity_in_profile};
 use css_model::{Decl, Item, Rule};
 use obstacles::{Obstacle, PairPlace};
 use overlap::Pairs;
@@ -484,7 +484,8 @@ fn of_each(
     Ok(None)
 }
 
-/// Of a rule with an item of this mask, which is passed over where the masks have no bit in common.
+/// Of a rule with an item of this mask, which is passed over where the masks have no bit in common, or no specificity of
+/// the item is one of the rule.
 #[tactic(auto, using(crate::proofs::HeldAnswers::stays_itself))]
 pub(crate) fn of_source(
     alloc: Global,
@@ -507,6 +508,9 @@ pub(crate) fn of_source(
     ensures known { IsKnown window.now known.new }
 {
     if source.mask & mask == 0 {
+        return Ok(None);
+    }
+    if !item_may_weigh(window, source, item, number) {
         return Ok(None);
     }
     let masks = masks_in(alloc, item)?;
