@@ -9,6 +9,7 @@ mod Owned
 mod Ranks
 mod Results
 mod Rules
+mod Sharing
 mod FromLabel
 mod StepParts
 mod Telling

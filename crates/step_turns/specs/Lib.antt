@@ -5,3 +5,4 @@ pub mod Named
 pub mod Once
 pub mod PastWalls
 pub mod Seconds
+pub mod Shares

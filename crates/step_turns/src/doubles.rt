@@ -4,13 +4,28 @@ ghost use Rattle.std.specs.Prelude.{◌≡◌, ◌≢◌, ◌↔◌, IfOk, IsTru
 ghost use Rattle.std.specs.List.{AllPairs};
 ghost use Rattle.step_turns.specs.Once.{StandOnce};
 
-use css_model::Rule;
+use css_model::{DeclItem, Rule};
 use rule_tables::{decl_digests, selector_digests};
 use std::alloc::{AllocError, Global};
 use std::collections::BTreeSet;
+use step_savings::has_decl;
 
 /// Of fewer parts than this each is compared with each.
 const FEW: usize = 16;
+
+/// Whether no two of the declarations are the same. Each is compared with each.
+pub(crate) fn are_decls_different(decls: &[DeclItem]) -> bool
+    ensures { result ≡ true → StandOnce (λ x. x.decl) decls.now }
+{
+    let mut rest = decls;
+    'rest: while let Some((first, behind)) = rest.split_first() {
+        if has_decl(behind, &first.decl) {
+            return false;
+        }
+        rest = behind;
+    }
+    true
+}
 
 /// Whether no two of the numbers are equal.
 fn are_different(alloc: Global, numbers: Vec<u32>) -> Result<bool, AllocError>
@@ -32,12 +47,12 @@ pub(crate) fn selectors_stand_once(alloc: Global, rule: &Rule) -> Result<bool, A
     are_different(alloc, digests)
 }
 
-/// And so of declarations.
+/// And so of declarations; where they are few, each is compared with each.
 pub(crate) fn decls_stand_once(alloc: Global, rule: &Rule) -> Result<bool, AllocError>
     ensures { IfOk result (λ once. once ≡ true → StandOnce (λ x. x.decl) rule.now.decls) }
 {
     if rule.decls.len() < FEW {
-        return Ok(false);
+        return Ok(are_decls_different(&rule.decls));
     }
     let digests = decl_digests(alloc, &rule.decls)?;
     are_different(alloc, digests)

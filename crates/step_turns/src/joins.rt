@@ -10,13 +10,15 @@ ghost use Rattle.step_laws.specs.Steps.{first_item, last_item};
 ghost use Rattle.step_savings.specs.Apart.{RulesApart};
 ghost use Rattle.step_turns.specs.Looking.{AreLater, Covers, Keeps};
 ghost use Rattle.step_turns.specs.Marked.{rules_of};
+ghost use Rattle.step_turns.specs.Once.{DeclsStandOnce};
 ghost use Rattle.step_turns.specs.PastWalls.{IsPastWall};
 ghost use Rattle.wall_laws.specs.Renumbering.{IsOfTwo};
 
 use crate::found::Found;
 use crate::masks::{decls_differ, selectors_differ, share_no_decl};
 use crate::past_walls::is_past_wall;
-use crate::trying::{try_both, try_step};
+use crate::shares::share_saving;
+use crate::trying::{try_both, try_known, try_step};
 use lead_plan::Lead;
 use merge_plan::KnownLengths;
 use plan_board::Board;
@@ -98,7 +100,7 @@ fn try_decl_joins(
     )
 }
 
-/// Puts the turn of the share of two rules.
+/// Puts the turn of the share of two rules. `once` says that each declaration of the lower one is known to stand in it once.
 fn try_share(
     board: &Board,
     tables: &Tables,
@@ -108,6 +110,7 @@ fn try_share(
     upper: u32,
     lower: u32,
     apart: bool,
+    once: bool,
     found: &mut Found,
 ) -> Result<(), AllocError>
     requires plannable { IsPlannable source.now board.now.items }
@@ -115,6 +118,7 @@ fn try_share(
     requires upper { upper < length board.now.items }
     requires lower { lower < length board.now.items }
     requires apart { apart ≡ true → RulesApart board.now.items upper lower }
+    requires once { once ≡ true → DeclsStandOnce board.now.items lower }
     requires later { AreLater source.now board.now after.now found.old }
     requires few { length found.old.leads ≤ room }
     ensures keeps { OnOk result (Keeps found.old found.new) }
@@ -126,12 +130,16 @@ fn try_share(
         return Ok(());
     }
     let step = Step::Share { upper, lower };
+    if let Some(saving) = share_saving(board, source, upper, lower, apart, once) {
+        return try_known(board, tables, source, walls, after, &step, saving, found);
+    }
     try_step(
         board, tables, source, walls, after, &step, false, apart, found,
     )
 }
 
-/// Puts the turns of the steps of two items. Of a kind of which their masks tell that there is none, none is tried.
+/// Puts the turns of the steps of two items. Of a kind of which their masks tell that there is none, none is tried. `once`
+/// says that each declaration of the lower one is known to stand in it once.
 pub(crate) fn try_joins(
     board: &Board,
     tables: &Tables,
@@ -141,6 +149,7 @@ pub(crate) fn try_joins(
     upper: u32,
     lower: u32,
     apart: bool,
+    once: bool,
     found: &mut Found,
 ) -> Result<(), AllocError>
     requires plannable { IsPlannable source.now board.now.items }
@@ -148,6 +157,7 @@ pub(crate) fn try_joins(
     requires upper { upper < length board.now.items }
     requires lower { lower < length board.now.items }
     requires apart { apart ≡ true → RulesApart board.now.items upper lower }
+    requires once { once ≡ true → DeclsStandOnce board.now.items lower }
     requires later { AreLater source.now board.now after.now found.old }
     requires few { length found.old.leads ≤ room }
     ensures keeps { OnOk result (Keeps found.old found.new) }
@@ -163,6 +173,6 @@ pub(crate) fn try_joins(
         board, tables, source, walls, after, upper, lower, past, apart, found,
     )?;
     try_share(
-        board, tables, source, walls, after, upper, lower, apart, found,
+        board, tables, source, walls, after, upper, lower, apart, once, found,
     )
 }

@@ -12,6 +12,7 @@ mod next;
 mod order;
 mod past_walls;
 mod scopes;
+mod shares;
 mod standing;
 mod trying;
 

@@ -111,7 +111,7 @@ fn selector_count(rule: &Rule) -> usize
     rule.selectors.len()
 }
 
-/// The first turn of the cuts of a rule.
+/// Puts the turns of the cuts of a rule. `once` says that each of its declarations is known to stand in it once.
 fn try_cuts(
     alloc: Global,
     board: &Board,
@@ -121,11 +121,13 @@ fn try_cuts(
     after: &Lead,
     number: u32,
     rule: &Rule,
+    once: bool,
     found: &mut Found,
 ) -> Result<(), AllocError>
     requires plannable { IsPlannable source.now board.now.items }
     requires cover { Cover tables.now (rules_of board.now) }
     requires rule { slice_get board.now.items number ≡ Some (item.Rule rule.now) }
+    requires once { once ≡ true → DeclsStandOnce board.now.items number }
     requires later { AreLater source.now board.now after.now found.old }
     requires few { length found.old.leads ≤ room }
     ensures keeps { OnOk result (Keeps found.old found.new) }
@@ -136,13 +138,20 @@ fn try_cuts(
     parts_are_few();
     let decls = decl_count(rule) as u32;
     let selectors = selector_count(rule) as u32;
-    let once = decls_stand_once(alloc, rule)?;
     try_decl_cuts(
         board, tables, source, walls, after, number, decls, once, found,
     )?;
-    let once = selectors_stand_once(alloc, rule)?;
+    let selectors_once = selectors_stand_once(alloc, rule)?;
     try_selector_cuts(
-        board, tables, source, walls, after, number, selectors, once, found,
+        board,
+        tables,
+        source,
+        walls,
+        after,
+        number,
+        selectors,
+        selectors_once,
+        found,
     )
 }
 
@@ -179,7 +188,8 @@ fn are_apart(board: &Board, told: &Option<BTreeSet<u32>>, number: u32, other: u3
     is_apart_there(board, told, other)
 }
 
-/// Puts the turns of the steps of an item and another one with this label.
+/// Puts the turns of the steps of an item and another one with this label. `once` says that each declaration of the first
+/// one is known to stand in it once.
 fn try_partner(
     board: &Board,
     tables: &Tables,
@@ -189,12 +199,14 @@ fn try_partner(
     number: u32,
     label: u64,
     told: &Option<BTreeSet<u32>>,
+    once: bool,
     found: &mut Found,
 ) -> Result<(), AllocError>
     requires plannable { IsPlannable source.now board.now.items }
     requires cover { Cover tables.now (rules_of board.now) }
     requires there { number < length board.now.items }
     requires told { (r : RuleParts) → slice_get board.now.items number ≡ Some (item.Rule r) → Tells told.now r }
+    requires once { once ≡ true → DeclsStandOnce board.now.items number }
     requires owned { slice_index (births_of board.now.marks) number ≡ after.now.owner }
     requires later { AreLater source.now board.now after.now found.old }
     requires few { length found.old.leads ≤ room }
@@ -215,11 +227,11 @@ fn try_partner(
     let apart = are_apart(board, told, number, other);
     if other < number {
         try_joins(
-            board, tables, source, walls, after, other, number, apart, found,
+            board, tables, source, walls, after, other, number, apart, once, found,
         )
     } else {
         try_joins(
-            board, tables, source, walls, after, number, other, apart, found,
+            board, tables, source, walls, after, number, other, apart, false, found,
         )
     }
 }
@@ -234,12 +246,14 @@ fn try_partners(
     number: u32,
     labels: &[u64],
     told: &Option<BTreeSet<u32>>,
+    once: bool,
     found: &mut Found,
 ) -> Result<(), AllocError>
     requires plannable { IsPlannable source.now board.now.items }
     requires cover { Cover tables.now (rules_of board.now) }
     requires there { number < length board.now.items }
     requires told { (r : RuleParts) → slice_get board.now.items number ≡ Some (item.Rule r) → Tells told.now r }
+    requires once { once ≡ true → DeclsStandOnce board.now.items number }
     requires owned { slice_index (births_of board.now.marks) number ≡ after.now.owner }
     requires later { AreLater source.now board.now after.now found.old }
     requires few { length found.old.leads ≤ room }
@@ -251,7 +265,7 @@ fn try_partners(
     let mut rest = labels;
     'rest: while let Some((label, behind)) = rest.split_first() {
         try_partner(
-            board, tables, source, walls, after, number, *label, told, found,
+            board, tables, source, walls, after, number, *label, told, once, found,
         )?;
         rest = behind;
     }
@@ -294,13 +308,14 @@ pub fn next_leads(
     let Some(rule) = find_rule(board.sheet(), number) else {
         return Ok(found);
     };
+    let once = decls_stand_once(alloc, rule)?;
     try_cuts(
-        alloc, board, tables, source, walls, after, number, rule, &mut found,
+        alloc, board, tables, source, walls, after, number, rule, once, &mut found,
     )?;
     let partners = tables.partners(alloc, rule)?;
     let told = told_digests(alloc, rule)?;
     try_partners(
-        board, tables, source, walls, after, number, &partners, &told, &mut found,
+        board, tables, source, walls, after, number, &partners, &told, once, &mut found,
     )?;
     Ok(found)
 }

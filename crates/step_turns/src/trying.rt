@@ -3,12 +3,14 @@
 ghost use Rattle.std.specs.Prelude.{◌≡◌, ◌↔◌, ◌≤◌, OnOk, length, true};
 ghost use Rattle.lead_laws.specs.BoardWalls.{IsWalled};
 ghost use Rattle.lead_plan.specs.Weights.{room};
+ghost use Rattle.merge_plan.specs.Planning.{IsSaving};
 ghost use Rattle.plan_laws.specs.Plannable.{IsPlannable};
 ghost use Rattle.rule_tables.specs.Tables.{Cover};
 ghost use Rattle.step_laws.specs.Steps.{HasStep};
 ghost use Rattle.step_savings.specs.Apart.{StepApart};
 ghost use Rattle.step_turns.specs.Looking.{AreLater, Covers, Keeps};
 ghost use Rattle.step_turns.specs.Marked.{rules_of};
+ghost use Rattle.step_turns.specs.Named.{IsLedBeside};
 ghost use Rattle.step_turns.specs.Once.{PartsStandOnce};
 
 use crate::cuts::is_step_of;
@@ -21,6 +23,71 @@ use plan_board::Board;
 use rule_tables::Tables;
 use std::alloc::AllocError;
 use step_laws::Step;
+
+/// Puts the turn of a step of the sheet that saves so much to those that were found, if it is something and the turn comes later
+/// than the lead `after`, in whose scope it is.
+fn put_saving(
+    board: &Board,
+    source: &KnownLengths<'_>,
+    walls: &[u64],
+    after: &Lead,
+    step: &Step,
+    saving: u32,
+    found: &mut Found,
+) -> Result<(), AllocError>
+    requires has { HasStep board.now.items step.now }
+    requires beside { IsLedBeside board.now after.now step.now }
+    requires saving { IsSaving source.now board.now.items step.now saving }
+    requires later { AreLater source.now board.now after.now found.old }
+    requires few { length found.old.leads ≤ room }
+    ensures keeps { OnOk result (Keeps found.old found.new) }
+    ensures covers { OnOk result (Covers source.now board.now walls.now after.now found.new step.now) }
+    ensures later { OnOk result (AreLater source.now board.now after.now found.new) }
+    ensures few { length found.new.leads ≤ room }
+{
+    if saving == 0 {
+        return Ok(());
+    }
+    let lead = lead_of(board, step, saving, after);
+    if !is_sooner(after, &lead) {
+        return Ok(());
+    }
+    found.put(lead)
+}
+
+/// Puts the turn of a step to those that were found, of which it is known what it saves, if it is one of the sheet in the scope
+/// of the lead `after` and comes later than the lead.
+pub(crate) fn try_known(
+    board: &Board,
+    tables: &Tables,
+    source: &KnownLengths<'_>,
+    walls: &[u64],
+    after: &Lead,
+    step: &Step,
+    saving: u32,
+    found: &mut Found,
+) -> Result<(), AllocError>
+    requires plannable { IsPlannable source.now board.now.items }
+    requires cover { Cover tables.now (rules_of board.now) }
+    requires saving { IsSaving source.now board.now.items step.now saving }
+    requires later { AreLater source.now board.now after.now found.old }
+    requires few { length found.old.leads ≤ room }
+    ensures keeps { OnOk result (Keeps found.old found.new) }
+    ensures covers { OnOk result (Covers source.now board.now walls.now after.now found.new step.now) }
+    ensures later { OnOk result (AreLater source.now board.now after.now found.new) }
+    ensures few { length found.new.leads ≤ room }
+{
+    if saving == 0 {
+        return Ok(());
+    }
+    if !is_step_of(board, tables, step, false) {
+        return Ok(());
+    }
+    if !is_beside(board, after, step) {
+        return Ok(());
+    }
+    put_saving(board, source, walls, after, step, saving, found)
+}
 
 /// Puts the turn of a step of the sheet to those that were found, if it is in the scope of the lead `after`, saves something
 /// and comes later than the lead. `apart` says that the rules of a step of two items are known to have no selector in common.
@@ -47,14 +114,7 @@ fn put_turn(
         return Ok(());
     }
     let saving = saved_if_apart(source, board.sheet(), step, apart);
-    if saving == 0 {
-        return Ok(());
-    }
-    let lead = lead_of(board, step, saving, after);
-    if !is_sooner(after, &lead) {
-        return Ok(());
-    }
-    found.put(lead)
+    put_saving(board, source, walls, after, step, saving, found)
 }
 
 /// Puts the turn of a step to those that were found, if that is one of the sheet in the scope of the lead `after`, saves

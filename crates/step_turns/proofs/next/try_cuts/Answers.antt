@@ -1,5 +1,4 @@
 use Rattle.std.proofs.Common.{◌≤◌, length, subst, arith}
-use Rattle.css_model.specs.declared.sheet.DeclItem.{DeclItem}
 use Rattle.css_model.specs.declared.sheet.SelItem.{SelItem}
 use Rattle.css_model.specs.Sheets.Limits.{max_bytes}
 use Rattle.css_model.specs.Sheets.RuleParts.{RuleParts}
@@ -21,13 +20,9 @@ pub overflow_cast-selectors : goal.overflow_cast-selectors
 overflow_cast-selectors c =
     let m : length c.args.rule.now.selectors ≤ max_bytes = (rule_is_small c.parts_are_few.ensures c.args.source.now c.args.board.now.items c.requires.plannable c.args.number c.args.rule.now c.requires.rule).1 in omega (arith, m)
 
-pub try_decl_cuts-requires-clause-once : goal.try_decl_cuts-requires-clause-once
-try_decl_cuts-requires-clause-once c = λ once r at.
-    subst (λ (q : RuleParts). StandOnce (λ (x : DeclItem). x.decl) q.decls) (one_rule c.args.board.now.items c.args.number c.args.rule.now r c.requires.rule at) (c.in_ok-once.ensures once)
-
 pub try_selector_cuts-requires-clause-once : goal.try_selector_cuts-requires-clause-once
 try_selector_cuts-requires-clause-once c = λ once r at.
-    subst (λ (q : RuleParts). StandOnce (λ (x : SelItem). x.selector) q.selectors) (one_rule c.args.board.now.items c.args.number c.args.rule.now r c.requires.rule at) (c.in_ok-once-2.ensures once)
+    subst (λ (q : RuleParts). StandOnce (λ (x : SelItem). x.selector) q.selectors) (one_rule c.args.board.now.items c.args.number c.args.rule.now r c.requires.rule at) (c.in_ok-selectors_once.ensures once)
 
 pub returns-clause-keeps : goal.returns-clause-keeps
 returns-clause-keeps c = on_ok c.try_selector_cuts.result (Keeps c.try_decl_cuts.new.found c.try_selector_cuts.new.found) _

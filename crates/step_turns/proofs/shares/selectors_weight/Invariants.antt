@@ -1,0 +1,18 @@
+use Rattle.std.proofs.Common.{◌≡◌, ◌+◌, ◌≤◌, length}
+use Rattle.std.specs.List.{AllByRecursion}
+use Rattle.css_model.specs.Sheets.Limits.{max_bytes}
+use Rattle.css_model.specs.Sheets.Printed.{printed_selector}
+use Rattle.css_model.specs.Sheets.Sound.{IsSoundSelector}
+use Rattle.step_laws.specs.Sizes.{weight}
+use Rattle.step_turns.proofs.shares.selectors_weight.Given as goal
+
+-- what is counted, and what is left
+abbrev pub invariant-rest : goal.invariant-rest
+invariant-rest l = record {
+  counted : l.total + weight (printed_selector l.source) l.rest ≡ weight (printed_selector l.source) l.initial.rest;
+  sound : AllByRecursion (IsSoundSelector l.source) l.rest;
+  small : l.total + weight (printed_selector l.source) l.rest ≤ max_bytes;
+}
+
+abbrev pub decreases-rest : goal.decreases-rest
+decreases-rest l = length l.rest
