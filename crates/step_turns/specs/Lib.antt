@@ -3,5 +3,4 @@ pub mod Looking
 pub mod Marked
 pub mod Named
 pub mod Once
-pub mod PastWalls
 pub mod Seconds
