@@ -9,6 +9,7 @@ mod Led
 mod Names
 mod Ordered
 mod Rooms
+mod WalledItems
 mod WalledJoins
 mod WalledTurns
 mod Walling

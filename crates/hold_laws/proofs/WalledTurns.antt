@@ -1,14 +1,13 @@
 -- The turns of all joins that a wall hinders.
-use Rattle.std.proofs.Common.{◌≡◌, ◌≢◌, ◌⊎◌, ℕ, zero, suc, ◌+◌, ◌<◌, ◌≤◌, List, [], ◌∷◌, ◌++◌, length, Some, refl, sym, ap, ◌∙◌, subst, inl, inr, arith}
-use Rattle.std.specs.Prelude.{slice_get, slice_index}
-use Rattle.std.specs.List.{AllPairs, Contains, flat_map}
+use Rattle.std.proofs.Common.{◌≡◌, ◌⊎◌, ℕ, zero, suc, ◌+◌, ◌-◌, ◌<◌, ◌≤◌, List, [], ◌∷◌, length, refl, sym, ap, ◌∙◌, subst, inl, inr, arith}
+use Rattle.std.specs.Prelude.{slice_index}
+use Rattle.std.specs.List.{Contains, flat_map}
 use Rattle.std.proofs.lemmas.Bool.{cases_lt}
 use Rattle.std.proofs.lemmas.Option.{slice_get_within}
 use Rattle.std.proofs.lemmas.List.{length-append}
 use Rattle.css_model.specs.declared.sheet.Item.{Item}
 use Rattle.css_model.specs.declared.sheet.Item.TheVariants.{Rule}
 use Rattle.css_model.specs.Cascade.Order.{Pair}
-use Rattle.css_model.specs.Sheets.RuleParts.{RuleParts}
 use Rattle.list_facts.proofs.Members.{Contains-here, Contains-there, Contains-nil, Contains-cons_cases}
 use Rattle.order_laws.specs.Edits.{Edit}
 use Rattle.order_laws.proofs.ForCallers.{flat_map_has, flat_map_from}
@@ -20,174 +19,230 @@ use Rattle.step_laws.specs.Sizes.{Saves}
 use Rattle.step_laws.specs.Steps.{IsStep, first_item, last_item}
 use Rattle.wall_laws.specs.Holding.{Hindrance, OfPair, Hinders, Aside}
 use Rattle.wall_laws.specs.Renumbering.{renumbered}
-use Rattle.wall_laws.specs.Walls.{IsWall}
 use Rattle.hold_laws.specs.Births.{AreBirths}
-use Rattle.hold_laws.specs.Scopes.{IsUp}
+use Rattle.hold_laws.specs.declared.way.Way.{Way}
+use Rattle.hold_laws.specs.declared.way.Way.TheVariants.{Up, Down}
 use Rattle.hold_laws.specs.Turns.{named}
-use Rattle.hold_laws.specs.Walled.{WalledJoinsAreHindered}
-use Rattle.hold_laws.specs.WalledTurns.{numbers_below, ups_of, walled_turns}
+use Rattle.hold_laws.specs.Walled.{IsWalledBy, WalledMovesAreHindered}
+use Rattle.hold_laws.specs.WalledTurns.{moves_of, numbers_from, numbers_past, walled_turns}
+use Rattle.hold_laws.specs.Ways.{decl_move, mover, partner, selector_move, IsMove, IsPast}
 use Rattle.hold_laws.proofs.Born.{within}
 
--- ---- Numbers below one
+-- ---- Numbers past one
 
-is_below : (count n : ℕ) → n < count → Contains (numbers_below count) n
-is_below zero n less = absurd (omega (arith, less))
-is_below (suc count) n less = which (cases_lt n count) (is_below count n)
+is_among : (first count n : ℕ) → first ≤ n → n < first + count → Contains (numbers_from first count) n
+is_among first zero n most less = absurd (omega (arith, most, less))
+is_among first (suc count) n most less = which (cases_lt n (first + count)) (is_among first count n most)
   where
-    which : (n < count) ⊎ (count ≤ n) → (n < count → Contains (numbers_below count) n) → Contains (count ∷ numbers_below count) n
-    which (inl l) rest = Contains-there count (numbers_below count) n (rest l)
-    which (inr more) rest = let e : count ≡ n = omega (arith, more, less) in subst (Contains (count ∷ numbers_below count)) e (Contains-here count (numbers_below count))
+    which : (n < first + count) ⊎ (first + count ≤ n) → (n < first + count → Contains (numbers_from first count) n) → Contains ((first + count) ∷ numbers_from first count) n
+    which (inl l) rest = Contains-there (first + count) (numbers_from first count) n (rest l)
+    which (inr more) rest = let e : first + count ≡ n = omega (arith, more, less) in subst (Contains ((first + count) ∷ numbers_from first count)) e (Contains-here (first + count) (numbers_from first count))
 
-below_is : (count n : ℕ) → Contains (numbers_below count) n → n < count
-below_is zero n among = absurd (Contains-nil n among)
-below_is (suc count) n among = which (Contains-cons_cases count (numbers_below count) n among) (below_is count n)
+among_is : (first count n : ℕ) → Contains (numbers_from first count) n → (first ≤ n) × (n < first + count)
+among_is first zero n among = absurd (Contains-nil n among)
+among_is first (suc count) n among = which (Contains-cons_cases (first + count) (numbers_from first count) n among) (among_is first count n)
   where
-    which : (count ≡ n) ⊎ Contains (numbers_below count) n → (Contains (numbers_below count) n → n < count) → n < suc count
-    which (inl e) rest = omega (arith, e)
-    which (inr h) rest = let less : n < count = rest h in omega (arith, less)
+    which : (first + count ≡ n) ⊎ Contains (numbers_from first count) n → (Contains (numbers_from first count) n → (first ≤ n) × (n < first + count)) → (first ≤ n) × (n < first + suc count)
+    which (inl e) rest = (omega (arith, e), omega (arith, e))
+    which (inr h) rest = let w : (first ≤ n) × (n < first + count) = rest h in (w.0, (let less = w.1 in omega (arith, less)))
+
+is_past : (way : Way) (place count n : ℕ) → n < count → IsPast way place n → Contains (numbers_past way place count) n
+is_past Up place count n less past = is_among 0 place n (omega arith) (let l : n < place = past in omega (arith, l))
+is_past Down place count n less past =
+    let l : place < n = past in
+    is_among (suc place) (count - suc place) n (omega (arith, l)) (omega (arith, l, less))
+
+past_is : (way : Way) (place count n : ℕ) → place < count → Contains (numbers_past way place count) n → (n < count) × IsPast way place n
+past_is Up place count n inside among = let w : (0 ≤ n) × (n < 0 + place) = among_is 0 place n among in let less : n < 0 + place = w.1 in (omega (arith, less, inside), (let l : n < place = omega (arith, less) in l))
+past_is Down place count n inside among =
+    let w : (suc place ≤ n) × (n < suc place + (count - suc place)) = among_is (suc place) (count - suc place) n among in
+    let most : suc place ≤ n = w.0 in
+    let less : n < suc place + (count - suc place) = w.1 in
+    (omega (arith, less, inside), (let l : place < n = omega (arith, most) in l))
 
 -- ---- What is among the turns
 
--- the turn is that of a join up into the item of a number, that saves so much
-pub record IsUpTurn (births : List ℕ) (by : Hindrance) (y split : ℕ) (a : Aside) : Type 0 where
-  pub x : ℕ
+-- the turn is that of a join of an item into another one, that saves so much
+pub record IsMoveTurn (births : List ℕ) (by : Hindrance) (way : Way) (m place count : ℕ) (a : Aside) : Type 0 where
+  pub o : ℕ
   pub n : ℕ
-  pub less : x < split
+  pub past : Contains (numbers_past way place count) o
   pub by_is : by ≡ a.by
-  pub turn_is : (a.turn ≡ named births n (JoinSelUp x y)) ⊎ (a.turn ≡ named births n (JoinDeclUp x y))
+  pub turn_is : (a.turn ≡ named births n (selector_move way m o)) ⊎ (a.turn ≡ named births n (decl_move way m o))
 
-up_turn : (births : List ℕ) (by : Hindrance) (y split most : ℕ) (a : Aside) → Contains (walled_turns births by y split most) a → IsUpTurn births by y split a
-up_turn births by y split most a among =
-    let w : (x : ℕ) × Contains (numbers_below split) x × Contains (flat_map (ups_of births by y x) (numbers_below (suc most))) a =
-    flat_map_from (λ (x : ℕ). flat_map (ups_of births by y x) (numbers_below (suc most))) (numbers_below split) a among in
-    let v : (n : ℕ) × Contains (numbers_below (suc most)) n × Contains (ups_of births by y w.0 n) a = flat_map_from (ups_of births by y w.0) (numbers_below (suc most)) a w.2 in
-    which w.0 v.0 (below_is split w.0 w.1)
-    (Contains-cons_cases (record { turn = named births v.0 (JoinSelUp w.0 y); by = by }) (record { turn = named births v.0 (JoinDeclUp w.0 y); by = by } ∷ []) a v.2)
+abbrev by_selectors : List ℕ → Hindrance → Way → (m o n : ℕ) → Aside
+by_selectors births by way m o n = record { turn = named births n (selector_move way m o); by = by }
+
+abbrev by_decls : List ℕ → Hindrance → Way → (m o n : ℕ) → Aside
+by_decls births by way m o n = record { turn = named births n (decl_move way m o); by = by }
+
+move_turn : (births : List ℕ) (by : Hindrance) (way : Way) (m place count most : ℕ) (a : Aside) → Contains (walled_turns births by way m place count most) a → IsMoveTurn births by way m place count a
+move_turn births by way m place count most a among =
+    let w : (o : ℕ) × Contains (numbers_past way place count) o × Contains (flat_map (moves_of births by way m o) (numbers_from 0 (suc most))) a =
+    flat_map_from (λ (o : ℕ). flat_map (moves_of births by way m o) (numbers_from 0 (suc most))) (numbers_past way place count) a among in
+    let v : (n : ℕ) × Contains (numbers_from 0 (suc most)) n × Contains (moves_of births by way m w.0 n) a = flat_map_from (moves_of births by way m w.0) (numbers_from 0 (suc most)) a w.2 in
+    which w.0 v.0 w.1 (Contains-cons_cases (by_selectors births by way m w.0 v.0) (by_decls births by way m w.0 v.0 ∷ []) a v.2)
   where
-    last : (x n : ℕ) → x < split → ((record { turn = named births n (JoinDeclUp x y); by = by }) ≡ a) ⊎ Contains [] a → IsUpTurn births by y split a
-    last x n less (inl e) = record { x = x; n = n; less = less; by_is = ap (λ (b : Aside). b.by) e; turn_is = inr (sym (ap (λ (b : Aside). b.turn) e)) }
-    last x n less (inr none) = absurd (Contains-nil a none)
+    last : (o n : ℕ) → Contains (numbers_past way place count) o → (by_decls births by way m o n ≡ a) ⊎ Contains [] a → IsMoveTurn births by way m place count a
+    last o n past (inl e) = record { o = o; n = n; past = past; by_is = ap (λ (b : Aside). b.by) e; turn_is = inr (sym (ap (λ (b : Aside). b.turn) e)) }
+    last o n past (inr none) = absurd (Contains-nil a none)
 
-    which : (x n : ℕ) → x < split → ((record { turn = named births n (JoinSelUp x y); by = by }) ≡ a) ⊎ Contains (record { turn = named births n (JoinDeclUp x y); by = by } ∷ []) a → IsUpTurn births by y split a
-    which x n less (inl e) = record { x = x; n = n; less = less; by_is = ap (λ (b : Aside). b.by) e; turn_is = inl (sym (ap (λ (b : Aside). b.turn) e)) }
-    which x n less (inr h) = last x n less (Contains-cons_cases (record { turn = named births n (JoinDeclUp x y); by = by }) [] a h)
+    which : (o n : ℕ) → Contains (numbers_past way place count) o → (by_selectors births by way m o n ≡ a) ⊎ Contains (by_decls births by way m o n ∷ []) a → IsMoveTurn births by way m place count a
+    which o n past (inl e) = record { o = o; n = n; past = past; by_is = ap (λ (b : Aside). b.by) e; turn_is = inl (sym (ap (λ (b : Aside). b.turn) e)) }
+    which o n past (inr h) = last o n past (Contains-cons_cases (by_decls births by way m o n) [] a h)
 
--- a step with the names of such a join is one
-up_by_selectors : (births : List ℕ) (x y : ℕ) (k : Step) → renumbered (λ m. slice_index births m) (JoinSelUp x y) ≡ renumbered (λ m. slice_index births m) k → IsUp k × (slice_index births y ≡ slice_index births (last_item k))
-up_by_selectors births x y (JoinSelUp u l) same = (tt, (let e : slice_index births y ≡ slice_index births l = cc in e))
-up_by_selectors births x y k same = absurd (cc)
+-- ---- A step with the names of such a join is one
 
-up_by_decls : (births : List ℕ) (x y : ℕ) (k : Step) → renumbered (λ m. slice_index births m) (JoinDeclUp x y) ≡ renumbered (λ m. slice_index births m) k → IsUp k × (slice_index births y ≡ slice_index births (last_item k))
-up_by_decls births x y (JoinDeclUp u l) same = (tt, (let e : slice_index births y ≡ slice_index births l = cc in e))
-up_by_decls births x y k same = absurd (cc)
+pub record IsLike (births : List ℕ) (way : Way) (m o : ℕ) (k : Step) : Type 0 where
+  pub move : IsMove way k
+  pub moves : slice_index births m ≡ slice_index births (mover way k)
+  pub into : slice_index births o ≡ slice_index births (partner way k)
 
-pub are_ups : (births : List ℕ) (by : Hindrance) (y split most : ℕ) (a : Aside) → Contains (walled_turns births by y split most) a →
-    (by ≡ a.by) × ((k : Step) (n : ℕ) → a.turn ≡ named births n k → IsUp k × (slice_index births y ≡ slice_index births (last_item k)))
-are_ups births by y split most a among = (t.by_is, λ k n same. which k n same t.turn_is)
+module _ (births : List ℕ) (m o : ℕ) where
+  abbrev named_step : Step → Step
+  named_step k = renumbered (λ n. slice_index births n) k
+
+  selectors_up : (k : Step) → named_step (JoinSelUp o m) ≡ named_step k → IsLike births Up m o k
+  selectors_up (JoinSelUp u l) same = record { move = tt; moves = (let e : slice_index births m ≡ slice_index births l = cc in e); into = (let e : slice_index births o ≡ slice_index births u = cc in e) }
+  selectors_up k same = absurd (cc)
+
+  decls_up : (k : Step) → named_step (JoinDeclUp o m) ≡ named_step k → IsLike births Up m o k
+  decls_up (JoinDeclUp u l) same = record { move = tt; moves = (let e : slice_index births m ≡ slice_index births l = cc in e); into = (let e : slice_index births o ≡ slice_index births u = cc in e) }
+  decls_up k same = absurd (cc)
+
+  selectors_down : (k : Step) → named_step (JoinSelDown m o) ≡ named_step k → IsLike births Down m o k
+  selectors_down (JoinSelDown u l) same = record { move = tt; moves = (let e : slice_index births m ≡ slice_index births u = cc in e); into = (let e : slice_index births o ≡ slice_index births l = cc in e) }
+  selectors_down k same = absurd (cc)
+
+  decls_down : (k : Step) → named_step (JoinDeclDown m o) ≡ named_step k → IsLike births Down m o k
+  decls_down (JoinDeclDown u l) same = record { move = tt; moves = (let e : slice_index births m ≡ slice_index births u = cc in e); into = (let e : slice_index births o ≡ slice_index births l = cc in e) }
+  decls_down k same = absurd (cc)
+
+  is_like : (way : Way) (k : Step) → (named_step (selector_move way m o) ≡ named_step k) ⊎ (named_step (decl_move way m o) ≡ named_step k) → IsLike births way m o k
+  is_like Up k (inl e) = selectors_up k e
+  is_like Up k (inr e) = decls_up k e
+  is_like Down k (inl e) = selectors_down k e
+  is_like Down k (inr e) = decls_down k e
+
+turn_is_like : (births : List ℕ) (by : Hindrance) (way : Way) (m place count : ℕ) (a : Aside) (t : IsMoveTurn births by way m place count a) (k : Step) (n : ℕ) → a.turn ≡ named births n k → IsLike births way m t.o k
+turn_is_like births by way m place count a t k n same = is_like births m t.o way k (which t.turn_is)
   where
-    t : IsUpTurn births by y split a
-    t = up_turn births by y split most a among
+    which : (a.turn ≡ named births t.n (selector_move way m t.o)) ⊎ (a.turn ≡ named births t.n (decl_move way m t.o)) →
+        (named_step births m t.o (selector_move way m t.o) ≡ named_step births m t.o k) ⊎ (named_step births m t.o (decl_move way m t.o) ≡ named_step births m t.o k)
+    which (inl e) = inl (ap (λ (u : Turn). u.step) (sym e ∙ same))
+    which (inr e) = inr (ap (λ (u : Turn). u.step) (sym e ∙ same))
 
-    which : (k : Step) (n : ℕ) → a.turn ≡ named births n k → (a.turn ≡ named births t.n (JoinSelUp t.x y)) ⊎ (a.turn ≡ named births t.n (JoinDeclUp t.x y)) → IsUp k × (slice_index births y ≡ slice_index births (last_item k))
-    which k n same (inl e) = up_by_selectors births t.x y k (ap (λ (u : Turn). u.step) (sym e ∙ same))
-    which k n same (inr e) = up_by_decls births t.x y k (ap (λ (u : Turn). u.step) (sym e ∙ same))
+pub are_moves : (births : List ℕ) (by : Hindrance) (way : Way) (m place count most : ℕ) (a : Aside) → Contains (walled_turns births by way m place count most) a →
+    (by ≡ a.by) × ((k : Step) (n : ℕ) → a.turn ≡ named births n k → IsMove way k × (slice_index births m ≡ slice_index births (mover way k)))
+are_moves births by way m place count most a among =
+    let t : IsMoveTurn births by way m place count a = move_turn births by way m place count most a among in
+    (t.by_is, λ k n same. (let l : IsLike births way m t.o k = turn_is_like births by way m place count a t k n same in (l.move, l.moves)))
 
-pub joins_walled : (births : List ℕ) (by : Hindrance) (y split most : ℕ) (k : Step) (n : ℕ) → IsUp k → first_item k < split → last_item k ≡ y → n ≤ most →
-    Contains (walled_turns births by y split most) (record { turn = named births n k; by = by })
-joins_walled births by y split most k n up less is few = by_kind k up less is
+-- ---- Each such join is among them
+
+-- it is the one by selectors or the one by declarations
+move_is : (way : Way) (k : Step) → IsMove way k → (k ≡ selector_move way (mover way k) (partner way k)) ⊎ (k ≡ decl_move way (mover way k) (partner way k))
+move_is Up (JoinSelUp x y) up = inl refl
+move_is Up (JoinDeclUp x y) up = inr refl
+move_is Up (CutDecl n i) up = absurd up
+move_is Up (CutSel n i) up = absurd up
+move_is Up (JoinSelDown x y) up = absurd up
+move_is Up (JoinDeclDown x y) up = absurd up
+move_is Up (Share x y) up = absurd up
+move_is Down (JoinSelDown x y) down = inl refl
+move_is Down (JoinDeclDown x y) down = inr refl
+move_is Down (CutDecl n i) down = absurd down
+move_is Down (CutSel n i) down = absurd down
+move_is Down (JoinSelUp x y) down = absurd down
+move_is Down (JoinDeclUp x y) down = absurd down
+move_is Down (Share x y) down = absurd down
+
+pub joins_walled : (births : List ℕ) (by : Hindrance) (way : Way) (m place count most : ℕ) (k : Step) (n : ℕ) → IsMove way k → mover way k ≡ m → partner way k < count → IsPast way place (partner way k) → n ≤ most →
+    Contains (walled_turns births by way m place count most) (record { turn = named births n k; by = by })
+joins_walled births by way m place count most k n move moves inside past few = which (move_is way k move)
   where
-    among : (x : ℕ) (a : Aside) → x < split → Contains (ups_of births by y x n) a → Contains (walled_turns births by y split most) a
-    among x a less has = flat_map_has (λ (z : ℕ). flat_map (ups_of births by y z) (numbers_below (suc most))) (numbers_below split) x a (is_below split x less)
-        (flat_map_has (ups_of births by y x) (numbers_below (suc most)) n a (is_below (suc most) n (omega (arith, few))) has)
+    among : (a : Aside) → Contains (moves_of births by way m (partner way k) n) a → Contains (walled_turns births by way m place count most) a
+    among a has = flat_map_has (λ (o : ℕ). flat_map (moves_of births by way m o) (numbers_from 0 (suc most))) (numbers_past way place count) (partner way k) a (is_past way place count (partner way k) inside past)
+        (flat_map_has (moves_of births by way m (partner way k)) (numbers_from 0 (suc most)) n a (is_among 0 (suc most) n (omega arith) (omega (arith, few))) has)
 
-    by_kind : (j : Step) → IsUp j → first_item j < split → last_item j ≡ y → Contains (walled_turns births by y split most) (record { turn = named births n j; by = by })
-    by_kind (JoinSelUp x z) up less is = subst (λ (m : ℕ). Contains (walled_turns births by y split most) (record { turn = named births n (JoinSelUp x m); by = by })) (sym is)
-        (among x (record { turn = named births n (JoinSelUp x y); by = by }) less (Contains-here (record { turn = named births n (JoinSelUp x y); by = by }) (record { turn = named births n (JoinDeclUp x y); by = by } ∷ [])))
-    by_kind (JoinDeclUp x z) up less is = subst (λ (m : ℕ). Contains (walled_turns births by y split most) (record { turn = named births n (JoinDeclUp x m); by = by })) (sym is)
-        (among x (record { turn = named births n (JoinDeclUp x y); by = by }) less
-        (Contains-there (record { turn = named births n (JoinSelUp x y); by = by }) (record { turn = named births n (JoinDeclUp x y); by = by } ∷ []) (record { turn = named births n (JoinDeclUp x y); by = by })
-        (Contains-here (record { turn = named births n (JoinDeclUp x y); by = by }) [])))
-    by_kind (CutDecl m i) up less is = absurd up
-    by_kind (CutSel m i) up less is = absurd up
-    by_kind (JoinSelDown x z) up less is = absurd up
-    by_kind (JoinDeclDown x z) up less is = absurd up
-    by_kind (Share x z) up less is = absurd up
+    of_step : (j : Step) → k ≡ j → Contains (walled_turns births by way m place count most) (record { turn = named births n j; by = by }) → Contains (walled_turns births by way m place count most) (record { turn = named births n k; by = by })
+    of_step j is has = subst (λ (i : Step). Contains (walled_turns births by way m place count most) (record { turn = named births n i; by = by })) (sym is) has
+
+    which : (k ≡ selector_move way (mover way k) (partner way k)) ⊎ (k ≡ decl_move way (mover way k) (partner way k)) → Contains (walled_turns births by way m place count most) (record { turn = named births n k; by = by })
+    which (inl e) = of_step (selector_move way m (partner way k)) (e ∙ ap (λ (i : ℕ). selector_move way i (partner way k)) moves)
+        (among (by_selectors births by way m (partner way k) n) (Contains-here (by_selectors births by way m (partner way k) n) (by_decls births by way m (partner way k) n ∷ [])))
+    which (inr e) = of_step (decl_move way m (partner way k)) (e ∙ ap (λ (i : ℕ). decl_move way i (partner way k)) moves)
+        (among (by_decls births by way m (partner way k) n) (Contains-there (by_selectors births by way m (partner way k) n) (by_decls births by way m (partner way k) n ∷ []) (by_decls births by way m (partner way k) n)
+        (Contains-here (by_decls births by way m (partner way k) n) [])))
 
 -- ---- What has such a turn is hindered
 
-module _ (hindered : WalledJoinsAreHindered) (answers : List Answered) (source : List ℕ) (above below : List Item) (births : List ℕ) (next : ℕ) (y : ℕ) (lower : RuleParts) (p q : Pair) (most : ℕ)
-    (are : AreBirths (above ++ below) births next) (wall : IsWall above below y lower p q) (apart : AreNotApart answers p.selector q.selector) where
-  abbrev items : List Item
-  items = above ++ below
+-- both items of a wall are there
+walled_within : (way : Way) (items : List Item) (m place : ℕ) (p q : Pair) → IsWalledBy way items m place p q → (m < length items) × (place < length items)
+walled_within Up items m place p q w =
+    let long : length items ≡ length w.above + length w.below = ap length w.parts ∙ length-append w.above w.below in
+    let inside : w.y < length w.below = slice_get_within w.below w.y (Rule w.lower) w.wall.pair.rule_at in
+    let m_is : m ≡ length w.above + w.y = w.mover_is in
+    let place_is : place ≡ length w.above = w.place_is in
+    (omega (arith, long, inside, m_is), omega (arith, long, inside, place_is))
+walled_within Down items m place p q w =
+    let long : length items ≡ length w.above + length w.below = ap length w.parts ∙ length-append w.above w.below in
+    let inside : m < length w.above = slice_get_within w.above m (Rule w.upper) w.floor.pair.rule_at in
+    let place_is : suc place ≡ length w.above = w.place_is in
+    (omega (arith, long, inside), omega (arith, long, place_is))
 
-  abbrev mover : ℕ
-  mover = length above + y
+-- the items of a join are those that it tells
+move_within : (way : Way) (k : Step) (count : ℕ) → (first_item k < count) × (last_item k < count) → (mover way k < count) × (partner way k < count)
+move_within Up k count inside = (inside.1, inside.0)
+move_within Down k count inside = inside
 
-  long : length births ≡ length above + length below
-  long = are.beside ∙ length-append above below
+module _ (hindered : WalledMovesAreHindered) (answers : List Answered) (source : List ℕ) (items : List Item) (births : List ℕ) (next : ℕ) (way : Way) (m place : ℕ) (p q : Pair) (most : ℕ)
+    (are : AreBirths items births next) (wall : IsWalledBy way items m place p q) (apart : AreNotApart answers p.selector q.selector) where
+  there : (m < length items) × (place < length items)
+  there = walled_within way items m place p q wall
 
-  mover_there : mover < length births
-  mover_there = let w : y < length below = slice_get_within below y (Rule lower) wall.pair.rule_at in omega (arith, long, w)
-
-  one_item : (m n : ℕ) → m < length births → n < length births → slice_index births m ≡ slice_index births n → m ≡ n
-  one_item m n here there same =
-      let not_before : m < n → ⊥ = (λ less. are.differ m n 0 less there same) in
-      let not_behind : n < m → ⊥ = (λ less. are.differ n m 0 less here (sym same)) in
+  one_item : (i n : ℕ) → i < length items → n < length items → slice_index births i ≡ slice_index births n → i ≡ n
+  one_item i n i_in n_in same =
+      let long : length births ≡ length items = are.beside in
+      let not_before : i < n → ⊥ = (λ less. are.differ i n 0 less (omega (arith, n_in, long)) same) in
+      let not_behind : n < i → ⊥ = (λ less. are.differ n i 0 less (omega (arith, i_in, long)) (sym same)) in
       omega (arith, not_before, not_behind)
 
-  -- a step with the births of such a join is one, into an item above
-  pub record IsWalled (k : Step) : Type 0 where
-    pub up : IsUp k
-    pub first : first_item k < length above
-    pub last : last_item k ≡ mover
-
-  walled : (x : ℕ) (k : Step) → x < length above → (first_item k < length births) × (last_item k < length births) → IsUp k → slice_index births x ≡ slice_index births (first_item k) →
-      slice_index births mover ≡ slice_index births (last_item k) → IsWalled k
-  walled x k less inside up first last =
-      let there : x < length births = omega (arith, less, long) in
-      record {
-        up = up;
-        first = subst (λ (m : ℕ). m < length above) (one_item x (first_item k) there inside.0 first) less;
-        last = sym (one_item mover (last_item k) mover_there inside.1 last);
-      }
-
-  by_selectors : (x : ℕ) (k : Step) → x < length above → (first_item k < length births) × (last_item k < length births) → renumbered (λ m. slice_index births m) (JoinSelUp x mover) ≡ renumbered (λ m. slice_index births m) k → IsWalled k
-  by_selectors x (JoinSelUp u l) less inside same = walled x (JoinSelUp u l) less inside tt (let e : slice_index births x ≡ slice_index births u = cc in e) (let e : slice_index births mover ≡ slice_index births l = cc in e)
-  by_selectors x k less inside same = absurd (cc)
-
-  by_decls : (x : ℕ) (k : Step) → x < length above → (first_item k < length births) × (last_item k < length births) → renumbered (λ m. slice_index births m) (JoinDeclUp x mover) ≡ renumbered (λ m. slice_index births m) k → IsWalled k
-  by_decls x (JoinDeclUp u l) less inside same = walled x (JoinDeclUp u l) less inside tt (let e : slice_index births x ≡ slice_index births u = cc in e) (let e : slice_index births mover ≡ slice_index births l = cc in e)
-  by_decls x k less inside same = absurd (cc)
+  born : (n : ℕ) → n < length items → slice_index births n < next
+  born n inside = are.past n 0 (let long : length births ≡ length items = are.beside in omega (arith, inside, long))
 
   abbrev Past : Step → Type 0
   Past k = (first_item k < next) × (last_item k < next)
 
-  past : (x : ℕ) → x < length above → (slice_index births x < next) × (slice_index births mover < next)
-  past x less = (are.past x 0 (omega (arith, less, long)), are.past mover 0 mover_there)
+  selectors_born : (w : Way) (o n : ℕ) → o < length items → Past (named births n (selector_move w m o)).step
+  selectors_born Up o n inside = (born o inside, born m there.0)
+  selectors_born Down o n inside = (born m there.0, born o inside)
 
-  pub turns_blocked : (a : Aside) → Contains (walled_turns births (OfPair p q) mover (length above) most) a → (first_item a.turn.step < next) × (last_item a.turn.step < next)
+  decls_born : (w : Way) (o n : ℕ) → o < length items → Past (named births n (decl_move w m o)).step
+  decls_born Up o n inside = (born o inside, born m there.0)
+  decls_born Down o n inside = (born m there.0, born o inside)
+
+  pub turns_blocked : (a : Aside) → Contains (walled_turns births (OfPair p q) way m place (length items) most) a → (first_item a.turn.step < next) × (last_item a.turn.step < next)
       × ((k : Step) (e : Edit) (n : ℕ) → IsStep items k e → Saves source items e n → 0 < n → a.turn ≡ named births n k → Hinders answers items e a.by)
   turns_blocked a among = (bounds.0, bounds.1, blocked)
     where
-      t : IsUpTurn births (OfPair p q) mover (length above) a
-      t = up_turn births (OfPair p q) mover (length above) most a among
+      t : IsMoveTurn births (OfPair p q) way m place (length items) a
+      t = move_turn births (OfPair p q) way m place (length items) most a among
+
+      into : (t.o < length items) × IsPast way place t.o
+      into = past_is way place (length items) t.o there.1 t.past
 
       bounds : Past a.turn.step
       bounds = which t.turn_is
         where
-          which : (a.turn ≡ named births t.n (JoinSelUp t.x mover)) ⊎ (a.turn ≡ named births t.n (JoinDeclUp t.x mover)) → Past a.turn.step
-          which (inl e) = subst (λ (u : Turn). Past u.step) (sym e) (past t.x t.less)
-          which (inr e) = subst (λ (u : Turn). Past u.step) (sym e) (past t.x t.less)
+          which : (a.turn ≡ named births t.n (selector_move way m t.o)) ⊎ (a.turn ≡ named births t.n (decl_move way m t.o)) → Past a.turn.step
+          which (inl e) = subst (λ (u : Turn). Past u.step) (sym e) (selectors_born way t.o t.n into.0)
+          which (inr e) = subst (λ (u : Turn). Past u.step) (sym e) (decls_born way t.o t.n into.0)
 
       blocked : (k : Step) (e : Edit) (n : ℕ) → IsStep items k e → Saves source items e n → 0 < n → a.turn ≡ named births n k → Hinders answers items e a.by
-      blocked k e n is saves some same = subst (Hinders answers items e) t.by_is (hindered answers above below y lower p q wall apart k e is w.up w.first w.last)
-        where
-          inside : (first_item k < length births) × (last_item k < length births)
-          inside = let w : (first_item k < length items) × (last_item k < length items) = within items k e is in let b : length births ≡ length items = are.beside in (omega (arith, w.0, b), omega (arith, w.1, b))
-
-          which : (a.turn ≡ named births t.n (JoinSelUp t.x mover)) ⊎ (a.turn ≡ named births t.n (JoinDeclUp t.x mover)) → IsWalled k
-          which (inl e) = by_selectors t.x k t.less inside (ap (λ (u : Turn). u.step) (sym e ∙ same))
-          which (inr e) = by_decls t.x k t.less inside (ap (λ (u : Turn). u.step) (sym e ∙ same))
-
-          w : IsWalled k
-          w = which t.turn_is
+      blocked k e n is saves some same =
+          let l : IsLike births way m t.o k = turn_is_like births (OfPair p q) way m place (length items) a t k n same in
+          let inside : (mover way k < length items) × (partner way k < length items) = move_within way k (length items) (within items k e is) in
+          subst (Hinders answers items e) t.by_is
+          (hindered answers way items m place p q wall apart k e is l.move (sym (one_item m (mover way k) there.0 inside.0 l.moves))
+          (subst (IsPast way place) (one_item t.o (partner way k) into.0 inside.1 l.into) into.1))

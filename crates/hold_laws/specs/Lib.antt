@@ -9,3 +9,4 @@ pub mod Taken
 pub mod Turns
 pub mod Walled
 pub mod WalledTurns
+pub mod Ways

@@ -1,5 +1,5 @@
 -- What walls hinder, and walls and floors behind a step: they stay while no step moves one of their pairs.
-use Rattle.std.specs.Prelude.{◌≡◌, ℕ, ◌+◌, ◌<◌, false, List, ◌++◌, length, take}
+use Rattle.std.specs.Prelude.{◌≡◌, ℕ, suc, ◌+◌, ◌<◌, false, List, ◌++◌, length, take}
 use Rattle.std.specs.List.{Contains}
 use Rattle.css_model.specs.declared.sheet.Item.{Item}
 use Rattle.css_model.specs.Cascade.Order.{Pair}
@@ -13,7 +13,10 @@ use Rattle.step_laws.specs.Steps.{IsStep, first_item, last_item, decls_of}
 use Rattle.wall_laws.specs.Holding.{OfPair, Hinders}
 use Rattle.wall_laws.specs.Renumbering.{Leaves, new_number}
 use Rattle.wall_laws.specs.Walls.{IsWall, IsFloor}
+use Rattle.hold_laws.specs.declared.way.Way.{Way}
+use Rattle.hold_laws.specs.declared.way.Way.TheVariants.{Up, Down}
 use Rattle.hold_laws.specs.Scopes.{IsDown, IsUp}
+use Rattle.hold_laws.specs.Ways.{mover, partner, IsMove, IsPast}
 
 -- Of a sheet in two parts what becomes of the upper one behind an edit, and of the first ones of the lower one.
 abbrev pub above_behind : Edit → List Item → List Item
@@ -49,3 +52,42 @@ abbrev pub FlooredJoinsAreHindered : Type 0
 FlooredJoinsAreHindered = (answers : List Answered) (above below : List Item) (x : ℕ) (upper : RuleParts) (p q : Pair) → IsFloor above below x upper p q → AreNotApart answers p.selector q.selector →
     (Contains (selectors_of upper) q.selector → Contains (decls_of upper) q.decl → ⊥) →
     (k : Step) (e : Edit) (y : ℕ) → IsStep (above ++ below) k e → IsDown k → first_item k ≡ x → last_item k ≡ length above + y → Hinders answers (above ++ below) e (OfPair p q)
+
+-- ---- By the numbers of items
+
+-- An item cannot move up past another one: from that on there is a wall.
+pub record HasWallAbove (items : List Item) (m place : ℕ) (p q : Pair) : Type 0 where
+  pub above : List Item
+  pub below : List Item
+  pub y : ℕ
+  pub lower : RuleParts
+  pub parts : items ≡ above ++ below
+  pub place_is : place ≡ length above
+  pub mover_is : m ≡ length above + y
+  pub wall : IsWall above below y lower p q
+
+-- An item cannot move down past another one: down to that there is a floor, and the item lacks the other pair.
+pub record HasFloorBelow (items : List Item) (m place : ℕ) (p q : Pair) : Type 0 where
+  pub above : List Item
+  pub below : List Item
+  pub upper : RuleParts
+  pub parts : items ≡ above ++ below
+  pub place_is : suc place ≡ length above
+  pub floor : IsFloor above below m upper p q
+  pub lacks : Contains (selectors_of upper) q.selector → Contains (decls_of upper) q.decl → ⊥
+
+-- the one or the other
+abbrev pub IsWalledBy : Way → List Item → (m place : ℕ) → Pair → Pair → Type 0
+IsWalledBy Up items m place p q = HasWallAbove items m place p q
+IsWalledBy Down items m place p q = HasFloorBelow items m place p q
+
+-- It is so behind a step that leaves both items and moves none of the two pairs.
+abbrev pub WalledItemsGoOn : Type 0
+WalledItemsGoOn = (way : Way) (items : List Item) (j : Step) (d : Edit) → IsStep items j d → (m place : ℕ) (p q : Pair) → Leaves d m → Leaves d place →
+    is_moved d.moved p ≡ false → is_moved d.moved q ≡ false → IsWalledBy way items m place p q →
+    IsWalledBy way (edited d items) (new_number d items m) (new_number d items place) p q
+
+-- Where the selectors may meet, each join of the item past the other one is hindered.
+abbrev pub WalledMovesAreHindered : Type 0
+WalledMovesAreHindered = (answers : List Answered) (way : Way) (items : List Item) (m place : ℕ) (p q : Pair) → IsWalledBy way items m place p q → AreNotApart answers p.selector q.selector →
+    (k : Step) (e : Edit) → IsStep items k e → IsMove way k → mover way k ≡ m → IsPast way place (partner way k) → Hinders answers items e (OfPair p q)

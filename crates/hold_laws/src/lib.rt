@@ -11,6 +11,7 @@ mod room;
 mod taken;
 mod turns;
 mod walled;
+mod way;
 
 pub use before::{cuts_have_been, no_step_adds_pairs, steps_have_been};
 pub use behind::{going_on_is_side_by_side, hindered_goes_on};
@@ -24,6 +25,8 @@ pub use room::{sheets_have_room, steps_add_one_item};
 pub use taken::{free_step_is_taken, no_turn_is_left};
 pub use turns::{first_turn_is_first, labels_tell_order, names_tell_steps, turns_are_ordered};
 pub use walled::{
-    floored_joins_are_hindered, floors_go_on, joins_are_walled, parts_stay,
-    walled_joins_are_hindered, walled_turns_are_blocked, walled_turns_are_ups, walls_go_on,
+    floored_joins_are_hindered, floors_go_on, joins_are_walled, parts_stay, walled_items_go_on,
+    walled_joins_are_hindered, walled_moves_are_hindered, walled_turns_are_blocked,
+    walled_turns_are_moves, walls_go_on,
 };
+pub use way::Way;

@@ -1,7 +1,7 @@
 //! What walls hinder, and walls and floors behind a step.
 
-ghost use Rattle.hold_laws.specs.Walled.{FlooredJoinsAreHindered, FloorsGoOn, PartsStay, WalledJoinsAreHindered, WallsGoOn};
-ghost use Rattle.hold_laws.specs.WalledTurns.{JoinsAreWalled, WalledTurnsAreBlocked, WalledTurnsAreUps};
+ghost use Rattle.hold_laws.specs.Walled.{FlooredJoinsAreHindered, FloorsGoOn, PartsStay, WalledItemsGoOn, WalledJoinsAreHindered, WalledMovesAreHindered, WallsGoOn};
+ghost use Rattle.hold_laws.specs.WalledTurns.{JoinsAreWalled, WalledTurnsAreBlocked, WalledTurnsAreMoves};
 
 use order_laws::unmoved_keep_their_order;
 use step_laws::steps_rearrange;
@@ -47,20 +47,38 @@ pub fn floored_joins_are_hindered()
     floors_hinder();
 }
 
+/// What cannot move past an item in a way, up or down, cannot behind a step that leaves both and moves none of the two pairs.
+pub fn walled_items_go_on()
+    ensures { WalledItemsGoOn }
+{
+    parts_stay();
+    walls_go_on();
+    floors_go_on();
+}
+
+/// Each join of such an item past the other one is hindered, where the selectors of the two pairs are answered not to be
+/// apart.
+pub fn walled_moves_are_hindered()
+    ensures { WalledMovesAreHindered }
+{
+    walled_joins_are_hindered();
+    floored_joins_are_hindered();
+}
+
 /// The turns of all joins that a wall hinders may be set aside at once: they are of items that were born, and each step that
 /// has one of them is hindered.
 pub fn walled_turns_are_blocked()
     ensures { WalledTurnsAreBlocked }
 {
-    walled_joins_are_hindered();
+    walled_moves_are_hindered();
 }
 
-/// The turn of each join up past a wall that saves no more than so much is among them.
+/// The turn of each join past a wall that saves no more than so much is among them.
 pub fn joins_are_walled()
     ensures { JoinsAreWalled }
 {}
 
-/// What has one of these turns is a join up of the wall's item.
-pub fn walled_turns_are_ups()
-    ensures { WalledTurnsAreUps }
+/// What has one of these turns is a join of the wall's item in its way.
+pub fn walled_turns_are_moves()
+    ensures { WalledTurnsAreMoves }
 {}

@@ -4,17 +4,16 @@ ghost use Rattle.lead_laws.specs.BoardWalls.{WalledMayBeAside, WallsGoOver, Wall
 
 use crate::mark_names::marks_are_names;
 use hold_laws::{
-    first_turn_is_first, joins_are_walled, parts_stay, walled_turns_are_blocked,
-    walled_turns_are_ups, walls_go_on,
+    first_turn_is_first, joins_are_walled, walled_items_go_on, walled_turns_are_blocked,
+    walled_turns_are_moves,
 };
 
-/// Walls are such behind a step, too, but those from an item of the step on: a wall stands while neither of its two pairs is
-/// moved; else all joins up of its item lead again.
+/// Walls are such behind a step, too, but those at an item of the step: a wall stands while neither of its two pairs is
+/// moved; else all joins of its item in its way lead again.
 pub fn walls_go_over()
     ensures { WallsGoOver }
 {
-    walls_go_on();
-    parts_stay();
+    walled_items_go_on();
     marks_are_names();
 }
 
@@ -31,6 +30,6 @@ pub fn walled_may_be_aside()
     marks_are_names();
     first_turn_is_first();
     walled_turns_are_blocked();
-    walled_turns_are_ups();
+    walled_turns_are_moves();
     joins_are_walled();
 }

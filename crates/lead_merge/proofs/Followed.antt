@@ -6,11 +6,14 @@ use Rattle.std.specs.Option.{option_map}
 use Rattle.std.proofs.lemmas.Bool.{cases_lt, false≢true}
 use Rattle.std.proofs.lemmas.Option.{slice_get-map}
 use Rattle.cascade_laws.proofs.ForCallers.{some-same}
+use Rattle.hold_laws.specs.declared.way.Way.{Way}
+use Rattle.hold_laws.specs.declared.way.Way.TheVariants.{Up, Down}
 use Rattle.hold_laws.specs.Leads as held
 use Rattle.hold_laws.specs.Leads.{IsLed}
-use Rattle.hold_laws.specs.Scopes.{IsInScope, IsUp}
+use Rattle.hold_laws.specs.Scopes.{IsInScope}
 use Rattle.hold_laws.specs.Turns.{named}
-use Rattle.lead_laws.specs.BoardWalls.{IsWalled}
+use Rattle.hold_laws.specs.Ways.{mover, partner, IsMove, IsPast}
+use Rattle.lead_laws.specs.BoardWalls.{IsWalled, IsWalledOn}
 use Rattle.lead_laws.specs.Known.{IsFollowed}
 use Rattle.lead_laws.specs.MarkNames.{holding_of}
 use Rattle.lead_merge.specs.Following.{AreWalledOff, Follows}
@@ -18,10 +21,10 @@ use Rattle.lead_plan.specs.declared.lead.Lead.{Lead}
 use Rattle.lead_plan.specs.declared.lead.Scope.{Scope}
 use Rattle.lead_plan.specs.declared.lead.Scope.TheVariants.{Alone, Owned, Ups, Downs}
 use Rattle.lead_plan.specs.Told.{alone, scope_told, lead_told}
+use Rattle.lead_plan.specs.WallParts.{walls_on, WallParts}
 use Rattle.lead_plan.specs.Weights.{is_alone}
 use Rattle.list_facts.proofs.Members.{Contains-cons_cases, Contains-nil}
 use Rattle.list_facts.proofs.Options.{mapped}
-use Rattle.order_laws.specs.Edits.{Edit}
 use Rattle.plan_board.specs.BoardParts.{BoardParts}
 use Rattle.plan_board.specs.declared.marks.Mark.{Mark}
 use Rattle.plan_board.specs.MarkList.{births_of, labels_of}
@@ -30,8 +33,6 @@ use Rattle.plan_state.specs.PlanParts.{PlanParts}
 use Rattle.plan_state.specs.State.{IsBoard}
 use Rattle.step_laws.specs.declared.step.Step.{Step}
 use Rattle.step_laws.specs.declared.step.Step.TheVariants.{CutDecl, CutSel, JoinSelUp, JoinSelDown, JoinDeclUp, JoinDeclDown, Share}
-use Rattle.step_laws.specs.Sizes.{Saves}
-use Rattle.step_laws.specs.Steps.{IsStep, first_item, last_item}
 use Rattle.wall_laws.specs.Holding.{Aside}
 use Rattle.step_turns.specs.Looking.{FoundParts, Reaches}
 use Rattle.step_turns.specs.Named.{IsLaterTurn, IsLedBeside}
@@ -108,25 +109,58 @@ alone_followed source p lead leads aside single = record {
 }
 
 -- a join goes past a wall, or it does not
-up_or_not : (k : Step) → IsUp k ⊎ (IsUp k → ⊥)
-up_or_not (CutDecl n i) = inr (λ up. up)
-up_or_not (CutSel n i) = inr (λ up. up)
-up_or_not (JoinSelUp x y) = inl tt
-up_or_not (JoinSelDown x y) = inr (λ up. up)
-up_or_not (JoinDeclUp x y) = inl tt
-up_or_not (JoinDeclDown x y) = inr (λ up. up)
-up_or_not (Share x y) = inr (λ up. up)
+move_or_not : (way : Way) (k : Step) → IsMove way k ⊎ (IsMove way k → ⊥)
+move_or_not Up (JoinSelUp x y) = inl tt
+move_or_not Up (JoinDeclUp x y) = inl tt
+move_or_not Up (CutDecl n i) = inr (λ move. move)
+move_or_not Up (CutSel n i) = inr (λ move. move)
+move_or_not Up (JoinSelDown x y) = inr (λ move. move)
+move_or_not Up (JoinDeclDown x y) = inr (λ move. move)
+move_or_not Up (Share x y) = inr (λ move. move)
+move_or_not Down (JoinSelDown x y) = inl tt
+move_or_not Down (JoinDeclDown x y) = inl tt
+move_or_not Down (CutDecl n i) = inr (λ move. move)
+move_or_not Down (CutSel n i) = inr (λ move. move)
+move_or_not Down (JoinSelUp x y) = inr (λ move. move)
+move_or_not Down (JoinDeclUp x y) = inr (λ move. move)
+move_or_not Down (Share x y) = inr (λ move. move)
 
-walled_or_not : (b : BoardParts) (walls : List ℕ) (k : Step) → IsWalled b walls k ⊎ (IsWalled b walls k → ⊥)
-walled_or_not b walls k = which (up_or_not k) (slice_get walls (slice_index (births_of b.marks) (last_item k))) refl
-  where
-    which : IsUp k ⊎ (IsUp k → ⊥) → (found : Option ℕ) → slice_get walls (slice_index (births_of b.marks) (last_item k)) ≡ found → IsWalled b walls k ⊎ (IsWalled b walls k → ⊥)
-    which (inr other) found at = inr (λ walled. other walled.0)
-    which (inl up) None at = inr (λ walled. let e : None ≡ Some walled.1.0 = sym at ∙ walled.1.1 in cc)
-    which (inl up) (Some label) at = elim (cases_lt (slice_index (labels_of b.marks) (first_item k)) label) [
-      | inl l ↦ inl (up, (label, at, l))
-      | inr l ↦ inr (λ walled. let e : label ≡ walled.1.0 = some-same (sym at ∙ walled.1.1) in let f : slice_index (labels_of b.marks) (first_item k) < walled.1.0 = walled.1.2 in omega (arith, l, e, f))
-    ]
+less_or_not : (m n : ℕ) → (m < n) ⊎ (m < n → ⊥)
+less_or_not m n = elim (cases_lt m n) [
+  | inl l ↦ inl l
+  | inr l ↦ inr (λ less. omega (arith, l, less))
+]
+
+past_or_not : (way : Way) (place n : ℕ) → IsPast way place n ⊎ (IsPast way place n → ⊥)
+past_or_not Up place n = less_or_not n place
+past_or_not Down place n = less_or_not place n
+
+module _ (b : BoardParts) (walls : WallParts) where
+  on_or_not : (way : Way) (k : Step) → IsWalledOn b walls way k ⊎ (IsWalledOn b walls way k → ⊥)
+  on_or_not way k = which (move_or_not way k) (slice_get (walls_on way walls) (slice_index (births_of b.marks) (mover way k))) refl
+    where
+      which : IsMove way k ⊎ (IsMove way k → ⊥) → (found : Option ℕ) → slice_get (walls_on way walls) (slice_index (births_of b.marks) (mover way k)) ≡ found → IsWalledOn b walls way k ⊎ (IsWalledOn b walls way k → ⊥)
+      which (inr other) found at = inr (λ walled. other walled.0)
+      which (inl move) None at = inr (λ walled. let e : None ≡ Some walled.1.0 = sym at ∙ walled.1.1 in cc)
+      which (inl move) (Some label) at = elim (less_or_not 0 label) [
+        | inl some ↦ elim (past_or_not way label (slice_index (labels_of b.marks) (partner way k))) [
+          | inl past ↦ inl (move, (label, at, some, past))
+          | inr not ↦ inr (λ walled. not (subst (λ (l : ℕ). IsPast way l (slice_index (labels_of b.marks) (partner way k))) (some-same (sym walled.1.1 ∙ at)) walled.1.3))
+        ]
+        | inr none ↦ inr (λ walled. none (subst (λ (l : ℕ). 0 < l) (some-same (sym walled.1.1 ∙ at)) walled.1.2))
+      ]
+
+  walled_or_not : (k : Step) → IsWalled b walls k ⊎ (IsWalled b walls k → ⊥)
+  walled_or_not k = which (on_or_not Up k) (on_or_not Down k)
+    where
+      neither : (IsWalledOn b walls Up k → ⊥) → (IsWalledOn b walls Down k → ⊥) → IsWalled b walls k → ⊥
+      neither up down (Up, past) = up past
+      neither up down (Down, past) = down past
+
+      which : IsWalledOn b walls Up k ⊎ (IsWalledOn b walls Up k → ⊥) → IsWalledOn b walls Down k ⊎ (IsWalledOn b walls Down k → ⊥) → IsWalled b walls k ⊎ (IsWalled b walls k → ⊥)
+      which (inl up) other = inl (Up, up)
+      which (inr up) (inl down) = inl (Down, down)
+      which (inr up) (inr down) = inr (neither up down)
 
 -- where what follows leads, the lead is followed
 pub is_followed : (source : List ℕ) (p : PlanParts) (lead : Lead) (found : FoundParts) (leads leads' : List held.Lead) (aside : List Aside) → Follows source p lead found →

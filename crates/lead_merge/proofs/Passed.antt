@@ -6,9 +6,10 @@ use Rattle.css_model.specs.Sheets.Limits.{max_bytes}
 use Rattle.std.specs.List.{Contains}
 use Rattle.css_model.specs.Cascade.Order.{Pair}
 use Rattle.hold_laws.specs.Leads as held
+use Rattle.hold_laws.specs.Ways.{mover}
 use Rattle.hold_laws.specs.Leads.{IsLed, IsHeld, IsSetAside}
-use Rattle.lead_laws.proofs.ForCallers.{ascending_differ}
-use Rattle.lead_laws.specs.BoardWalls.{up_lead, AreWalls, IsWalled, MayBeAside, WalledMayBeAside, WallsStay}
+use Rattle.lead_laws.proofs.ForCallers.{ascending_differ, in_scope}
+use Rattle.lead_laws.specs.BoardWalls.{moves_lead, AreWalls, HasMovesLead, IsWalled, MayBeAside, WalledMayBeAside, WallsStay}
 use Rattle.lead_laws.specs.Known.{IsFollowed, IsKnown, IsLedOrAside, NoneIsKnown, BlockedIsKnown, AnswersMayCome, AsideIsKnown, MoreIsKnown}
 use Rattle.lead_laws.specs.MarkNames.{holding_of}
 use Rattle.lead_laws.specs.Remembering.{pairs_of, HasEntryOf}
@@ -28,7 +29,7 @@ use Rattle.plan_state.specs.State.{IsBoard, IsLedBy, IsState}
 use Rattle.step_laws.specs.declared.step.Step.{Step}
 use Rattle.step_laws.specs.Free.{Answered, AreAmong}
 use Rattle.step_laws.specs.Sizes.{size, Saves}
-use Rattle.step_laws.specs.Steps.{IsStep, last_item}
+use Rattle.step_laws.specs.Steps.{IsStep}
 use Rattle.plan_laws.specs.Cover.{IsSooner}
 use Rattle.step_turns.specs.Named.{IsStepOf, NamesNone}
 use Rattle.wall_laws.specs.Holding.{Aside, Hindrance}
@@ -66,7 +67,7 @@ more_answers law stay answers answers' source p leads among led = record {
   board = led.board;
   aside = led.aside;
   known = law answers answers' source p.board leads led.aside p.entries among led.known;
-  walls = stay answers answers' p.board p.entries p.entries (max_bytes + 1) p.leads p.leads p.walls among (λ x h. h) (λ birth h. h) led.walls;
+  walls = stay answers answers' p.board p.entries p.entries (max_bytes + 1) p.leads p.leads p.walls among (λ x h. h) (λ way birth h. h) led.walls;
 }
 
 -- ---- Joins past walls
@@ -83,7 +84,7 @@ module _ (first : FirstTurnIsFirst) (answers : List Answered) (source : List ℕ
   all_off leads' own stay k e n is saves some past = which (first source p.board.items (max_bytes + 1) short k e n saves (labels_of p.board.marks)) (w.all k e n is saves some past)
     where
       which : (IsSooner (named (labels_of p.board.marks) n k) (first_turn (max_bytes + 1)) → ⊥) →
-          ((by : Hindrance) × Contains w.more (record { turn = named (births_of p.board.marks) n k; by = by })) ⊎ Contains p.leads (up_lead (max_bytes + 1) (slice_index (births_of p.board.marks) (last_item k))) →
+          ((by : Hindrance) × Contains w.more (record { turn = named (births_of p.board.marks) n k; by = by })) ⊎ HasMovesLead p.board (max_bytes + 1) p.leads k →
           IsLedOrAside p.board leads' (own ++ (w.more ++ aside)) n k
       which late (inl (by, among)) =
           inr (
@@ -91,8 +92,9 @@ module _ (first : FirstTurnIsFirst) (answers : List Answered) (source : List ℕ
             Contains-append_right own (w.more ++ aside) (record { turn = named (births_of p.board.marks) n k; by = by })
                 (Contains-append_left w.more aside (record { turn = named (births_of p.board.marks) n k; by = by }) among),
           )
-      which late (inr ups) =
-          let l : held.Lead = up_lead (max_bytes + 1) (slice_index (births_of p.board.marks) (last_item k)) in inl (l, stay l ups, inr ((past.0, refl), late))
+      which late (inr (way, move, among)) =
+          let birth : ℕ = slice_index (births_of p.board.marks) (mover way k) in
+          let l : held.Lead = moves_lead way (max_bytes + 1) birth in inl (l, stay l among, inr (in_scope (births_of p.board.marks) way birth k move refl, late))
 
 long_enough : (source : List ℕ) (p : PlanParts) → IsBoard source p → size source p.board.items ≤ max_bytes + 1
 long_enough source p board = let short = board.plannable.short in omega (arith, short)
@@ -113,7 +115,7 @@ module _ (walls_stay : WallsStay) (source : List ℕ) (p : PlanParts) (lead : Le
     (more : (l : held.Lead) → Contains p.leads l → Contains leads' l) where
   -- walls stay where more is set aside
   walls_with : (entries' : List Entry) → ((x : Entry) → Contains p.entries x → Contains entries' x) → AreWalls answers p.board entries' (max_bytes + 1) leads' p.walls
-  walls_with entries' further = walls_stay answers answers p.board p.entries entries' (max_bytes + 1) p.leads leads' p.walls (λ x h. h) further (λ birth h. more (up_lead (max_bytes + 1) birth) h) led.walls
+  walls_with entries' further = walls_stay answers answers p.board p.entries entries' (max_bytes + 1) p.leads leads' p.walls (λ x h. h) further (λ way birth h. more (moves_lead way (max_bytes + 1) birth) h) led.walls
 
   -- a lead leads again
   pub again_state : Contains leads' (lead_told lead) → IsState answers source (record p { leads = leads' })
@@ -161,13 +163,13 @@ module _ (walls_stay : WallsStay) (source : List ℕ) (p : PlanParts) (lead : Le
         one j e n is turn = (tell p.board.items (labels_of p.board.marks) led.known.held.labels.beside (ascending_differ (labels_of p.board.marks) led.known.held.labels.ascend) k j names.has.0 e names.has.1 is lead.saving.0 n (names.turn ∙ turn)).1
 
         which : (j : Step) (e : Edit) (n : ℕ) → Saves source p.board.items e n → (lead_told lead).turn ≡ named (labels_of p.board.marks) n j →
-            ((by : Hindrance) × Contains w.more (record { turn = named (births_of p.board.marks) n j; by = by })) ⊎ Contains p.leads (up_lead (max_bytes + 1) (slice_index (births_of p.board.marks) (last_item j))) →
+            ((by : Hindrance) × Contains w.more (record { turn = named (births_of p.board.marks) n j; by = by })) ⊎ HasMovesLead p.board (max_bytes + 1) p.leads j →
             (by : Hindrance) × Contains (w.more ++ led.aside) (record { turn = named (births_of p.board.marks) n j; by = by })
         which j e n saves turn (inl (by, among)) = (by, Contains-append_left w.more led.aside (record { turn = named (births_of p.board.marks) n j; by = by }) among)
-        which j e n saves turn (inr ups) =
+        which j e n saves turn (inr (way, move, among)) =
             let short = led.board.plannable.short in
             let less : n < max_bytes + 1 = omega (arith, short, saves) in
-            absurd (none_before (up_lead (max_bytes + 1) (slice_index (births_of p.board.marks) (last_item j))) ups (subst (IsSooner (first_turn (max_bytes + 1))) (sym turn) (inl less)))
+            absurd (none_before (moves_lead way (max_bytes + 1) (slice_index (births_of p.board.marks) (mover way j))) among (subst (IsSooner (first_turn (max_bytes + 1))) (sym turn) (inl less)))
 
         own : (j : Step) (e : Edit) (n : ℕ) → IsStep p.board.items j e → Saves source p.board.items e n → 0 < n → (lead_told lead).turn ≡ named (labels_of p.board.marks) n j →
             (by : Hindrance) × IsSetAside (holding_of p.board leads' (w.more ++ led.aside)) n j by

@@ -1,5 +1,5 @@
 -- The walls that pairs make.
-use Rattle.std.proofs.Common.{◌≡◌, ◌≢◌, ◌⊎◌, ◌↔◌, ℕ, zero, suc, ◌+◌, ◌-◌, ◌<◌, ◌≤◌, List, [], ◌∷◌, ◌++◌, length, take, drop, map, Option, Some, None, refl, sym, ap, ◌∙◌, subst, inl, inr, arith}
+use Rattle.std.proofs.Common.{◌≡◌, ◌≢◌, ℕ, zero, suc, ◌+◌, ◌-◌, ◌<◌, ◌≤◌, List, [], ◌∷◌, ◌++◌, length, take, drop, map, Option, Some, None, refl, sym, ap, ◌∙◌, subst, inl, inr, arith}
 use Rattle.std.specs.Prelude.{get_or, slice_get}
 use Rattle.std.specs.List.{Contains, remove}
 use Rattle.std.specs.Option.{option_map}
@@ -17,8 +17,11 @@ use Rattle.css_model.specs.declared.sheet.SelItem.{SelItem}
 use Rattle.css_model.specs.Documents.SelectorParts.{SelectorParts}
 use Rattle.css_model.specs.Sheets.RuleParts.{RuleParts}
 use Rattle.css_model.specs.Sheets.StyleRule.{selectors_of}
+use Rattle.hold_laws.specs.declared.way.Way.{Way}
+use Rattle.hold_laws.specs.declared.way.Way.TheVariants.{Up, Down}
+use Rattle.hold_laws.specs.Walled.{HasFloorBelow, HasWallAbove, IsWalledBy}
 use Rattle.lead_laws.specs.MarkNames.{IsMarked}
-use Rattle.lead_merge.specs.Walling.{MakesWall, MakesWallFor, StandsAlone}
+use Rattle.lead_merge.specs.Walling.{MakesWall, MakesWallFor, StandsAlone, StandsAloneOn}
 use Rattle.list_facts.proofs.Members.{Contains-here, Contains-there}
 use Rattle.obstacles.specs.Blocking.{IsAt, IsBlockedBy, IsOther, Names, moved_pair}
 use Rattle.obstacles.specs.declared.obstacle.Obstacle.{Obstacle}
@@ -34,7 +37,7 @@ use Rattle.step_laws.specs.declared.step.Step.{Step}
 use Rattle.step_laws.specs.Free.{Answered}
 use Rattle.step_laws.specs.Steps.{HasStep, decls_of}
 use Rattle.wall_laws.specs.Holding.{Hindrance, Hinders, OfKept, OfPair}
-use Rattle.wall_laws.specs.Walls.{IsWall}
+use Rattle.wall_laws.specs.Walls.{IsFloor, IsWall}
 
 abbrev place : ℕ → ℕ → Place
 place item position = record { item = item; position = position }
@@ -56,6 +59,17 @@ kept_at : (xs : List Item) (n : ℕ) (x : Item) → 0 < n → slice_get xs 0 ≡
 kept_at [] n x some at = absurd (let e : None ≡ Some x = at in cc)
 kept_at (y ∷ xs) zero x some at = absurd (omega (arith, some))
 kept_at (y ∷ xs) (suc n) x some at = at
+
+kept_behind : (xs : List Item) (n i : ℕ) (x : Item) → n ≤ i → slice_get xs (suc i) ≡ Some x → slice_get (remove xs n) i ≡ Some x
+kept_behind [] n i x most at = absurd (let e : None ≡ Some x = at in cc)
+kept_behind (y ∷ xs) zero i x most at = at
+kept_behind (y ∷ xs) (suc n) zero x most at = absurd (omega (arith, most))
+kept_behind (y ∷ xs) (suc n) (suc i) x most at = kept_behind xs n i x (omega (arith, most)) at
+
+get_front : (xs ys : List Item) (i : ℕ) → i < length xs → slice_get (xs ++ ys) i ≡ slice_get xs i
+get_front [] ys i less = absurd (omega (arith, less))
+get_front (x ∷ xs) ys zero less = refl
+get_front (x ∷ xs) ys (suc i) less = get_front xs ys i (omega (arith, less))
 
 -- ---- Pairs of rules
 
@@ -110,6 +124,25 @@ other_there answers items k o at is blocked = which blocked.by (subst (λ (x : O
     which (OfPair p q) there = (q, there)
     which (OfKept p number) none = absurd none
 
+-- ---- The order of the two
+
+-- the last place of a pair that stands alone comes behind those of the other one
+module _ (items : List Item) (z y : ℕ) (p q : Pair) (moved other : ℕ) (alone : StandsAlone items z y p q) (p_at : IsPairAt items p (place y moved)) (q_at : IsPairAt items q (place z other)) where
+  comes_last : (last_q last_p : Place) → IsLast items q last_q → IsLast items p last_p → last_q.item < last_p.item
+  comes_last last_q last_p of_q of_p = elim (cases_lt last_q.item y) [
+    | inl l ↦ elim (cases_lt last_p.item y) [
+      | inl m ↦ absurd (of_p.last (place y moved) p_at (inl m))
+      | inr m ↦ omega (arith, l, m)
+    ]
+    | inr l ↦ absurd (alone.other last_q.item of_q.stands.rule of_q.stands.rule_at l (has_both items q last_q of_q.stands))
+  ]
+
+  stands_before : IsBefore items q p
+  stands_before =
+      let of_q : (at : Place) × IsLast items q at = last_of items q (place z other, q_at) in
+      let of_p : (at : Place) × IsLast items p at = last_of items p (place y moved, p_at) in
+      record { place = of_q.0; later = of_p.0; first = of_q.1; second = of_p.1; before = inl (comes_last of_q.0 of_p.0 of_q.1 of_p.1) }
+
 -- ---- A wall
 
 module _ (above below : List Item) (k : ℕ) (p q : Pair) (moved other : ℕ) (alone : StandsAlone (above ++ below) (length above) (length above + k) p q)
@@ -134,29 +167,53 @@ module _ (above below : List Item) (k : ℕ) (p q : Pair) (moved other : ℕ) (a
     record { rule = q_at.rule; decl = q_at.decl; rule_at = kept_at below k (Rule q_at.rule) some q_first; selector_in = q_at.selector_in; decl_at = q_at.decl_at; decl_is = q_at.decl_is },
   )
 
-  comes_last : (last_q last_p : Place) → IsLast whole q last_q → IsLast whole p last_p → last_q.item < last_p.item
-  comes_last last_q last_p of_q of_p = elim (cases_lt last_q.item (length above + k)) [
-    | inl l ↦ elim (cases_lt last_p.item (length above + k)) [
-      | inl m ↦ absurd (of_p.last (place (length above + k) moved) p_at (inl m))
-      | inr m ↦ omega (arith, l, m)
-    ]
-    | inr l ↦ absurd (alone.other last_q.item of_q.stands.rule of_q.stands.rule_at l (has_both whole q last_q of_q.stands))
-  ]
-
-  order : IsBefore whole q p
-  order =
-      let of_q : (at : Place) × IsLast whole q at = last_of whole q (place (length above) other, q_at) in
-      let of_p : (at : Place) × IsLast whole p at = last_of whole p (place (length above + k) moved, p_at) in
-      record { place = of_q.0; later = of_p.0; first = of_q.1; second = of_p.1; before = inl (comes_last of_q.0 of_p.0 of_q.1 of_p.1) }
-
   pub is_wall : Weigh p q → IsWall above below k p_at.rule p q
   is_wall weigh = record {
     pair = record { rule_at = sym (get_behind above below k) ∙ p_at.rule_at; selector_in = p_at.selector_in; decl_in = (has_both whole p (place (length above + k) moved) p_at).1 };
     nowhere_else = nowhere;
     other = q_below;
     weigh = weigh;
-    order = order;
+    order = stands_before whole (length above) (length above + k) p q moved other alone p_at q_at;
   }
+
+-- ---- A floor
+
+module _ (above below : List Item) (m z : ℕ) (p q : Pair) (moved other : ℕ) (last : suc z ≡ length above) (alone : StandsAlone (above ++ below) m z q p)
+    (p_at : IsPairAt (above ++ below) p (place m moved)) (q_at : IsPairAt (above ++ below) q (place z other)) where
+  before : m < z
+  before = alone.before
+
+  there : (n : ℕ) (x : Item) → n ≤ z → slice_get (above ++ below) n ≡ Some x → slice_get above n ≡ Some x
+  there n x most at = sym (get_front above below n (omega (arith, most, last))) ∙ at
+
+  q_above : (n : ℕ) → suc n ≡ z → HasPair (remove above m) q
+  q_above n is = (
+    place n other,
+    record {
+      rule = q_at.rule;
+      decl = q_at.decl;
+      rule_at = kept_behind above m n (Rule q_at.rule) (omega (arith, is, before)) (ap (slice_get above) is ∙ there z (Rule q_at.rule) (omega arith) q_at.rule_at);
+      selector_in = q_at.selector_in;
+      decl_at = q_at.decl_at;
+      decl_is = q_at.decl_is;
+    },
+  )
+
+  q_not_below : HasPair below q → ⊥
+  q_not_below (at, h) =
+      alone.alone (length above + at.item) h.rule (get_behind above below at.item ∙ h.rule_at) (omega (arith, last, before)) (λ e. let f : length above + at.item ≡ z = e in omega (arith, f, last)) (has_both below q at h)
+
+  pub is_floor : Weigh p q → IsFloor above below m p_at.rule p q
+  is_floor weigh = record {
+    pair = record { rule_at = there m (Rule p_at.rule) (omega (arith, before)) p_at.rule_at; selector_in = p_at.selector_in; decl_in = (has_both (above ++ below) p (place m moved) p_at).1 };
+    other = q_above (z - 1) (omega (arith, before));
+    not_below = q_not_below;
+    weigh = weigh;
+    order = stands_before (above ++ below) m z q p other moved alone q_at p_at;
+  }
+
+  pub lacks_other : Contains (selectors_of p_at.rule) q.selector → Contains (decls_of p_at.rule) q.decl → ⊥
+  lacks_other selector decl = alone.alone m p_at.rule p_at.rule_at (omega arith) (λ e. let f : m ≡ z = e in omega (arith, f, before)) (selector, decl)
 
 -- ---- By labels
 
@@ -210,41 +267,79 @@ alone_by_labels b marked z y at_z at_y p q less is_z is_y p_but q_but = record {
 
 -- ---- What an obstacle makes
 
-pub makes_wall : (b : BoardParts) (k : Step) (o : Obstacle) (at : PairPlace) (mover from : Mark) → HasStep b.items k → o.other ≡ others.Pair at →
-    ((p q : Pair) → IsAt b.items o.moved p → IsAt b.items at q → StandsAlone b.items at.item o.moved.item p q) →
-    slice_get b.marks o.moved.item ≡ Some mover → slice_get b.marks at.item ≡ Some from → MakesWallFor b k o mover.birth from.label
-makes_wall b k o at mover from has is alone is_mover is_from answers blocked = by_one blocked.by blocked.names (blocked.hinders has.0 has.1)
+-- of a sheet in two parts a place in it
+module _ (items above below : List Item) (parts : above ++ below ≡ items) where
+  pair_in : (p : Pair) (at : Place) → IsPairAt items p at → IsPairAt (above ++ below) p at
+  pair_in p at is = subst (λ (xs : List Item). IsPairAt xs p at) (sym parts) is
+
+  alone_in : (z y : ℕ) (p q : Pair) → StandsAlone items z y p q → StandsAlone (above ++ below) z y p q
+  alone_in z y p q is = subst (λ (xs : List Item). StandsAlone xs z y p q) (sym parts) is
+
+wall_above : (items : List Item) (m z : ℕ) (p q : Pair) (moved other : ℕ) → StandsAlone items z m p q → IsPairAt items p (place m moved) → IsPairAt items q (place z other) → Weigh p q → HasWallAbove items m z p q
+wall_above items m z p q moved other alone p_at q_at weigh =
+    let within : z < length items = slice_get_within items z (Rule q_at.rule) q_at.rule_at in
+    let parts : take z items ++ drop z items ≡ items = take-append-drop z items in
+    let long : length (take z items) ≡ z = length-take-le z items (omega (arith, within)) in
+    let y : length (take z items) + (m - z) ≡ m = (let less : z < m = alone.before in omega (arith, long, less)) in
+    let p_there : IsPairAt (take z items ++ drop z items) p (place (length (take z items) + (m - z)) moved) =
+    pair_in items (take z items) (drop z items) parts p (place (length (take z items) + (m - z)) moved) (subst (λ (n : ℕ). IsPairAt items p (place n moved)) (sym y) p_at) in
+    record {
+      above = take z items;
+      below = drop z items;
+      y = m - z;
+      lower = p_there.rule;
+      parts = sym parts;
+      place_is = sym long;
+      mover_is = sym y;
+      wall = is_wall (take z items) (drop z items) (m - z) p q moved other
+          (alone_in items (take z items) (drop z items) parts (length (take z items)) (length (take z items) + (m - z)) p q
+          (subst (λ (n : ℕ). StandsAlone items n (length (take z items) + (m - z)) p q) (sym long) (subst (λ (n : ℕ). StandsAlone items z n p q) (sym y) alone)))
+          p_there
+          (pair_in items (take z items) (drop z items) parts q (place (length (take z items)) other) (subst (λ (n : ℕ). IsPairAt items q (place n other)) (sym long) q_at))
+          weigh;
+    }
+
+floor_below : (items : List Item) (m z : ℕ) (p q : Pair) (moved other : ℕ) → StandsAlone items m z q p → IsPairAt items p (place m moved) → IsPairAt items q (place z other) → Weigh p q → HasFloorBelow items m z p q
+floor_below items m z p q moved other alone p_at q_at weigh =
+    let within : z < length items = slice_get_within items z (Rule q_at.rule) q_at.rule_at in
+    let above : List Item = take (suc z) items in
+    let below : List Item = drop (suc z) items in
+    let parts : above ++ below ≡ items = take-append-drop (suc z) items in
+    let long : suc z ≡ length above = sym (length-take-le (suc z) items (omega (arith, within))) in
+    let p_there : IsPairAt (above ++ below) p (place m moved) = pair_in items above below parts p (place m moved) p_at in
+    let q_there : IsPairAt (above ++ below) q (place z other) = pair_in items above below parts q (place z other) q_at in
+    let stands : StandsAlone (above ++ below) m z q p = alone_in items above below parts m z q p alone in
+    record {
+      above = above;
+      below = below;
+      upper = p_there.rule;
+      parts = sym parts;
+      place_is = long;
+      floor = is_floor above below m z p q moved other long stands p_there q_there weigh;
+      lacks = lacks_other above below m z p q moved other long stands p_there q_there;
+    }
+
+walled_by : (way : Way) (items : List Item) (m z : ℕ) (p q : Pair) (moved other : ℕ) → StandsAloneOn way items m z p q → IsPairAt items p (place m moved) → IsPairAt items q (place z other) → Weigh p q → IsWalledBy way items m z p q
+walled_by Up items m z p q moved other alone p_at q_at weigh = wall_above items m z p q moved other alone p_at q_at weigh
+walled_by Down items m z p q moved other alone p_at q_at weigh = floor_below items m z p q moved other alone p_at q_at weigh
+
+pub makes_wall : (b : BoardParts) (k : Step) (way : Way) (o : Obstacle) (at : PairPlace) (mover from : Mark) → HasStep b.items k → o.other ≡ others.Pair at →
+    ((p q : Pair) → IsAt b.items o.moved p → IsAt b.items at q → StandsAloneOn way b.items o.moved.item at.item p q) →
+    slice_get b.marks o.moved.item ≡ Some mover → slice_get b.marks at.item ≡ Some from → MakesWallFor b k o way mover.birth from.label
+makes_wall b k way o at mover from has is alone is_mover is_from answers blocked = by_one blocked.by blocked.names (blocked.hinders has.0 has.1)
   where
-    by_one : (by : Hindrance) → Names b.items o by → Hinders answers b.items has.0 by → MakesWall answers b o mover.birth from.label
+    by_one : (by : Hindrance) → Names b.items o by → Hinders answers b.items has.0 by → MakesWall answers b o way mover.birth from.label
     by_one (OfKept p number) names hinders = absurd (subst (λ (x : Other). IsOther b.items x (OfKept p number)) is names.other)
     by_one (OfPair p q) names hinders =
         let q_is : IsAt b.items at q = subst (λ (x : Other). IsOther b.items x (OfPair p q)) is names.other in
-        let stands : StandsAlone b.items at.item o.moved.item p q = alone p q names.moved q_is in
-        let within : at.item < length b.items = slice_get_within b.items at.item (Rule q_is.rule) q_is.rule_at in
-        let parts : take at.item b.items ++ drop at.item b.items ≡ b.items = take-append-drop at.item b.items in
-        let long : length (take at.item b.items) ≡ at.item = length-take-le at.item b.items (omega (arith, within)) in
-        let y : length (take at.item b.items) + (o.moved.item - at.item) ≡ o.moved.item = (let less : at.item < o.moved.item = stands.before in omega (arith, long, less)) in
-        let p_there : IsPairAt (take at.item b.items ++ drop at.item b.items) p (place (length (take at.item b.items) + (o.moved.item - at.item)) o.moved.decl) =
-        subst (λ (xs : List Item). IsPairAt xs p (place (length (take at.item b.items) + (o.moved.item - at.item)) o.moved.decl)) (sym parts)
-        (subst (λ (n : ℕ). IsPairAt b.items p (place n o.moved.decl)) (sym y) (pair_at b.items o.moved p names.moved)) in
         record {
-          above = take at.item b.items;
-          below = drop at.item b.items;
-          y = o.moved.item - at.item;
-          lower = p_there.rule;
+          m = o.moved.item;
+          place = at.item;
           p = p;
           q = q;
           names = names;
-          parts = sym parts;
-          wall = is_wall (take at.item b.items) (drop at.item b.items) (o.moved.item - at.item) p q o.moved.decl at.decl
-              (subst (λ (xs : List Item). StandsAlone xs (length (take at.item b.items)) (length (take at.item b.items) + (o.moved.item - at.item)) p q) (sym parts)
-              (subst (λ (n : ℕ). StandsAlone b.items n (length (take at.item b.items) + (o.moved.item - at.item)) p q) (sym long)
-              (subst (λ (n : ℕ). StandsAlone b.items at.item n p q) (sym y) stands)))
-              p_there
-              (subst (λ (xs : List Item). IsPairAt xs q (place (length (take at.item b.items)) at.decl)) (sym parts)
-              (subst (λ (n : ℕ). IsPairAt b.items q (place n at.decl)) (sym long) (pair_at b.items at q q_is)))
-              hinders.0.weigh;
+          wall = walled_by way b.items o.moved.item at.item p q o.moved.decl at.decl (alone p q names.moved q_is) (pair_at b.items o.moved p names.moved) (pair_at b.items at q q_is) hinders.0.weigh;
           apart = hinders.1;
-          mover = slice_get-map (λ (m : Mark). m.birth) b.marks (length (take at.item b.items) + (o.moved.item - at.item)) ∙ ap (option_map (λ (m : Mark). m.birth)) (ap (slice_get b.marks) y ∙ is_mover);
-          place = slice_get-map (λ (m : Mark). m.label) b.marks (length (take at.item b.items)) ∙ ap (option_map (λ (m : Mark). m.label)) (ap (slice_get b.marks) long ∙ is_from);
+          born = slice_get-map (λ (m : Mark). m.birth) b.marks o.moved.item ∙ ap (option_map (λ (m : Mark). m.birth)) is_mover;
+          at = slice_get-map (λ (m : Mark). m.label) b.marks at.item ∙ ap (option_map (λ (m : Mark). m.label)) is_from;
         }

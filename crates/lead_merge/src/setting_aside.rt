@@ -6,17 +6,19 @@ ghost use Rattle.css_model.specs.Cascade.Order.{Pair};
 ghost use Rattle.css_model.specs.declared.sheet.DeclItem as declared_item;
 ghost use Rattle.css_model.specs.declared.sheet.SelItem as declared;
 ghost use Rattle.css_model.specs.Sheets.Limits.{max_bytes};
-ghost use Rattle.lead_laws.specs.BoardWalls.{up_lead};
+ghost use Rattle.hold_laws.specs.Ways as ways;
+ghost use Rattle.lead_laws.specs.BoardWalls.{moves_lead};
 ghost use Rattle.lead_laws.specs.Remembering.{entry_of, pairs_of, HasEntryOf};
-ghost use Rattle.lead_merge.specs.Walling.{HasUpEntries};
+ghost use Rattle.lead_merge.specs.Walling.{HasMovesEntries};
 ghost use Rattle.lead_plan.specs.declared.aside.Entry.{Entry};
-ghost use Rattle.lead_plan.specs.Told.{lead_told};
+ghost use Rattle.lead_plan.specs.Told.{lead_told, scope_told};
 ghost use Rattle.obstacles.specs.Blocking.{IsAt, IsOther, Names};
 ghost use Rattle.obstacles.specs.declared.obstacle.Other.TheVariants as others;
 ghost use Rattle.obstacles.specs.declared.obstacle.PairPlace as declared_place;
 ghost use Rattle.wall_laws.specs.Holding.{Hindrance};
 
 use css_model::{Decl, MAX_BYTES, Rule, Selector, Sheet};
+use hold_laws::Way;
 use lead_plan::{Aside, Kind, Lead, Scope};
 use obstacles::{Obstacle, Other, PairPlace};
 use plan_state::Plan;
@@ -127,9 +129,19 @@ pub(crate) fn put_aside(plan: &mut Plan, lead: &Lead, obstacle: &Obstacle) -> Re
     put_named(&mut plan.aside, plan.board.sheet(), obstacle, &alone(lead))
 }
 
-/// The turn before all steps that leads all joins up of the item of a birth.
-fn lead_of_ups(owner: u32) -> Lead
-    ensures { lead_told result ≡ up_lead (max_bytes + 1) owner }
+/// The scope of all joins of an item in a way.
+fn scope_of(way: Way) -> Scope
+    ensures { scope_told result ≡ ways.scope_of way }
+{
+    match way {
+        Way::Up => Scope::Ups,
+        Way::Down => Scope::Downs,
+    }
+}
+
+/// The turn before all steps that leads all joins of the item of a birth in a way.
+fn lead_of_moves(way: Way, owner: u32) -> Lead
+    ensures { lead_told result ≡ moves_lead way (max_bytes + 1) owner }
 {
     Lead {
         saving: Reverse(MAX_BYTES + 1),
@@ -137,22 +149,27 @@ fn lead_of_ups(owner: u32) -> Lead
         first: 0,
         second: 0,
         owner,
-        scope: Scope::Ups,
+        scope: scope_of(way),
     }
 }
 
-/// Sets the lead of all joins up of the item of a birth aside, under each pair of what an obstacle names. All else of the
-/// plan stays.
-pub(crate) fn put_up(plan: &mut Plan, birth: u32, obstacle: &Obstacle) -> Result<(), AllocError>
+/// Sets the lead of all joins of the item of a birth in a way aside, under each pair of what an obstacle names. All else of
+/// the plan stays.
+pub(crate) fn put_all(
+    plan: &mut Plan,
+    way: Way,
+    birth: u32,
+    obstacle: &Obstacle,
+) -> Result<(), AllocError>
     requires { (by : Hindrance) × Names plan.old.board.items obstacle.now by }
     ensures same { OnOk result (plan.new ≡ record plan.old { entries = plan.new.entries }) }
     ensures more { OnOk result ((x : Entry) → Contains plan.old.entries x → Contains plan.new.entries x) }
-    ensures put { OnOk result (HasUpEntries plan.old.board.items plan.new.entries obstacle.now birth) }
+    ensures put { OnOk result (HasMovesEntries plan.old.board.items plan.new.entries obstacle.now way birth) }
 {
     put_named(
         &mut plan.aside,
         plan.board.sheet(),
         obstacle,
-        &lead_of_ups(birth),
+        &lead_of_moves(way, birth),
     )
 }

@@ -1,4 +1,4 @@
-//! Walls that are set, where an obstacle of a join up hinders all joins up of its lower item past a place.
+//! Walls that are set, where an obstacle of a join hinders all joins of the item that moves in it, up or down, past a place.
 
 ghost use Rattle.std.specs.Prelude.{◌≡◌, ◌≢◌, ◌⊎◌, ◌∷◌, ◌<◌, ◌≤◌, ℕ, IfSome, List, OnOk, Some, false, true, length, slice_get};
 ghost use Rattle.std.specs.List.{Contains};
@@ -21,8 +21,10 @@ ghost use Rattle.step_laws.specs.Steps.{HasStep};
 ghost use Rattle.step_turns.specs.Marked.{rules_of};
 ghost use Rattle.wall_laws.specs.Holding.{Hindrance};
 
-use crate::setting_aside::{decl_of, put_up, selector_of};
+use crate::setting_aside::{decl_of, put_all, selector_of};
+use hold_laws::Way;
 use lead_laws::walls_stay;
+use lead_plan::Walls;
 use obstacles::{Obstacle, Other, PairPlace};
 use plan_board::Board;
 use plan_state::Plan;
@@ -68,26 +70,48 @@ fn stands_alone(board: &Board, tables: &Tables, moved: &PairPlace, other: &PairP
     !pair_stands_from(board, tables, other, own, from)
 }
 
-/// A wall: the birth of the item that it hinders, and the label of the first item that this does not move past.
+/// A wall: the way in which the item that it hinders would move, the birth of that item, and the label of the item past
+/// which it does not.
 #[derive(Clone, Copy, Debug)]
 struct Wall {
+    way: Way,
     birth: u32,
     label: u64,
 }
 
-/// The item that moves in a join up.
-fn mover_of(step: &Step) -> Option<u32> {
+/// The item that moves in a join, and its way.
+fn mover_of(step: &Step) -> Option<(u32, Way)> {
     match *step {
-        Step::JoinSelUp { lower, .. } | Step::JoinDeclUp { lower, .. } => Some(lower),
-        _ => None,
+        Step::JoinSelUp { lower, .. } | Step::JoinDeclUp { lower, .. } => Some((lower, Way::Up)),
+        Step::JoinSelDown { upper, .. } | Step::JoinDeclDown { upper, .. } => {
+            Some((upper, Way::Down))
+        }
+        Step::CutDecl { .. } | Step::CutSel { .. } | Step::Share { .. } => None,
     }
 }
 
-/// The wall that two pairs make, if they do.
+/// Whether two pairs make a wall in a way.
+fn is_wall(board: &Board, tables: &Tables, way: Way, moved: &PairPlace, other: &PairPlace) -> bool
+    requires few { length board.now.items ≤ max_items }
+    requires cover { Cover tables.now (rules_of board.now) }
+    requires marked { IsMarked board.now }
+    requires moved_there { (p : Pair) × IsAt board.now.items moved.now p }
+    requires other_there { (q : Pair) × IsAt board.now.items other.now q }
+    ensures { result ≡ true → (p q : Pair) → IsAt board.now.items moved.now p → IsAt board.now.items other.now q
+        → spec.StandsAloneOn way board.now.items moved.now.item other.now.item p q }
+{
+    match way {
+        Way::Up => stands_alone(board, tables, moved, other),
+        Way::Down => stands_alone(board, tables, other, moved),
+    }
+}
+
+/// The wall that two pairs make in a way, if they do.
 fn wall_between(
     board: &Board,
     tables: &Tables,
     step: &Step,
+    way: Way,
     obstacle: &Obstacle,
     other: &PairPlace,
 ) -> Option<Wall>
@@ -97,14 +121,14 @@ fn wall_between(
     requires step_of { HasStep board.now.items step.now }
     requires blocked { (answers : List Answered) × IsBlockedBy answers board.now.items step.now obstacle.now }
     requires pair { obstacle.now.other ≡ others.Pair other.now }
-    ensures { IfSome result (λ w. spec.MakesWallFor board.now step.now obstacle.now w.birth w.label) }
+    ensures { IfSome result (λ w. spec.MakesWallFor board.now step.now obstacle.now w.way w.birth w.label) }
 {
-    if !stands_alone(board, tables, &obstacle.moved, other) {
+    if !is_wall(board, tables, way, &obstacle.moved, other) {
         return None;
     }
     let label = board.mark(other.item).label;
     let birth = board.mark(obstacle.moved.item).birth;
-    Some(Wall { birth, label })
+    Some(Wall { way, birth, label })
 }
 
 /// The wall that an obstacle of a step makes, if it does.
@@ -114,13 +138,14 @@ fn wall_of(board: &Board, tables: &Tables, step: &Step, obstacle: &Obstacle) -> 
     requires marked { IsMarked board.now }
     requires step_of { HasStep board.now.items step.now }
     requires blocked { (answers : List Answered) × IsBlockedBy answers board.now.items step.now obstacle.now }
-    ensures { IfSome result (λ w. spec.MakesWallFor board.now step.now obstacle.now w.birth w.label) }
+    ensures { IfSome result (λ w. spec.MakesWallFor board.now step.now obstacle.now w.way w.birth w.label) }
 {
-    if mover_of(step) != Some(obstacle.moved.item) {
+    let (mover, way) = mover_of(step)?;
+    if mover != obstacle.moved.item {
         return None;
     }
     match &obstacle.other {
-        Other::Pair(other) => wall_between(board, tables, step, obstacle, other),
+        Other::Pair(other) => wall_between(board, tables, step, way, obstacle, other),
         Other::Kept(_) => None,
     }
 }
@@ -138,37 +163,55 @@ fn grow(walls: &mut Vec<u64>, birth: u32) -> Result<(), AllocError>
     Ok(())
 }
 
-/// Puts the label of a wall under a birth, if none stands there that is as great.
-fn put_higher(walls: &mut Vec<u64>, birth: usize, label: u64)
+/// Whether a label hinders more in a way than one that stands under a birth, or none does.
+fn hinders_more(way: Way, label: u64, old: u64) -> bool {
+    match way {
+        Way::Up => old < label,
+        Way::Down => old == 0 || label < old,
+    }
+}
+
+/// Puts the label of a wall in a way under a birth, if none stands there that hinders as much.
+fn put_label(walls: &mut Vec<u64>, way: Way, birth: usize, label: u64)
     requires { birth < length walls.old.items }
     ensures long { length walls.new.items ≡ length walls.old.items }
     ensures each { (b l : ℕ) → slice_get walls.new.items b ≡ Some l → 0 < l → (slice_get walls.old.items b ≡ Some l) ⊎ ((b ≡ birth) × (l ≡ label)) }
 {
-    if walls[birth] < label {
+    if hinders_more(way, label, walls[birth]) {
         walls[birth] = label;
     }
 }
 
 /// The same, where there may be no room yet.
-fn raise(walls: &mut Vec<u64>, birth: u32, label: u64) -> Result<(), AllocError>
-    ensures { OnOk result (spec.IsRaised walls.old.items walls.new.items birth label) }
+fn raise(walls: &mut Vec<u64>, wall: &Wall) -> Result<(), AllocError>
+    ensures { OnOk result (spec.IsRaised walls.old.items walls.new.items wall.now.birth wall.now.label) }
 {
-    grow(walls, birth)?;
-    put_higher(walls, birth as usize, label);
+    grow(walls, wall.birth)?;
+    put_label(walls, wall.way, wall.birth as usize, wall.label);
     Ok(())
 }
 
-/// Sets a wall that an obstacle makes: all joins up of its item past it are set aside at once, under each pair of what
-/// the obstacle names.
+/// Puts a wall among those in its way.
+fn set(walls: &mut Walls, wall: &Wall) -> Result<(), AllocError>
+    ensures { OnOk result (spec.IsSet walls.old walls.new wall.now.way wall.now.birth wall.now.label) }
+{
+    match wall.way {
+        Way::Up => raise(&mut walls.ups, wall),
+        Way::Down => raise(&mut walls.downs, wall),
+    }
+}
+
+/// Sets a wall that an obstacle makes: all joins of its item past it are set aside at once, under each pair of what the
+/// obstacle names.
 fn put_wall(plan: &mut Plan, wall: &Wall, obstacle: &Obstacle) -> Result<(), AllocError>
     requires { (by : Hindrance) × Names plan.old.board.items obstacle.now by }
     ensures same { OnOk result (plan.new ≡ record plan.old { entries = plan.new.entries; walls = plan.new.walls }) }
     ensures more { OnOk result ((x : Entry) → Contains plan.old.entries x → Contains plan.new.entries x) }
-    ensures put { OnOk result (spec.HasUpEntries plan.old.board.items plan.new.entries obstacle.now wall.now.birth) }
-    ensures raised { OnOk result (spec.IsRaised plan.old.walls plan.new.walls wall.now.birth wall.now.label) }
+    ensures put { OnOk result (spec.HasMovesEntries plan.old.board.items plan.new.entries obstacle.now wall.now.way wall.now.birth) }
+    ensures set { OnOk result (spec.IsSet plan.old.walls plan.new.walls wall.now.way wall.now.birth wall.now.label) }
 {
-    put_up(plan, wall.birth, obstacle)?;
-    raise(&mut plan.walls, wall.birth, wall.label)
+    put_all(plan, wall.way, wall.birth, obstacle)?;
+    set(&mut plan.walls, wall)
 }
 
 /// Sets the wall that an obstacle of a step makes, if it makes one. What led the steps of the plan's sheet still does.

@@ -1,3 +1,4 @@
 pub mod Asides
 pub mod Told
+pub mod WallParts
 pub mod Weights

@@ -4,7 +4,9 @@
 mod aside;
 mod lead;
 mod waiting;
+mod walls;
 
 pub use aside::{Aside, Entry};
 pub use lead::{Kind, Lead, ROOM, Scope, later_weighs_less};
 pub use waiting::Waiting;
+pub use walls::Walls;

@@ -7,13 +7,15 @@ use Rattle.css_model.specs.declared.sheet.Item.{Item}
 use Rattle.css_model.specs.declared.sheet.Item.TheVariants.{Rule}
 use Rattle.css_model.specs.Sheets.Limits.{max_bytes}
 use Rattle.css_model.specs.Sheets.RuleParts.{RuleParts}
+use Rattle.hold_laws.specs.declared.way.Way.{Way}
+use Rattle.hold_laws.specs.declared.way.Way.TheVariants.{Up, Down}
 use Rattle.hold_laws.specs.Leads as held
 use Rattle.hold_laws.specs.Scopes.{Owned}
 use Rattle.hold_laws.specs.Turns.{first_turn}
 use Rattle.lead_laws.specs.Beside.{CoverIsOfEach}
-use Rattle.lead_laws.specs.BoardWalls.{AreWalls}
 use Rattle.lead_laws.specs.Known.{IsKnown, StartIsKnown}
 use Rattle.lead_laws.specs.MarkNames.{IsMarked}
+use Rattle.lead_plan.specs.WallParts.{walls_on, WallParts}
 use Rattle.list_facts.proofs.Options.{mapped}
 use Rattle.plan_board.specs.BoardParts.{BoardParts}
 use Rattle.plan_board.specs.declared.marks.Mark.{Mark}
@@ -49,7 +51,12 @@ module _ (next : ℕ) (b : BoardParts) (marked : IsMarked b) (tables : TablePart
       let w : (m : Mark) × (slice_get b.marks n ≡ Some m) × (m.birth ≡ birth) = mapped (λ (m : Mark). m.birth) (slice_get b.marks n) birth (sym (slice_get-map (λ (m : Mark). m.birth) b.marks n) ∙ at) in
       subst (λ (k : ℕ). Contains leads (first_lead k)) w.2 ((one n w.0 w.1 (subst (λ (k : ℕ). next ≤ k) (sym w.2) later)).1.lead)
 
-pub start_state : StartIsKnown → CoverIsOfEach → (answers : List Answered) (source : List ℕ) (p : PlanParts) → IsPlannable source p.board.items → IsMarked p.board → p.entries ≡ [] → p.walls ≡ [] →
+-- no wall stands in either way
+pub none_on : (walls : WallParts) → walls.ups ≡ [] → walls.downs ≡ [] → (way : Way) → walls_on way walls ≡ []
+none_on walls ups downs Up = ups
+none_on walls ups downs Down = downs
+
+pub start_state : StartIsKnown → CoverIsOfEach → (answers : List Answered) (source : List ℕ) (p : PlanParts) → IsPlannable source p.board.items → IsMarked p.board → p.entries ≡ [] → ((way : Way) → walls_on way p.walls ≡ []) →
     AreGreeted 0 p.board.marks p.board.items p.tables p.leads p.homes → IsState answers source p
 start_state start cover answers source p plannable marked none no_walls greeted = record {
   board = record {
@@ -61,8 +68,8 @@ start_state start cover answers source p plannable marked none no_walls greeted 
   aside = [];
   known = subst (IsKnown answers source p.board p.leads []) (sym none)
       (start answers source p.board p.leads (max_bytes + 1) marked (let short = plannable.short in omega (arith, short)) (λ n birth at. lead_there 0 p.board marked p.tables p.leads p.homes greeted n birth at (omega arith)));
-  walls = subst (AreWalls answers p.board p.entries (max_bytes + 1) p.leads) (sym no_walls) (record { past = omega arith; each = λ birth label at some. absurd (nowhere birth label at) });
+  walls = record { past = λ way. subst (λ (xs : List ℕ). length xs ≤ p.board.next) (sym (no_walls way)) (omega arith); each = λ way birth label at some. absurd (nowhere way birth label at) };
 }
   where
-    nowhere : (birth label : ℕ) → slice_get [] birth ≡ Some label → ⊥
-    nowhere birth label at = let e : None ≡ Some label = at in cc
+    nowhere : (way : Way) (birth label : ℕ) → slice_get (walls_on way p.walls) birth ≡ Some label → ⊥
+    nowhere way birth label at = let e : None ≡ Some label = subst (λ (xs : List ℕ). slice_get xs birth ≡ Some label) (no_walls way) at in cc

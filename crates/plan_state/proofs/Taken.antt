@@ -4,6 +4,7 @@ use Rattle.std.specs.List.{Contains}
 use Rattle.std.specs.Prelude.{Some, slice_get}
 use Rattle.css_model.specs.Cascade.Order.{Pair}
 use Rattle.css_model.specs.Sheets.Limits.{max_bytes, max_items}
+use Rattle.hold_laws.specs.declared.way.Way.{Way}
 use Rattle.hold_laws.specs.Leads as held
 use Rattle.hold_laws.specs.Room.{SheetsHaveRoom}
 use Rattle.lead_laws.specs.Beside.{CoverGoesOn, HomesGoOn, StayCovered}
@@ -13,6 +14,7 @@ use Rattle.lead_laws.specs.MarkNames.{IsMarked}
 use Rattle.lead_laws.specs.Remembering.{untouched}
 use Rattle.lead_plan.specs.declared.aside.Entry.{Entry}
 use Rattle.lead_plan.specs.Told.{lead_told}
+use Rattle.lead_plan.specs.WallParts.{walls_on}
 use Rattle.order_laws.specs.Edits.{is_moved, Edit, edited}
 use Rattle.plan_board.specs.Marking.{AreKept}
 use Rattle.plan_board.specs.MarkList.{labels_of}
@@ -44,7 +46,7 @@ pub record IsDone (p p' : PlanParts) (woken : List held.Lead) (left : TableParts
   pub greeted : AreGreeted p.board.next p'.board.marks p'.board.items p'.tables p'.leads p'.homes
   pub stay : StayBefore p.board.next left woken p.homes p'.tables p'.leads p'.homes
   pub entries : p'.entries ≡ p.entries
-  pub walls : SomeStay p.walls p'.walls (λ birth label. (n : ℕ) → slice_get (labels_of p.board.marks) n ≡ Some label → (first_item k ≡ n → ⊥) × (last_item k ≡ n → ⊥))
+  pub walls : (way : Way) → SomeStay (walls_on way p.walls) (walls_on way p'.walls) (λ birth label. (n : ℕ) → slice_get (labels_of p.board.marks) n ≡ Some label → (first_item k ≡ n → ⊥) × (last_item k ≡ n → ⊥))
 
 pub taken_state : TakenIsKnown → WallsGoOver → SheetsHaveRoom → CoverGoesOn → HomesGoOn → StepsMakeOf → EachIsMadeOfItself → (answers : List Answered) (source : List ℕ) (p p' : PlanParts) (woken : List held.Lead) (left : TableParts) (k : Step) (e : Edit) →
     IsStep p.board.items k e → length p.board.items + 1 < max_items → IsDone p p' woken left k e → Takes answers source p.board.items (edited e p.board.items) → IsState answers source p → IsState answers source p'
@@ -61,7 +63,7 @@ taken_state taken over room cover homes make itself answers source p p' woken le
       taken answers source p.board p'.board k e (max_bytes + 1) saved.0 p.leads p'.leads s.aside p.entries p'.entries s.board.marked is s.board.plannable.sound (room p.board.items few)
       (let short = s.board.plannable.short in omega (arith, short)) saved.1 changed s.known);
   walls = subst (λ (xs : List Entry). AreWalls answers p'.board xs (max_bytes + 1) p'.leads p'.walls) (sym d.entries)
-      (over answers p.board p'.board k e p.entries (max_bytes + 1) p.leads p'.leads p.walls p'.walls s.board.marked is d.kept d.items d.later changed.woken changed.led (let l = d.walls.long in omega (arith, l)) d.walls.left s.walls);
+      (over answers p.board p'.board k e p.entries (max_bytes + 1) p.leads p'.leads p.walls p'.walls s.board.marked is d.kept d.items d.later changed.woken changed.led (λ way. (let l = (d.walls way).long in omega (arith, l))) (λ way. (d.walls way).left) s.walls);
 }
   where
     changed : IsTaken p.board p'.board e (max_bytes + 1) p.leads p'.leads p.entries p'.entries

@@ -2,15 +2,15 @@
 use Rattle.std.specs.Prelude.{ℕ, List}
 use Rattle.hold_laws.specs.Leads as held
 use Rattle.lead_plan.specs.declared.aside.Entry.{Entry}
+use Rattle.lead_plan.specs.WallParts.{WallParts}
 use Rattle.plan_board.specs.BoardParts.{BoardParts}
 use Rattle.rule_tables.specs.Tables.{TableParts}
 
--- the sheet with its marks, its tables, the turns that lead, what is set aside, and under each birth a label and that of
--- a wall
+-- the sheet with its marks, its tables, the turns that lead, what is set aside, under each birth a label, and the walls
 pub record PlanParts : Type 0 where
   pub board : BoardParts
   pub tables : TableParts
   pub leads : List held.Lead
   pub entries : List Entry
   pub homes : List ℕ
-  pub walls : List ℕ
+  pub walls : WallParts

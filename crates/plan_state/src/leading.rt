@@ -14,7 +14,7 @@ use lead_plan::Lead;
 
 impl Plan {
     /// Takes out the first of the turns that lead, if there is one: none of them comes before it. Where it leads all joins
-    /// up of an item, the item's wall is taken down.
+    /// of an item in a way, the item's wall in that way is taken down.
     pub fn take_first(&mut self) -> Option<Lead>
         ensures same { self.new ≡ record self.old { leads = self.new.leads; walls = self.new.walls } }
         ensures taken { IfSome result (λ l. self.old.leads ≡ lead_told l ∷ self.new.leads) }

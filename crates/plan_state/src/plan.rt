@@ -9,7 +9,7 @@ ghost use Rattle.step_laws.specs.Free.{Answered};
 use crate::greeting::greet;
 use css_model::Sheet;
 use lead_laws::{cover_is_of_each, start_is_known};
-use lead_plan::{Aside, Waiting};
+use lead_plan::{Aside, Waiting, Walls};
 use plan_board::Board;
 use rule_tables::Tables;
 use std::alloc::{AllocError, Global};
@@ -28,8 +28,8 @@ pub struct Plan {
     pub aside: Aside,
     /// The label of the item of each birth, while there is one.
     pub homes: Vec<u64>,
-    /// Under each birth the label from which on the item has a wall; where it has none, 0.
-    pub walls: Vec<u64>,
+    /// What joins of its items are known to be hindered past.
+    pub walls: Walls,
 }
 
 impl Model for Plan {
@@ -43,7 +43,7 @@ impl Model for Plan {
       leads = p.waiting;
       entries = p.aside;
       homes = p.homes.items;
-      walls = p.walls.items;
+      walls = p.walls;
     } };
 }
 
@@ -63,7 +63,7 @@ impl Plan {
         let mut homes = Vec::new(alloc);
         greet(&board, 0, &mut tables, &mut waiting, &mut homes)?;
         let aside = Aside::new(alloc);
-        let walls = Vec::new(alloc);
+        let walls = Walls::new(alloc);
         Ok(Plan {
             board,
             tables,

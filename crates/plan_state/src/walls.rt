@@ -1,17 +1,21 @@
 //! Walls that are taken down.
 
-ghost use Rattle.std.specs.Prelude.{◌≡◌, ℕ, ◌<◌, true, Some, length, slice_get};
+ghost use Rattle.std.specs.Prelude.{◌≡◌, ℕ, ◌<◌, Some, length, slice_get};
+ghost use Rattle.hold_laws.specs.declared.way.Way as declared;
+ghost use Rattle.hold_laws.specs.declared.way.Way.TheVariants as ways;
 ghost use Rattle.lead_plan.specs.declared.lead.Scope.TheVariants as scopes;
+ghost use Rattle.lead_plan.specs.WallParts.{walls_on};
 ghost use Rattle.plan_board.specs.MarkList.{labels_of};
 ghost use Rattle.plan_state.specs.Walls.{IsFromOther, IsOfOther, SomeStay};
 ghost use Rattle.step_laws.specs.Steps.{HasStep, first_item, last_item};
 
-use lead_plan::{Lead, Scope};
+use hold_laws::Way;
+use lead_plan::{Lead, Scope, Walls};
 use plan_board::Board;
 use step_laws::Step;
 use step_savings::items_of;
 
-/// Takes down the wall under a birth, if it stands from one of these labels on.
+/// Takes down the wall under a birth, if it stands at one of these labels.
 fn take_down_if(walls: &mut Vec<u64>, birth: usize, first: u64, last: u64)
     requires { birth < length walls.old.items }
     ensures { SomeStay walls.old.items walls.new.items (λ b label. birth ≡ b → IsFromOther first last b label) }
@@ -21,7 +25,7 @@ fn take_down_if(walls: &mut Vec<u64>, birth: usize, first: u64, last: u64)
     }
 }
 
-/// Takes down the walls that stand from one of these labels on.
+/// Takes down the walls that stand at one of these labels.
 fn take_down_from(walls: &mut Vec<u64>, first: u64, last: u64)
     ensures { SomeStay walls.old.items walls.new.items (IsFromOther first last) }
 {
@@ -38,14 +42,17 @@ fn label_of(board: &Board, number: u32) -> u64
     board.mark(number).label
 }
 
-/// Takes down the walls that stand from an item of a step on.
-pub(crate) fn take_down_for(walls: &mut Vec<u64>, board: &Board, step: &Step)
+/// Takes down the walls that stand at an item of a step.
+pub(crate) fn take_down_for(walls: &mut Walls, board: &Board, step: &Step)
     requires { HasStep board.now.items step.now }
-    ensures { SomeStay walls.old.items walls.new.items (λ birth label. (n : ℕ) → slice_get (labels_of board.now.marks) n ≡ Some label
+    ensures { (way : declared.Way) → SomeStay (walls_on way walls.old) (walls_on way walls.new) (λ birth label. (n : ℕ) → slice_get (labels_of board.now.marks) n ≡ Some label
         → (first_item step.now ≡ n → ⊥) × (last_item step.now ≡ n → ⊥)) }
 {
     let (first, last) = items_of(step);
-    take_down_from(walls, label_of(board, first), label_of(board, last));
+    let first = label_of(board, first);
+    let last = label_of(board, last);
+    take_down_from(&mut walls.ups, first, last);
+    take_down_from(&mut walls.downs, first, last);
 }
 
 /// Takes down the wall of the item of a birth.
@@ -58,21 +65,25 @@ fn take_down(walls: &mut Vec<u64>, birth: u32)
     }
 }
 
-/// Whether a lead leads all joins up of an item.
-fn leads_ups(lead: &Lead) -> bool
-    ensures { lead.now.scope ≡ scopes.Ups → result ≡ true }
+/// The way in which an item moves in the joins that a lead leads, if it leads all of an item in a way.
+fn way_of(lead: &Lead) -> Option<Way>
+    ensures ups { lead.now.scope ≡ scopes.Ups → result ≡ Some ways.Up }
+    ensures downs { lead.now.scope ≡ scopes.Downs → result ≡ Some ways.Down }
 {
     match lead.scope {
-        Scope::Ups => true,
-        Scope::Alone | Scope::Owned | Scope::Downs => false,
+        Scope::Ups => Some(Way::Up),
+        Scope::Downs => Some(Way::Down),
+        Scope::Alone | Scope::Owned => None,
     }
 }
 
-/// Takes down the wall of the item whose joins up a lead leads, if it does.
-pub(crate) fn take_down_of(walls: &mut Vec<u64>, lead: &Lead)
-    ensures { SomeStay walls.old.items walls.new.items (IsOfOther lead.now) }
+/// Takes down the wall of the item of which a lead leads all joins in a way, if it does.
+pub(crate) fn take_down_of(walls: &mut Walls, lead: &Lead)
+    ensures { (way : declared.Way) → SomeStay (walls_on way walls.old) (walls_on way walls.new) (IsOfOther way lead.now) }
 {
-    if leads_ups(lead) {
-        take_down(walls, lead.owner);
+    match way_of(lead) {
+        Some(Way::Up) => take_down(&mut walls.ups, lead.owner),
+        Some(Way::Down) => take_down(&mut walls.downs, lead.owner),
+        None => {}
     }
 }

@@ -7,6 +7,7 @@ use Rattle.list_facts.proofs.Members.{Contains-cons_cases, Contains-nil}
 use Rattle.hold_laws.specs.Turns.{named, TurnsAreOrdered}
 use Rattle.lead_laws.specs.BoardWalls.{IsWalled}
 use Rattle.lead_plan.specs.declared.lead.Lead.{Lead}
+use Rattle.lead_plan.specs.WallParts.{WallParts}
 use Rattle.lead_plan.specs.Told.{lead_told}
 use Rattle.merge_plan.specs.Planning.{IsSaving}
 use Rattle.order_laws.specs.Edits.{Edit, edited}
@@ -49,7 +50,7 @@ keeps_both a b c f g t h = g t (f t h)
 
 -- ---- A step that is tried
 
-module _ (source : List ℕ) (board : BoardParts) (walls : List ℕ) (after : Lead) where
+module _ (source : List ℕ) (board : BoardParts) (walls : WallParts) (after : Lead) where
   pub no_step : (best : FoundParts) (k : Step) → (HasStep board.items k → ⊥) → Covers source board walls after best k
   no_step best k none e n is saves some beside later = absurd (none (e, is))
 

@@ -14,6 +14,7 @@ use Rattle.hold_laws.specs.Turns.{named}
 use Rattle.lead_plan.specs.declared.lead.Lead.{Lead}
 use Rattle.lead_plan.specs.declared.lead.Scope as coded
 use Rattle.lead_plan.specs.declared.lead.Scope.TheVariants as scopes
+use Rattle.lead_plan.specs.WallParts.{WallParts}
 use Rattle.lead_plan.specs.Told.{lead_told, scope_told}
 use Rattle.order_laws.specs.Edits.{Edit}
 use Rattle.plan_board.specs.BoardParts.{BoardParts}
@@ -91,7 +92,7 @@ one_of_two xs Downs birth k (down, first) = inl (sym first)
 
 -- ---- All steps in the scope of a lead
 
-module _ (source : List ℕ) (board : BoardParts) (walls : List ℕ) (after : Lead) (are : AreMarks board.marks board.next) (beside : length board.marks ≡ length board.items)
+module _ (source : List ℕ) (board : BoardParts) (walls : WallParts) (after : Lead) (are : AreMarks board.marks board.next) (beside : length board.marks ≡ length board.items)
     (plannable : IsPlannable source board.items) (number : ℕ) (own : Mark) (own_at : slice_get board.marks number ≡ Some own) (own_is : own.birth ≡ after.owner) where
   mark_at : (n : ℕ) → n < length board.items → (m : Mark) × (slice_get board.marks n ≡ Some m)
   mark_at n less = mark_there board.marks n (subst (λ (c : ℕ). n < c) (sym beside) less)
@@ -158,7 +159,7 @@ selector_inside items n count r at same i e is =
 
 -- ---- The steps of an item and a partner
 
-module _ (source : List ℕ) (board : BoardParts) (walls : List ℕ) (after : Lead) (best : FoundParts) (number label : ℕ) where
+module _ (source : List ℕ) (board : BoardParts) (walls : WallParts) (after : Lead) (best : FoundParts) (number label : ℕ) where
   pub no_partner : LacksLabel board.marks label → (k : Step) → IsWith board number label k → Covers source board walls after best k
   no_partner lacks k w = absurd (lacks w.other w.mark w.mark_at w.label_is)
 
@@ -225,7 +226,7 @@ item_at board beside after k e is in_it = which (one_of_two (births board) (lead
 abbrev LabelOfOwner : BoardParts → ℕ → ℕ → Type 0
 LabelOfOwner board birth label = (n : ℕ) → slice_get (births_of board.marks) n ≡ Some birth → slice_get (labels_of board.marks) n ≡ Some label
 
-module _ (source : List ℕ) (board : BoardParts) (walls : List ℕ) (after : Lead) (best : FoundParts) (beside : length board.marks ≡ length board.items) (label : ℕ) (at : LabelOfOwner board after.owner label) where
+module _ (source : List ℕ) (board : BoardParts) (walls : WallParts) (after : Lead) (best : FoundParts) (beside : length board.marks ≡ length board.items) (label : ℕ) (at : LabelOfOwner board after.owner label) where
   -- the mark of the owner has the label
   labelled_owner : (n : ℕ) (m : Mark) → slice_get board.marks n ≡ Some m → m.birth ≡ after.owner → m.label ≡ label
   labelled_owner n m mark_at born =

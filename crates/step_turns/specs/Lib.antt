@@ -3,6 +3,5 @@ pub mod Looking
 pub mod Marked
 pub mod Named
 pub mod Once
-pub mod PastWalls
 pub mod Seconds
 pub mod Shares

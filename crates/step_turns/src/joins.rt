@@ -1,6 +1,8 @@
 //! The steps of two rules are tried.
 
 ghost use Rattle.std.specs.Prelude.{◌≡◌, ◌<◌, ◌≤◌, OnOk, length, true};
+ghost use Rattle.hold_laws.specs.declared.way.Way.TheVariants as ways;
+ghost use Rattle.lead_laws.specs.BoardWalls.{IsPastWall};
 ghost use Rattle.lead_plan.specs.Weights.{room};
 ghost use Rattle.plan_laws.specs.Plannable.{IsPlannable};
 ghost use Rattle.rule_tables.specs.Tables.{Cover};
@@ -11,31 +13,30 @@ ghost use Rattle.step_savings.specs.Apart.{RulesApart};
 ghost use Rattle.step_turns.specs.Looking.{AreLater, Covers, Keeps};
 ghost use Rattle.step_turns.specs.Marked.{rules_of};
 ghost use Rattle.step_turns.specs.Once.{DeclsStandOnce};
-ghost use Rattle.step_turns.specs.PastWalls.{IsPastWall};
 ghost use Rattle.wall_laws.specs.Renumbering.{IsOfTwo};
 
 use crate::found::Found;
 use crate::masks::{decls_differ, selectors_differ, share_no_decl};
-use crate::past_walls::is_past_wall;
+use crate::past_walls::{Past, is_down_past, is_up_past};
 use crate::shares::share_saving;
 use crate::trying::{try_both, try_known, try_step};
-use lead_plan::Lead;
+use lead_plan::{Lead, Walls};
 use merge_plan::KnownLengths;
 use plan_board::Board;
 use rule_tables::Tables;
 use std::alloc::AllocError;
 use step_laws::Step;
 
-/// Puts the turns of the joins of two rules by their selectors. `past` says that the one up is known to go past a wall.
+/// Puts the turns of the joins of two rules by their selectors. `past` says which of them are known to go past walls.
 fn try_selector_joins(
     board: &Board,
     tables: &Tables,
     source: &KnownLengths<'_>,
-    walls: &[u64],
+    walls: &Walls,
     after: &Lead,
     upper: u32,
     lower: u32,
-    past: bool,
+    past: Past,
     apart: bool,
     found: &mut Found,
 ) -> Result<(), AllocError>
@@ -43,7 +44,8 @@ fn try_selector_joins(
     requires cover { Cover tables.now (rules_of board.now) }
     requires upper { upper < length board.now.items }
     requires lower { lower < length board.now.items }
-    requires past { past ≡ true → IsPastWall board.now walls.now upper lower }
+    requires past_up { past.up ≡ true → IsPastWall board.now walls.now ways.Up lower upper }
+    requires past_down { past.down ≡ true → IsPastWall board.now walls.now ways.Down upper lower }
     requires apart { apart ≡ true → RulesApart board.now.items upper lower }
     requires later { AreLater source.now board.now after.now found.old }
     requires few { length found.old.leads ≤ room }
@@ -63,16 +65,16 @@ fn try_selector_joins(
     )
 }
 
-/// Puts the turns of the joins of two rules by their declarations. `past` says that the one up is known to go past a wall.
+/// Puts the turns of the joins of two rules by their declarations. `past` says which of them are known to go past walls.
 fn try_decl_joins(
     board: &Board,
     tables: &Tables,
     source: &KnownLengths<'_>,
-    walls: &[u64],
+    walls: &Walls,
     after: &Lead,
     upper: u32,
     lower: u32,
-    past: bool,
+    past: Past,
     apart: bool,
     found: &mut Found,
 ) -> Result<(), AllocError>
@@ -80,7 +82,8 @@ fn try_decl_joins(
     requires cover { Cover tables.now (rules_of board.now) }
     requires upper { upper < length board.now.items }
     requires lower { lower < length board.now.items }
-    requires past { past ≡ true → IsPastWall board.now walls.now upper lower }
+    requires past_up { past.up ≡ true → IsPastWall board.now walls.now ways.Up lower upper }
+    requires past_down { past.down ≡ true → IsPastWall board.now walls.now ways.Down upper lower }
     requires apart { apart ≡ true → RulesApart board.now.items upper lower }
     requires later { AreLater source.now board.now after.now found.old }
     requires few { length found.old.leads ≤ room }
@@ -105,7 +108,7 @@ fn try_share(
     board: &Board,
     tables: &Tables,
     source: &KnownLengths<'_>,
-    walls: &[u64],
+    walls: &Walls,
     after: &Lead,
     upper: u32,
     lower: u32,
@@ -144,7 +147,7 @@ pub(crate) fn try_joins(
     board: &Board,
     tables: &Tables,
     source: &KnownLengths<'_>,
-    walls: &[u64],
+    walls: &Walls,
     after: &Lead,
     upper: u32,
     lower: u32,
@@ -165,7 +168,9 @@ pub(crate) fn try_joins(
     ensures later { OnOk result (AreLater source.now board.now after.now found.new) }
     ensures few { length found.new.leads ≤ room }
 {
-    let past = is_past_wall(board, walls, upper, lower);
+    let up = is_up_past(board, walls, upper, lower);
+    let down = is_down_past(board, walls, upper, lower);
+    let past = Past { up, down };
     try_selector_joins(
         board, tables, source, walls, after, upper, lower, past, apart, found,
     )?;

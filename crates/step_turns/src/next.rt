@@ -27,7 +27,7 @@ use crate::joins::try_joins;
 use crate::masks::share_no_selector;
 use crate::trying::try_step;
 use css_model::Rule;
-use lead_plan::{Lead, Scope};
+use lead_plan::{Lead, Scope, Walls};
 use merge_plan::KnownLengths;
 use plan_board::{Board, Mark};
 use rule_tables::{Tables, rules_are_labelled, steps_have_partners};
@@ -40,7 +40,7 @@ fn try_decl_cuts(
     board: &Board,
     tables: &Tables,
     source: &KnownLengths<'_>,
-    walls: &[u64],
+    walls: &Walls,
     after: &Lead,
     number: u32,
     count: u32,
@@ -71,7 +71,7 @@ fn try_selector_cuts(
     board: &Board,
     tables: &Tables,
     source: &KnownLengths<'_>,
-    walls: &[u64],
+    walls: &Walls,
     after: &Lead,
     number: u32,
     count: u32,
@@ -117,7 +117,7 @@ fn try_cuts(
     board: &Board,
     tables: &Tables,
     source: &KnownLengths<'_>,
-    walls: &[u64],
+    walls: &Walls,
     after: &Lead,
     number: u32,
     rule: &Rule,
@@ -194,7 +194,7 @@ fn try_partner(
     board: &Board,
     tables: &Tables,
     source: &KnownLengths<'_>,
-    walls: &[u64],
+    walls: &Walls,
     after: &Lead,
     number: u32,
     label: u64,
@@ -241,7 +241,7 @@ fn try_partners(
     board: &Board,
     tables: &Tables,
     source: &KnownLengths<'_>,
-    walls: &[u64],
+    walls: &Walls,
     after: &Lead,
     number: u32,
     labels: &[u64],
@@ -275,15 +275,15 @@ fn try_partners(
 /// The next turns in the scope of a lead, if there are some: of the steps that save something, are in it and go past no
 /// wall, the first ones whose turns come later than the lead's, and the first of the others, if there are more. `at` is the
 /// label of the item with the birth `after.owner`; where no item has it, there is no turn. Under a birth stands in `walls`
-/// the label of the item's wall: joins of the item up into items above that are past it. The tables cover the rules of the
-/// sheet, with the labels of their items. The error comes where memory is short.
+/// for each way the label of the item's wall: its joins up into items above that, and its joins down into items below it, are
+/// past it. The tables cover the rules of the sheet, with the labels of their items. The error comes where memory is short.
 /// The time is that of the item's parts and of the rules with one of them.
 pub fn next_leads(
     alloc: Global,
     board: &Board,
     tables: &Tables,
     source: &KnownLengths<'_>,
-    walls: &[u64],
+    walls: &Walls,
     at: u64,
     after: &Lead,
 ) -> Result<Found, AllocError>

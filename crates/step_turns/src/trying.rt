@@ -16,8 +16,9 @@ ghost use Rattle.step_turns.specs.Once.{PartsStandOnce};
 use crate::cuts::is_step_of;
 use crate::found::Found;
 use crate::order::{is_sooner, lead_of};
+use crate::past_walls::Past;
 use crate::scopes::is_beside;
-use lead_plan::Lead;
+use lead_plan::{Lead, Walls};
 use merge_plan::{KnownLengths, saved_if_apart};
 use plan_board::Board;
 use rule_tables::Tables;
@@ -29,7 +30,7 @@ use step_laws::Step;
 fn put_saving(
     board: &Board,
     source: &KnownLengths<'_>,
-    walls: &[u64],
+    walls: &Walls,
     after: &Lead,
     step: &Step,
     saving: u32,
@@ -61,7 +62,7 @@ pub(crate) fn try_known(
     board: &Board,
     tables: &Tables,
     source: &KnownLengths<'_>,
-    walls: &[u64],
+    walls: &Walls,
     after: &Lead,
     step: &Step,
     saving: u32,
@@ -94,7 +95,7 @@ pub(crate) fn try_known(
 fn put_turn(
     board: &Board,
     source: &KnownLengths<'_>,
-    walls: &[u64],
+    walls: &Walls,
     after: &Lead,
     step: &Step,
     apart: bool,
@@ -124,7 +125,7 @@ pub(crate) fn try_step(
     board: &Board,
     tables: &Tables,
     source: &KnownLengths<'_>,
-    walls: &[u64],
+    walls: &Walls,
     after: &Lead,
     step: &Step,
     once: bool,
@@ -152,7 +153,7 @@ pub(crate) fn try_step(
 fn put_unless_past(
     board: &Board,
     source: &KnownLengths<'_>,
-    walls: &[u64],
+    walls: &Walls,
     after: &Lead,
     step: &Step,
     past: bool,
@@ -176,23 +177,24 @@ fn put_unless_past(
     put_turn(board, source, walls, after, step, apart, found)
 }
 
-/// Puts the turns of two steps of which the sheet has both or none, each as `try_step` does: the first one alone is tested,
-/// and it may be known to go past a wall.
+/// Puts the turns of the joins of two items up and down, of which the sheet has both or none, each as `try_step` does: the
+/// first one alone is tested. `past` says which of them are known to go past walls.
 pub(crate) fn try_both(
     board: &Board,
     tables: &Tables,
     source: &KnownLengths<'_>,
-    walls: &[u64],
+    walls: &Walls,
     after: &Lead,
     first: &Step,
     second: &Step,
-    past: bool,
+    past: Past,
     apart: bool,
     found: &mut Found,
 ) -> Result<(), AllocError>
     requires plannable { IsPlannable source.now board.now.items }
     requires cover { Cover tables.now (rules_of board.now) }
-    requires past { past ≡ true → IsWalled board.now walls.now first.now }
+    requires past_up { past.up ≡ true → IsWalled board.now walls.now first.now }
+    requires past_down { past.down ≡ true → IsWalled board.now walls.now second.now }
     requires apart_first { apart ≡ true → StepApart board.now.items first.now }
     requires apart_second { apart ≡ true → StepApart board.now.items second.now }
     requires alike { HasStep board.now.items first.now ↔ HasStep board.now.items second.now }
@@ -207,6 +209,6 @@ pub(crate) fn try_both(
     if !is_step_of(board, tables, first, false) {
         return Ok(());
     }
-    put_unless_past(board, source, walls, after, first, past, apart, found)?;
-    put_turn(board, source, walls, after, second, apart, found)
+    put_unless_past(board, source, walls, after, first, past.up, apart, found)?;
+    put_unless_past(board, source, walls, after, second, past.down, apart, found)
 }

@@ -17,5 +17,5 @@ next_leads-requires-clause-at c = label_of_owner _ c.args.source.now c.args.lead
 pub returns : goal.returns
 returns c = subst (λ (p : PlanParts). IfOk c.next_leads.result (Follows c.args.source.now p c.args.lead.now)) c.plan.view_is
     (ok_three c.next_leads.result (AreLater c.args.source.now c.plan.inside.board c.args.lead.now)
-    (λ found. (k : Step) → Covers c.args.source.now c.plan.inside.board c.plan.inside.walls.items c.args.lead.now found k) (λ found. length found.leads ≤ room) _
-    (λ found later covers few. record { later = later; covers = covers; few = few }) c.next_leads.ensures.later (subst (λ (walls : List ℕ). IfOk c.next_leads.result (λ found. (k : Step) → Covers c.args.source.now c.plan.inside.board walls c.args.lead.now found k)) c.deref-2.ensures.value c.next_leads.ensures.covers) c.next_leads.ensures.few)
+    (λ found. (k : Step) → Covers c.args.source.now c.plan.inside.board c.plan.inside.walls c.args.lead.now found k) (λ found. length found.leads ≤ room) _
+    (λ found later covers few. record { later = later; covers = covers; few = few }) c.next_leads.ensures.later c.next_leads.ensures.covers c.next_leads.ensures.few)

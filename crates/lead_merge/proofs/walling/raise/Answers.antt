@@ -1,11 +1,10 @@
-use Rattle.std.proofs.Common.{◌≡◌, ◌⊎◌, ℕ, ◌≤◌, Some, length, sym, subst, inl, inr}
-use Rattle.std.specs.Prelude.{slice_get}
+use Rattle.std.proofs.Common.{ℕ, ◌≤◌, sym, subst, inl, inr}
 use Rattle.lead_merge.proofs.walling.raise.Goals as goal
 
 pub returns : goal.returns
 returns c = record {
-  long = λ next old past. subst (λ (n : ℕ). n ≤ next) (sym c.put_higher.ensures.long) (c.in_ok-grow.ensures.long next old past);
-  each = λ b l at some. elim (c.put_higher.ensures.each b l at some) [
+  long = λ next old past. subst (λ (n : ℕ). n ≤ next) (sym c.put_label.ensures.long) (c.in_ok-grow.ensures.long next old past);
+  each = λ b l at some. elim (c.put_label.ensures.each b l at some) [
     | inl was ↦ inl (c.in_ok-grow.ensures.left b l was some)
     | inr is ↦ inr is
   ];

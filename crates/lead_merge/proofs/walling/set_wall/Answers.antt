@@ -1,4 +1,4 @@
-use Rattle.std.proofs.Common.{◌∷◌, sym, subst}
+use Rattle.std.proofs.Common.{sym, subst}
 use Rattle.lead_merge.proofs.Results.{on_four}
 use Rattle.lead_merge.proofs.Walled.{set_led}
 use Rattle.lead_merge.proofs.walling.set_wall.Goals as goal
@@ -31,6 +31,6 @@ put_wall-requires c = (c.requires.blocked.1.by, c.requires.blocked.1.names)
 
 pub returns-in-Some-clause-led : goal.returns-in-Some-clause-led
 returns-in-Some-clause-led c = on_four c.put_wall.result _ _ _ _ _
-    (λ same more put raised. set_led c.walls_stay.ensures c.args.plan.now c.put_wall.new.plan c.args.step.now c.args.obstacle.now c.in-Some.wall.birth c.in-Some.wall.label same more put raised
-    (subst (λ (p : PlanParts). MakesWallFor p.board c.args.step.now c.args.obstacle.now c.in-Some.wall.birth c.in-Some.wall.label) c.plan.view_is c.in-Some.ensures))
-    c.put_wall.ensures.same c.put_wall.ensures.more c.put_wall.ensures.put c.put_wall.ensures.raised
+    (λ same more put is_set. set_led c.walls_stay.ensures c.args.plan.now c.put_wall.new.plan c.args.step.now c.args.obstacle.now c.in-Some.wall.way c.in-Some.wall.birth c.in-Some.wall.label same more put is_set
+    (subst (λ (p : PlanParts). MakesWallFor p.board c.args.step.now c.args.obstacle.now c.in-Some.wall.way c.in-Some.wall.birth c.in-Some.wall.label) c.plan.view_is c.in-Some.ensures))
+    c.put_wall.ensures.same c.put_wall.ensures.more c.put_wall.ensures.put c.put_wall.ensures.set

@@ -1,3 +1,4 @@
+use Rattle.hold_laws.specs.declared.way.Way.TheVariants.{Up, Down}
 use Rattle.step_laws.specs.declared.step.Step.TheVariants.{JoinSelUp, JoinSelDown}
 use Rattle.step_turns.proofs.Alike.{selector_joins_alike}
 use Rattle.step_turns.proofs.Looking.{no_step}
@@ -15,5 +16,8 @@ returns-then-selectors_differ-clause-down c =
 pub try_both-requires-clause-alike : goal.try_both-requires-clause-alike
 try_both-requires-clause-alike c = selector_joins_alike c.args.board.now.items c.args.upper c.args.lower
 
-pub try_both-requires-clause-past : goal.try_both-requires-clause-past
-try_both-requires-clause-past c = λ known. (tt, c.requires.past known)
+pub try_both-requires-clause-past_up : goal.try_both-requires-clause-past_up
+try_both-requires-clause-past_up c = λ known. (Up, (tt, c.requires.past_up known))
+
+pub try_both-requires-clause-past_down : goal.try_both-requires-clause-past_down
+try_both-requires-clause-past_down c = λ known. (Down, (tt, c.requires.past_down known))

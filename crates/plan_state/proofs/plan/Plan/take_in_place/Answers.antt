@@ -12,8 +12,8 @@ use Rattle.plan_state.proofs.plan.Plan.take_in_place.Goals as goal
 
 pub returns-clause-state : goal.returns-clause-state
 returns-clause-state c =
-    let old : PlanParts = record { board = c.self.inside.board; tables = c.self.inside.tables; leads = c.self.inside.waiting; entries = c.self.inside.aside; homes = c.self.inside.homes.items; walls = c.self.inside.walls.items } in
-    let made : PlanParts = record { board = c.in_ok-board.board; tables = c.greet.new.tables; leads = c.greet.new.waiting; entries = c.self.inside.aside; homes = c.greet.new.homes.items; walls = c.take_down_for.new.walls.items } in
+    let old : PlanParts = record { board = c.self.inside.board; tables = c.self.inside.tables; leads = c.self.inside.waiting; entries = c.self.inside.aside; homes = c.self.inside.homes.items; walls = c.self.inside.walls } in
+    let made : PlanParts = record { board = c.in_ok-board.board; tables = c.greet.new.tables; leads = c.greet.new.waiting; entries = c.self.inside.aside; homes = c.greet.new.homes.items; walls = c.take_down_for.new.walls } in
     λ answers source state takes.
     subst (λ (p : PlanParts). IsState answers source p → ((e : Edit) → IsStep p.board.items c.args.step.now e → Takes answers source p.board.items (edited e p.board.items)) → HasStep p.board.items c.args.step.now → length p.board.items + 1 < max_items → IsState answers source made)
     c.self.view_is
