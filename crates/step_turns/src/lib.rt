@@ -8,6 +8,7 @@ mod found;
 mod joins;
 mod masks;
 mod naming;
+mod near;
 mod next;
 mod order;
 mod past_walls;

@@ -25,6 +25,7 @@ use crate::doubles::{decls_stand_once, selectors_stand_once};
 use crate::found::Found;
 use crate::joins::try_joins;
 use crate::masks::share_no_selector;
+use crate::near::number_behind;
 use crate::trying::try_step;
 use css_model::Rule;
 use lead_plan::{Lead, Scope, Walls};
@@ -189,7 +190,7 @@ fn are_apart(board: &Board, told: &Option<BTreeSet<u32>>, number: u32, other: u3
 }
 
 /// Puts the turns of the steps of an item and another one with this label. `once` says that each declaration of the first
-/// one is known to stand in it once.
+/// one is known to stand in it once, `last` is the number of the last one that was found.
 fn try_partner(
     board: &Board,
     tables: &Tables,
@@ -200,6 +201,7 @@ fn try_partner(
     label: u64,
     told: &Option<BTreeSet<u32>>,
     once: bool,
+    last: &mut u32,
     found: &mut Found,
 ) -> Result<(), AllocError>
     requires plannable { IsPlannable source.now board.now.items }
@@ -216,7 +218,7 @@ fn try_partner(
     ensures few { length found.new.leads ≤ room }
 {
     let _marks = board.marks();
-    let Some(other) = board.number_of(label) else {
+    let Some(other) = number_behind(board, last, label) else {
         return Ok(());
     };
     let theirs = board.mark(other);
@@ -262,10 +264,11 @@ fn try_partners(
     ensures later { OnOk result (AreLater source.now board.now after.now found.new) }
     ensures few { length found.new.leads ≤ room }
 {
+    let mut last = 0;
     let mut rest = labels;
     'rest: while let Some((label, behind)) = rest.split_first() {
         try_partner(
-            board, tables, source, walls, after, number, *label, told, once, found,
+            board, tables, source, walls, after, number, *label, told, once, &mut last, found,
         )?;
         rest = behind;
     }
