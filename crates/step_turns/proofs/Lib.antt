@@ -2,6 +2,7 @@ mod Alike
 mod Differing
 mod Digesting
 mod Finding
+mod Later
 mod Looking
 mod Masked
 mod NamedSteps
@@ -12,3 +13,4 @@ mod Rules
 mod FromLabel
 mod StepParts
 mod Telling
+mod Weights

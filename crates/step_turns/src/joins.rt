@@ -14,6 +14,7 @@ ghost use Rattle.step_turns.specs.PastWalls.{IsPastWall};
 ghost use Rattle.wall_laws.specs.Renumbering.{IsOfTwo};
 
 use crate::found::Found;
+use crate::late::{decl_joins_are_late, selector_joins_are_late, share_is_late};
 use crate::masks::{decls_differ, selectors_differ, share_no_decl};
 use crate::past_walls::is_past_wall;
 use crate::trying::{try_both, try_step};
@@ -54,6 +55,9 @@ fn try_selector_joins(
     if selectors_differ(board, upper, lower) {
         return Ok(());
     }
+    if selector_joins_are_late(board, source, upper, lower, found) {
+        return Ok(());
+    }
     let up = Step::JoinSelUp { upper, lower };
     let down = Step::JoinSelDown { upper, lower };
     try_both(
@@ -91,6 +95,9 @@ fn try_decl_joins(
     if decls_differ(board, upper, lower) {
         return Ok(());
     }
+    if decl_joins_are_late(board, source, upper, lower, apart, found) {
+        return Ok(());
+    }
     let up = Step::JoinDeclUp { upper, lower };
     let down = Step::JoinDeclDown { upper, lower };
     try_both(
@@ -123,6 +130,9 @@ fn try_share(
     ensures few { length found.new.leads ≤ room }
 {
     if share_no_decl(board, upper, lower) {
+        return Ok(());
+    }
+    if share_is_late(board, source, upper, lower, apart, found) {
         return Ok(());
     }
     let step = Step::Share { upper, lower };

@@ -1,5 +1,6 @@
 use Rattle.step_laws.specs.declared.step.Step.TheVariants.{JoinDeclUp, JoinDeclDown}
 use Rattle.step_turns.proofs.Alike.{decl_joins_alike}
+use Rattle.step_turns.proofs.Later.{late_covers}
 use Rattle.step_turns.proofs.Looking.{no_step}
 use Rattle.step_turns.proofs.joins.try_decl_joins.Goals as goal
 
@@ -17,3 +18,11 @@ try_both-requires-clause-alike c = decl_joins_alike c.args.board.now.items c.arg
 
 pub try_both-requires-clause-past : goal.try_both-requires-clause-past
 try_both-requires-clause-past c = λ known. (tt, c.requires.past known)
+
+pub returns-then-decl_joins_are_late-clause-up : goal.returns-then-decl_joins_are_late-clause-up
+returns-then-decl_joins_are_late-clause-up c =
+    late_covers c.args.source.now c.args.board.now c.args.walls.now c.args.after.now c.args.found.now (JoinDeclUp c.args.upper c.args.lower) (c.decl_joins_are_late.ensures.up c.if-decl_joins_are_late.true)
+
+pub returns-then-decl_joins_are_late-clause-down : goal.returns-then-decl_joins_are_late-clause-down
+returns-then-decl_joins_are_late-clause-down c =
+    late_covers c.args.source.now c.args.board.now c.args.walls.now c.args.after.now c.args.found.now (JoinDeclDown c.args.upper c.args.lower) (c.decl_joins_are_late.ensures.down c.if-decl_joins_are_late.true)
