@@ -2,6 +2,7 @@ mod Alike
 mod Differing
 mod Digesting
 mod Finding
+mod Later
 mod Looking
 mod Masked
 mod NamedSteps
@@ -13,3 +14,4 @@ mod Sharing
 mod FromLabel
 mod StepParts
 mod Telling
+mod Weights

@@ -1,4 +1,5 @@
 pub mod Digested
+pub mod Late
 pub mod Looking
 pub mod Marked
 pub mod Named

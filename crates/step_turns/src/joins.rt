@@ -16,6 +16,7 @@ ghost use Rattle.step_turns.specs.Once.{DeclsStandOnce};
 ghost use Rattle.wall_laws.specs.Renumbering.{IsOfTwo};
 
 use crate::found::Found;
+use crate::late::{decl_joins_are_late, selector_joins_are_late, share_is_late};
 use crate::masks::{decls_differ, selectors_differ, share_no_decl};
 use crate::past_walls::{Past, is_down_past, is_up_past};
 use crate::shares::share_saving;
@@ -58,6 +59,9 @@ fn try_selector_joins(
     if selectors_differ(board, upper, lower) {
         return Ok(());
     }
+    if selector_joins_are_late(board, source, upper, lower, found) {
+        return Ok(());
+    }
     let up = Step::JoinSelUp { upper, lower };
     let down = Step::JoinSelDown { upper, lower };
     try_both(
@@ -96,6 +100,9 @@ fn try_decl_joins(
     if decls_differ(board, upper, lower) {
         return Ok(());
     }
+    if decl_joins_are_late(board, source, upper, lower, apart, found) {
+        return Ok(());
+    }
     let up = Step::JoinDeclUp { upper, lower };
     let down = Step::JoinDeclDown { upper, lower };
     try_both(
@@ -130,6 +137,9 @@ fn try_share(
     ensures few { length found.new.leads ≤ room }
 {
     if share_no_decl(board, upper, lower) {
+        return Ok(());
+    }
+    if share_is_late(board, source, upper, lower, apart, found) {
         return Ok(());
     }
     let step = Step::Share { upper, lower };

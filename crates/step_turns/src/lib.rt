@@ -6,6 +6,7 @@ mod cuts;
 mod doubles;
 mod found;
 mod joins;
+mod late;
 mod masks;
 mod naming;
 mod near;

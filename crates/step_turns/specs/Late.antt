@@ -1,0 +1,45 @@
+-- Steps whose turns come too late (own).
+use Rattle.std.specs.Prelude.{◌≡◌, ◌⊎◌, ◌+◌, ◌≤◌, ℕ, List, Some, length, slice_get}
+use Rattle.std.specs.List.{filter}
+use Rattle.css_model.specs.declared.sheet.Item.{Item}
+use Rattle.css_model.specs.declared.sheet.Item.TheVariants.{Rule}
+use Rattle.css_model.specs.Sheets.Printed.{printed_declaration, printed_selector}
+use Rattle.css_model.specs.Sheets.RuleParts.{RuleParts}
+use Rattle.hold_laws.specs.Turns.{named}
+use Rattle.order_laws.specs.Edits.{Edit}
+use Rattle.order_laws.specs.Members.{has_selector}
+use Rattle.plan_board.specs.BoardParts.{BoardParts}
+use Rattle.plan_board.specs.MarkList.{labels_of}
+use Rattle.step_laws.specs.declared.step.Step.{Step}
+use Rattle.step_laws.specs.Sizes.{Saves, weight}
+use Rattle.step_laws.specs.Steps.{IsStep, StandsBefore}
+use Rattle.step_turns.specs.Looking.{FoundParts, ReachesLast}
+
+-- a step of a board's sheet does not come before the first of the others that were found
+abbrev pub IsLate : List ℕ → BoardParts → FoundParts → Step → Type 0
+IsLate source board found k = (e : Edit) (n : ℕ) → IsStep board.items k e → Saves source board.items e n → ReachesLast found.others (named (labels_of board.marks) n k)
+
+-- a step is this one, or stands behind it
+abbrev pub IsFrom : Step → Step → Type 0
+IsFrom j k = (j ≡ k) ⊎ StandsBefore j k
+
+-- so much is left of a number without the weight of the selectors of the rule of this number
+abbrev pub LeavesOfSelectors : List ℕ → List Item → (n most left : ℕ) → Type 0
+LeavesOfSelectors source items n most left = (r : RuleParts) → slice_get items n ≡ Some (Rule r) → left + weight (printed_selector source) r.selectors ≡ most
+
+-- the selectors of the rule of this number weigh no more than this
+abbrev pub SelectorsWeighAtMost : List ℕ → List Item → (n most : ℕ) → Type 0
+SelectorsWeighAtMost source items n most = (r : RuleParts) → slice_get items n ≡ Some (Rule r) → weight (printed_selector source) r.selectors ≤ most
+
+-- the declarations of the rule of this number weigh no more than this
+abbrev pub DeclsWeighAtMost : List ℕ → List Item → (n most : ℕ) → Type 0
+DeclsWeighAtMost source items n most = (r : RuleParts) → slice_get items n ≡ Some (Rule r) → weight (printed_declaration source) r.decls ≤ most
+
+-- the selectors of the lower rule that the upper one has weigh, with so much beside them, no more than this
+abbrev pub CommonWeighsAtMost : List ℕ → List Item → (upper lower left most : ℕ) → Type 0
+CommonWeighsAtMost source items upper lower left most = (u l : RuleParts) → slice_get items upper ≡ Some (Rule u) → slice_get items lower ≡ Some (Rule l) →
+    left + weight (printed_selector source) (filter (λ s. has_selector u.selectors s.selector) l.selectors) ≤ most
+
+-- the rule of this number has one declaration
+abbrev pub HasOneDecl : List Item → ℕ → Type 0
+HasOneDecl items n = (r : RuleParts) → slice_get items n ≡ Some (Rule r) → length r.decls ≡ 1
