@@ -1,7 +1,7 @@
 //! The specificities of the selectors of a rule, by their numbers.
 
-ghost use Rattle.std.specs.Prelude.{◌≡◌, IfOk, Some, slice_get};
-ghost use Rattle.std.specs.List.{All};
+ghost use Rattle.std.specs.Prelude.{◌≡◌, ◌↔◌, IfOk, IsTrue, Some, slice_get};
+ghost use Rattle.std.specs.List.{All, Contains};
 ghost use Rattle.css_model.specs.declared.selector.Specificity as declared;
 ghost use Rattle.css_model.specs.Documents.Specificity.{specificity_of};
 ghost use Rattle.css_model.specs.Selectors.Profile.{IsInProfile};
@@ -44,4 +44,11 @@ pub(crate) fn specificity_at(specificities: &[Specificity], number: u32) -> Spec
         Some(specificity) => *specificity,
         None => unreachable!(),
     }
+}
+
+/// Whether a specificity is among some.
+pub(crate) fn is_among(specificities: &[Specificity], specificity: Specificity) -> bool
+    ensures { IsTrue result ↔ Contains specificities.now specificity }
+{
+    specificities.contains(&specificity)
 }
