@@ -1,25 +1,27 @@
 //! Pairs and kept items with the masks of what they may weigh with.
 
 ghost use Rattle.std.specs.Prelude.{◌≡◌, ◌++◌, ◌∷◌, [], IfOk, OnOk};
+ghost use Rattle.item_masks.specs.Masks.{pair_mask};
 ghost use Rattle.order_laws.specs.Comparing as order;
 ghost use Rattle.order_laws.specs.Reversed.{kept_from};
 ghost use Rattle.related_props.specs.Masks as masks;
 ghost use Rattle.selector_laws.specs.Limits.{KeepsLimits};
 
 use css_model::Item;
+use item_masks::{ItemMask, pair_mask};
 use order_laws::weighing_is_decided;
-use related_props::{decl_mask, item_mask};
+use related_props::item_mask;
 use sheet_order::{Placed, is_kept, weigh, weighs_kept};
 use std::alloc::{AllocError, Global};
 use std::marker::Model;
 use window_order::PairRef;
 
-/// A pair at one of its places, with the mask of its declaration.
+/// A pair at one of its places, with its mask.
 #[derive(Drop)]
 pub(crate) struct Marked<'a> {
     pub(crate) pair: Placed<'a>,
-    pub(crate) mask: u64,
-    ghost masked: { mask ≡ masks.decl_mask pair.pair.decl },
+    pub(crate) mask: ItemMask,
+    ghost masked: { mask ≡ pair_mask pair.pair },
 }
 
 impl<'a> Model for Marked<'a> {
@@ -52,7 +54,7 @@ impl<'a> Model for MarkedKept<'a> {
 fn mark_pair<'a>(p: &Placed<'a>) -> Marked<'a>
     ensures { result ≡ p.now }
 {
-    let mask = decl_mask(p.decl);
+    let mask = pair_mask(p.selector, p.decl);
     Marked {
         pair: p.copy(),
         mask,
@@ -115,6 +117,7 @@ impl<'a> Marked<'a> {
         PairRef {
             selector: self.pair.selector,
             decl: self.pair.decl,
+            mask: self.mask,
         }
     }
 
@@ -126,7 +129,7 @@ impl<'a> Marked<'a> {
         ensures { result ≡ order.weigh self.now.pair q.now.pair }
     {
         weighing_is_decided();
-        if self.mask & q.mask == 0 {
+        if self.mask.families & q.mask.families == 0 {
             return false;
         }
         weigh(&self.pair, &q.pair)
@@ -138,7 +141,7 @@ impl<'a> Marked<'a> {
         ensures { result ≡ order.weighs_kept self.now.pair kept.now.1 }
     {
         weighing_is_decided();
-        if self.mask & kept.mask == 0 {
+        if self.mask.families & kept.mask == 0 {
             return false;
         }
         weighs_kept(&self.pair, kept.item)

@@ -1,4 +1,5 @@
 mod Askable
+mod Covering
 mod Deciding
 pub mod ForCallers
 mod HeldAnswers
@@ -9,6 +10,7 @@ mod Looking
 mod Masked
 mod Moving
 mod Named
+mod Noted
 mod PairAnswers
 mod Sources
 mod SpentRules

@@ -1,5 +1,5 @@
 -- What masks without a common bit tell: nothing of an item weighs with what is moved.
-use Rattle.std.proofs.Common.{◌≡◌, ◌⊎◌, ℕ, ◌<◌, Bool, true, false, List, [], ◌∷◌, Some, None, refl, sym, ap, ◌∙◌, subst, inl, inr, arith}
+use Rattle.std.proofs.Common.{◌≡◌, ◌⊎◌, ℕ, ◌<◌, Bool, true, false, List, [], ◌∷◌, Some, None, refl, sym, ap, ap₂, ◌∙◌, subst, inl, inr, arith}
 use Rattle.std.specs.Prelude.{Option, Result, Ok, Err, IfOk, if◌then◌else◌, bit_and, bit_or, map, max, slice_get}
 use Rattle.std.specs.Int.Bits.{and_zero_l}
 use Rattle.std.proofs.lemmas.Nat.Bits.{bit_at_or, bit_at-lt}
@@ -14,6 +14,7 @@ use Rattle.std.specs.Borrow.{Bor}
 use Rattle.std.specs.Int.{bit_at}
 use Rattle.std.specs.List.{Contains}
 use Rattle.css_model.specs.declared.sheet.Decl.{Decl}
+use Rattle.css_model.specs.Documents.SelectorParts.{SelectorParts}
 use Rattle.css_model.specs.declared.sheet.DeclItem.{DeclItem}
 use Rattle.css_model.specs.declared.sheet.Item.{Item}
 use Rattle.css_model.specs.declared.sheet.Item.TheVariants.{Rule, KeptRule, KeptBlock}
@@ -134,6 +135,13 @@ told_counted answers list n item w s d At common is (Ok (Some o)) h = λ x at.
     let f : IsFound answers w (OfItem s.rule.now x.decl list n item) o = subst (λ (f : Decl). IsFound answers w (OfItem s.rule.now f list n item) o) (is x at) h in
     record { by = f.by; of = (common x at, f.of); names = f.names; told = f.told }
 told_counted answers list n item w s d At common is (Err e) h = tt
+
+-- the mask of a pair, by those of its parts
+abbrev masks : ℕ → ℕ → ItemMask
+masks m n = record { families = m; selectors = n }
+
+pub pair_masked : (s : SelectorParts) (d : Decl) (m n : ℕ) → m ≡ decl_mask d → n ≡ both.selector_mask s → masks m n ≡ both.pair_mask (record { selector = s; decl = d })
+pair_masked s d m n of_decl of_selector = ap₂ masks of_decl of_selector
 
 -- the mask of an item of a window
 pub mask_at : (items : List Item) (masks : List ItemMask) (n : ℕ) (item : Item) → masks ≡ map both.item_mask items → slice_get items n ≡ Some item → slice_get masks n ≡ Some (both.item_mask item)

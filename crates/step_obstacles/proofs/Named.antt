@@ -1,6 +1,7 @@
 -- What is told of a moved pair, by its place.
 use Rattle.std.proofs.Common.{◌≡◌, ◌⊎◌, ℕ, true, false, List, Some, refl, sym, ap, ◌∙◌, subst, inl, inr}
 use Rattle.std.specs.Prelude.{Option, Result, Ok, Err, IfOk, slice_get}
+use Rattle.std.specs.List.{Contains}
 use Rattle.std.proofs.lemmas.Bool.{false≢true}
 use Rattle.cascade_laws.proofs.ForCallers.{some-same}
 use Rattle.css_model.specs.Cascade.Order.{Pair}
@@ -20,18 +21,20 @@ use Rattle.css_model.specs.Selectors.Profile.{IsInProfile}
 use Rattle.obstacles.specs.Blocking.{IsAt, Names}
 use Rattle.obstacles.specs.declared.obstacle.Obstacle.{Obstacle}
 use Rattle.obstacles.specs.declared.obstacle.PairPlace.{PairPlace}
+use Rattle.order_laws.proofs.ForCallers.{map_has}
 use Rattle.overlap.specs.PairsParts.{Answered}
 use Rattle.step_obstacles.proofs.Looking.{member_at}
+use Rattle.step_obstacles.proofs.Noted.{known_so, so_known}
 use Rattle.step_obstacles.proofs.PairAnswers.{unlike_passes}
-use Rattle.step_obstacles.specs.Blocked.{AllPass, IsFound, IsTold, IsToldOf}
+use Rattle.step_obstacles.specs.Blocked.{AllPass, Crosses, IsFound, IsTold, IsToldOf}
 use Rattle.step_obstacles.specs.declared.facing.DeclAt.{DeclAt}
 use Rattle.step_obstacles.specs.declared.facing.Facing.{Facing}
 use Rattle.step_obstacles.specs.declared.facing.Facing.TheVariants as facing
 use Rattle.step_obstacles.specs.Known.{IsNoted}
-use Rattle.step_obstacles.specs.Turns.{Faces, IsAskable, IsDeclAt, MayWeigh, OfItem, OfRule, OfSelectors, hindrance_of, other_of, pair_of, with_kept}
+use Rattle.step_obstacles.specs.Turns.{Faces, IsAskable, IsDeclAt, MayWeigh, OfItem, OfRule, OfSelectors, hindrance_of, other_of, pair_of, specificities_of, with_kept}
 use Rattle.wall_laws.specs.Holding.{Hindrance, OfPair}
-use Rattle.window_order.specs.Places.{IsStanding}
-use Rattle.window_order.specs.declared.place.Standing.{Standing}
+use Rattle.window_order.specs.Places.{IsKnownPair}
+use Rattle.window_order.specs.declared.ends_known.KnownPair.{KnownPair}
 use Rattle.window_order.specs.declared.window.Window.{Window}
 use Rattle.window_order.specs.Weighing.{DeclsWeigh}
 
@@ -50,12 +53,12 @@ module _ (w : Window) (moved : DeclAt) (i : ℕ) (x : SelItem) (is : IsDeclAt w.
   pair_place = record { item = moved.item; sel = i; decl = moved.number }
 
   -- what is noted of its place holds of it
-  pub stands_as_noted : (s : Standing) → IsNoted w pair_place s → (t : SelectorParts) → t ≡ x.selector → IsStanding w (pair t moved.decl.now) s
-  stands_as_noted s noted t t_is = subst (λ (u : SelectorParts). IsStanding w (pair u moved.decl.now) s) (sym t_is) (noted (pair_of x moved.decl.now) stands)
+  pub stands_as_noted : (s : KnownPair) → IsNoted w pair_place s → (t : SelectorParts) → t ≡ x.selector → IsKnownPair w (pair t moved.decl.now) s
+  stands_as_noted s noted t t_is = subst (λ (u : SelectorParts). IsKnownPair w (pair u moved.decl.now) s) (sym t_is) (known_so w (pair_of x moved.decl.now) s (noted (pair_of x moved.decl.now) stands))
 
   -- what holds of it may be noted of its place
-  pub noted_as_stands : (s : Standing) (t : SelectorParts) → t ≡ x.selector → IsStanding w (pair t moved.decl.now) s → IsNoted w pair_place s
-  noted_as_stands s t t_is h p there = subst (λ (q : Pair). IsStanding w q s) same h
+  pub noted_as_stands : (s : KnownPair) (t : SelectorParts) → t ≡ x.selector → IsKnownPair w (pair t moved.decl.now) s → IsNoted w pair_place s
+  noted_as_stands s t t_is h p there = so_known w p s (subst (λ (q : Pair). IsKnownPair w q s) same h)
     where
       rules : moved.rule.now ≡ there.rule
       rules = let e : Some (Rule moved.rule.now) ≡ Some (Rule there.rule) = sym is.rule_at ∙ there.rule_at in cc
@@ -113,6 +116,14 @@ pub told_same : {E : Type 0} (answers : List Answered) (w : Window) (r : RulePar
     IfOk res (λ found. (y : SelItem) → At y → IsToldOf answers w (OfSelectors r d (λ p. OfPair p (pair_of y o))) found)
 told_same answers w r d o s At is (Ok found) h = λ y at. subst (λ (t : SelectorParts). IsToldOf answers w (OfSelectors r d (λ p. OfPair p (pair t o))) found) (is y at) h
 told_same answers w r d o s At is (Err e) h = tt
+
+-- where no selector of a rule has the specificity of another pair, its pairs let the step pass
+pub passes_unlike_all : (answers : List Answered) (w : Window) (r : RuleParts) (d o : Decl) (y : SelItem) (list : List Specificity) (k : Specificity) → list ≡ specificities_of r.selectors → k ≡ specificity_of y.selector → (Contains list k → ⊥) →
+    AllPass answers w (OfSelectors r d (λ p. OfPair p (pair_of y o)))
+passes_unlike_all answers w r d o y list k list_is k_is none by (x, inside, is) crosses =
+    let c : Crosses w (OfPair (pair_of x d) (pair_of y o)) = subst (Crosses w) is crosses in
+    let among : Contains list (specificity_of x.selector) = subst (λ (ks : List Specificity). Contains ks (specificity_of x.selector)) (sym list_is) (map_has (λ (z : SelItem). specificity_of z.selector) r.selectors x inside) in
+    absurd (none (subst (λ (j : Specificity). Contains list j) (c.0.specificity ∙ sym k_is) among))
 
 -- ---- Items
 

@@ -16,6 +16,7 @@ use Rattle.css_model.specs.Sheets.RuleParts.{RuleParts}
 use Rattle.obstacles.specs.Blocking.{IsAt}
 use Rattle.obstacles.specs.declared.obstacle.Other.{Other}
 use Rattle.obstacles.specs.declared.obstacle.Other.TheVariants as others
+use Rattle.item_masks.specs.Masks.{selector_mask}
 use Rattle.order_laws.specs.Members.{has_decl}
 use Rattle.related_props.specs.Masks.{decl_mask, item_mask}
 use Rattle.step_obstacles.specs.Among.{Among}
@@ -51,10 +52,15 @@ pub record IsDeclAt (items : List Item) (d : DeclAt) : Type 0 where
 abbrev pub specificities_of : List SelItem → List Specificity
 specificities_of selectors = map (λ x. specificity_of x.selector) selectors
 
+-- their masks
+abbrev pub selector_masks_of : List SelItem → List ℕ
+selector_masks_of selectors = map (λ x. selector_mask x.selector) selectors
+
 -- a declaration whose pairs are moved has those of its rule's selectors
 pub record IsMovedDecl (items : List Item) (d : MovedDecl) : Type 0 where
   pub at : IsDeclAt items d.at
   pub specificities : d.specificities.now ≡ specificities_of d.at.rule.now.selectors
+  pub selectors : d.selectors.now ≡ selector_masks_of d.at.rule.now.selectors
 
 -- so does a rule
 abbrev pub IsRuleAt : List Item → ℕ → RuleParts → Type 0
@@ -112,11 +118,13 @@ abbrev pub with_masks : ℕ → List ℕ → ℕ
 with_masks mask [] = mask
 with_masks mask (m ∷ ms) = with_masks (bit_or mask m) ms
 
--- the masks of a rule are those of its declarations whose pairs are moved, and it has the specificities of its selectors
+-- the masks of a rule are those of its declarations whose pairs are moved, and it has the specificities and the masks
+-- of its selectors
 pub record IsMasked (s : Source) : Type 0 where
   pub masks : s.masks.items ≡ map (mask_in s.with) s.rule.now.decls
   pub mask : s.mask ≡ with_masks 0 s.masks.items
   pub specificities : s.specificities.items ≡ specificities_of s.rule.now.selectors
+  pub selectors : s.selectors.items ≡ selector_masks_of s.rule.now.selectors
 
 abbrev pub AreMasked : List Source → Type 0
 AreMasked sources = (s : Source) → Contains sources s → IsMasked s

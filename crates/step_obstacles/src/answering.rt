@@ -9,14 +9,14 @@ ghost use Rattle.step_obstacles.specs.Blocked.{AreAnswered, IsTold};
 ghost use Rattle.step_obstacles.specs.Known.{FacedStands};
 ghost use Rattle.step_obstacles.specs.Turns.{Faces, MayWeigh, hindrance_of};
 ghost use Rattle.wall_laws.specs.Holding.{OfPair};
-ghost use Rattle.window_order.specs.Places.{IsStanding};
+ghost use Rattle.window_order.specs.Places.{IsKnownPair};
 ghost use Rattle.window_order.specs.Weighing.{DeclsWeigh};
 
 use crate::facing::Facing;
 use css_model::Selector;
 use overlap::{Answer, Pairs};
 use std::alloc::AllocError;
-use window_order::{PairRef, Standing, Window};
+use window_order::{KnownPair, PairRef, Window};
 
 /// Whether an answer says that the selectors are apart.
 fn says_apart(answer: &Answer) -> bool
@@ -72,20 +72,20 @@ fn pairs_block(
     pairs: &mut Pairs,
     window: &Window<'_>,
     p: &PairRef<'_>,
-    of_p: &mut Standing,
+    of_p: &mut KnownPair,
     q: &PairRef<'_>,
-    of_q: &mut Standing,
+    of_q: &mut KnownPair,
 ) -> Result<bool, AllocError>
     requires weigh { DeclsWeigh p.now.decl q.now.decl }
     requires specificity { specificity_of p.now.selector ≡ specificity_of q.now.selector }
     requires first { IsInProfile p.now.selector }
     requires second { IsInProfile q.now.selector }
-    requires of_p { IsStanding window.now p.now of_p.old }
-    requires faced { IsStanding window.now q.now of_q.old }
+    requires of_p { IsKnownPair window.now p.now of_p.old }
+    requires faced { IsKnownPair window.now q.now of_q.old }
     ensures stays { Stays pairs.old pairs.new }
     ensures told { IfOk result (λ b. IsTold pairs.new.answers window.now (OfPair p.now q.now) b) }
-    ensures of_p { IsStanding window.now p.now of_p.new }
-    ensures faced { IsStanding window.now q.now of_q.new }
+    ensures of_p { IsKnownPair window.now p.now of_p.new }
+    ensures faced { IsKnownPair window.now q.now of_q.new }
 {
     let held = held_apart(pairs, p.selector, q.selector);
     if let Some(true) = held {
@@ -103,18 +103,18 @@ pub(crate) fn blocks(
     pairs: &mut Pairs,
     window: &Window<'_>,
     p: &PairRef<'_>,
-    of_p: &mut Standing,
+    of_p: &mut KnownPair,
     facing: &Facing<'_>,
-    of_facing: &mut Standing,
+    of_facing: &mut KnownPair,
 ) -> Result<bool, AllocError>
     requires faces { Faces window.now p.now.decl facing.now }
     requires specificity { MayWeigh (specificity_of p.now.selector) facing.now }
     requires profile { IsInProfile p.now.selector }
-    requires of_p { IsStanding window.now p.now of_p.old }
+    requires of_p { IsKnownPair window.now p.now of_p.old }
     requires faced { FacedStands window.now facing.now of_facing.old }
     ensures stays { Stays pairs.old pairs.new }
     ensures told { IfOk result (λ b. IsTold pairs.new.answers window.now (hindrance_of window.now.items.now facing.now p.now) b) }
-    ensures of_p { IsStanding window.now p.now of_p.new }
+    ensures of_p { IsKnownPair window.now p.now of_p.new }
     ensures faced { FacedStands window.now facing.now of_facing.new }
 {
     match facing {

@@ -7,16 +7,13 @@ ghost use Rattle.window_order.specs.Reversed.{behind_of};
 ghost use Rattle.window_order.specs.Standing.{stands};
 
 use css_model::{Decl, DeclItem, Rule, SelItem};
-use window_order::{PairRef, Window};
+use window_order::{Window, pair_of};
 
 /// Whether the pair of a selector and a declaration stands behind.
 fn is_behind(window: &Window<'_>, selector: &SelItem, decl: &Decl) -> bool
     ensures { result ≡ stands (behind_of window.now) (turns.pair_of selector.now decl.now) }
 {
-    window.is_behind(&PairRef {
-        selector: &selector.selector,
-        decl,
-    })
+    window.is_behind(&pair_of(&selector.selector, decl))
 }
 
 /// Whether the pairs of a declaration and each of some selectors do.

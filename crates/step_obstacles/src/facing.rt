@@ -29,6 +29,8 @@ pub(crate) struct MovedDecl<'a> {
     pub(crate) at: DeclAt<'a>,
     /// The specificities of the rule's selectors, by their numbers.
     pub(crate) specificities: &'a [Specificity],
+    /// Their masks.
+    pub(crate) selectors: &'a [u64],
 }
 
 /// A rule of a sheet whose pairs are moved: all, or those of the declarations that stand in another rule too.
@@ -46,6 +48,8 @@ pub(crate) struct Source<'a> {
     pub(crate) mask: u64,
     /// The specificities of its selectors, by their numbers.
     pub(crate) specificities: Vec<Specificity>,
+    /// The masks of its selectors, by their numbers.
+    pub(crate) selectors: Vec<u64>,
 }
 
 /// An item of a sheet that is looked at.

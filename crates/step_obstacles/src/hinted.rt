@@ -20,7 +20,7 @@ use obstacles::{Obstacle, Other, PairPlace};
 use overlap::Pairs;
 use related_props::decl_mask;
 use std::alloc::AllocError;
-use window_order::{PairRef, Standing, Window, decls_weigh, weighs_kept};
+use window_order::{Window, decls_weigh, pair_of, unknown_pair, weighs_kept};
 
 /// The rule of this number, if there is one.
 fn rule_there<'a>(window: &Window<'a>, number: u32) -> Option<&'a Rule>
@@ -67,10 +67,7 @@ fn pair_faced<'a>(other: &DeclAt<'a>, selector: &'a SelItem, number: u32) -> Fac
     requires { IsInProfile selector.now.selector }
     ensures { result ≡ variants.Pair (turns.pair_of selector.now other.now.decl.now) (record { item = other.now.item; sel = number; decl = other.now.number }) (specificity_of selector.now.selector) }
 {
-    let q = PairRef {
-        selector: &selector.selector,
-        decl: other.decl,
-    };
+    let q = pair_of(&selector.selector, other.decl);
     let place = PairPlace {
         item: other.item,
         sel: number,
@@ -206,12 +203,9 @@ fn with_facing(
     if !facing.may_weigh(specificity_in_profile(&selector.selector)) {
         return Ok(None);
     }
-    let p = PairRef {
-        selector: &selector.selector,
-        decl: moved.decl,
-    };
-    let mut of_p = Standing::Unasked;
-    let mut of_facing = Standing::Unasked;
+    let p = pair_of(&selector.selector, moved.decl);
+    let mut of_p = unknown_pair();
+    let mut of_facing = unknown_pair();
     let blocked = blocks(pairs, window, &p, &mut of_p, facing, &mut of_facing)?;
     if blocked {
         return Ok(Some(named(moved, number, facing)));

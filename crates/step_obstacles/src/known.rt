@@ -3,12 +3,12 @@
 ghost use Rattle.std.specs.Prelude.{◌≡◌, ◌↔◌, IfOk, IsTrue};
 ghost use Rattle.std.specs.List.{All};
 ghost use Rattle.step_obstacles.specs.Known.{IsEntry, IsKnown, IsNoted};
-ghost use Rattle.window_order.specs.declared.place.Standing.TheVariants.{Unasked};
+ghost use Rattle.window_order.specs.Places.{unknown};
 ghost use Rattle.window_order.specs.declared.window.Window as windows;
 
 use obstacles::PairPlace;
 use std::alloc::{AllocError, Global};
-use window_order::Standing;
+use window_order::{KnownPair, unknown_pair};
 
 /// What is known of the pair at a place.
 #[derive(Clone, Copy)]
@@ -16,7 +16,7 @@ pub(crate) struct Entry {
     /// The place.
     pub(crate) place: PairPlace,
     /// Where the pair stands.
-    pub(crate) standing: Standing,
+    pub(crate) standing: KnownPair,
 }
 
 /// What is known of pairs. A pair has one slot, by its place, which others may have too: of these the last noted is
@@ -38,7 +38,7 @@ pub(crate) fn nothing_known(alloc: Global) -> Known
 
 /// An entry of which nothing is known.
 fn empty_entry() -> Entry
-    ensures { result.standing ≡ Unasked }
+    ensures { result.standing ≡ unknown }
 {
     Entry {
         place: PairPlace {
@@ -46,7 +46,7 @@ fn empty_entry() -> Entry
             sel: 0,
             decl: 0,
         },
-        standing: Standing::Unasked,
+        standing: unknown_pair(),
     }
 }
 
@@ -67,7 +67,7 @@ fn room_for(pairs: usize) -> usize {
 
 /// As many empty entries. The error comes where memory is short.
 fn empty_entries(alloc: Global, count: usize) -> Result<Vec<Entry>, AllocError>
-    ensures { IfOk result (λ list. All (λ e. e.standing ≡ Unasked) list.items) }
+    ensures { IfOk result (λ list. All (λ e. e.standing ≡ unknown) list.items) }
 {
     let mut list = Vec::with_capacity(alloc, count)?;
     for _ in 0..count {
@@ -98,18 +98,20 @@ fn same_place(first: PairPlace, second: PairPlace) -> bool
 }
 
 /// What an entry tells of a place.
-fn told_by(entry: &Entry, place: PairPlace) -> Standing
+#[tactic(auto, using(crate::proofs::Noted::unknown_noted))]
+fn told_by(entry: &Entry, place: PairPlace) -> KnownPair
     ensures { (w : windows.Window) → IsEntry w entry.now → IsNoted w place result }
 {
     if same_place(entry.place, place) {
         entry.standing
     } else {
-        Standing::Unasked
+        unknown_pair()
     }
 }
 
 /// What is known of the pair at a place of a rule with as many selectors.
-pub(crate) fn noted(known: &Known, place: PairPlace, selectors: usize) -> Standing
+#[tactic(auto, using(crate::proofs::Noted::unknown_noted))]
+pub(crate) fn noted(known: &Known, place: PairPlace, selectors: usize) -> KnownPair
     ensures { (w : windows.Window) → IsKnown w known.now → IsNoted w place result }
 {
     match known
@@ -117,7 +119,7 @@ pub(crate) fn noted(known: &Known, place: PairPlace, selectors: usize) -> Standi
         .get(slot_of(place, selectors, slots_in(known)))
     {
         Some(entry) => told_by(entry, place),
-        None => Standing::Unasked,
+        None => unknown_pair(),
     }
 }
 
@@ -131,6 +133,7 @@ fn put(known: &mut Known, slot: usize, entry: Entry)
 }
 
 /// Makes the slots, if there are none, for as many pairs. The error comes where memory is short.
+#[tactic(auto, using(crate::proofs::Noted::all_unknown))]
 fn make_slots(alloc: Global, known: &mut Known, pairs: usize) -> Result<(), AllocError>
     ensures { (w : windows.Window) → IsKnown w known.old → IsKnown w known.new }
 {
@@ -146,13 +149,13 @@ pub(crate) fn note(
     alloc: Global,
     known: &mut Known,
     place: PairPlace,
-    standing: Standing,
+    standing: KnownPair,
     selectors: usize,
     pairs: usize,
 ) -> Result<(), AllocError>
     ensures { (w : windows.Window) → IsKnown w known.old → IsNoted w place standing → IsKnown w known.new }
 {
-    if let Standing::Unasked = standing {
+    if let None = standing.ends {
         return Ok(());
     }
     make_slots(alloc, known, pairs)?;

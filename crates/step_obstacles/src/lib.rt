@@ -13,6 +13,7 @@ mod left_parts;
 mod pair_obstacles;
 mod rule_parts;
 mod searching;
+mod selector_masks;
 mod specificities;
 mod step_search;
 mod window_search;

@@ -17,14 +17,16 @@ use crate::decl_masks::{mask_at, masks_in};
 use crate::facing::{DeclAt, Facing, Met, MovedDecl, Source};
 use crate::known::{Known, note, noted};
 use crate::rule_parts::{decl_count, decl_of, selector_count, selector_of};
-use crate::specificities::{item_may_weigh, specificity_at, specificity_in_profile};
+use crate::selector_masks::selector_mask;
+use crate::specificities::{is_among, item_may_weigh, specificity_at, specificity_in_profile};
 use css_model::{Decl, Item, Rule};
+use item_masks::ItemMask;
 use obstacles::{Obstacle, PairPlace};
 use overlap::Pairs;
 use related_props::{related, related_is_reflexive};
 use std::alloc::{AllocError, Global};
 use step_savings::is_same_decl;
-use window_order::{PairRef, Standing, Window, weighs_kept};
+use window_order::{KnownPair, PairRef, Window, unknown_pair, weighs_kept};
 
 /// The place of the pair of a selector of this number.
 fn place_of(moved: &DeclAt<'_>, number: u32) -> PairPlace
@@ -60,7 +62,7 @@ fn note_selector(
     window: &Window<'_>,
     moved: &DeclAt<'_>,
     number: u32,
-    standing: Standing,
+    standing: KnownPair,
 ) -> Result<(), AllocError>
     requires known { IsKnown window.now known.old }
     requires noted { IsNoted window.now (record { item = moved.now.item; sel = number; decl = moved.now.number }) standing }
@@ -72,7 +74,7 @@ fn note_selector(
 }
 
 /// What is known of it.
-fn noted_selector(known: &Known, window: &Window<'_>, moved: &DeclAt<'_>, number: u32) -> Standing
+fn noted_selector(known: &Known, window: &Window<'_>, moved: &DeclAt<'_>, number: u32) -> KnownPair
     requires { IsKnown window.now known.now }
     ensures { IsNoted window.now (record { item = moved.now.item; sel = number; decl = moved.now.number }) result }
 {
@@ -88,7 +90,7 @@ fn of_selector(
     window: &Window<'_>,
     moved: &MovedDecl<'_>,
     facing: &Facing<'_>,
-    of_facing: &mut Standing,
+    of_facing: &mut KnownPair,
     number: u32,
 ) -> Result<Option<Obstacle>, AllocError>
     requires askable { turns.IsAskable window.now.items.now }
@@ -106,9 +108,14 @@ fn of_selector(
     if !facing.may_weigh(specificity_at(moved.specificities, number)) {
         return Ok(None);
     }
+    let mask = ItemMask {
+        families: moved.at.mask,
+        selectors: mask_at(moved.selectors, number),
+    };
     let p = PairRef {
         selector: selector_of(moved.at.rule, number),
         decl: moved.at.decl,
+        mask,
     };
     let mut of_p = noted_selector(known, window, &moved.at, number);
     let blocked = blocks(pairs, window, &p, &mut of_p, facing, of_facing)?;
@@ -127,7 +134,7 @@ fn of_selectors(
     window: &Window<'_>,
     moved: &MovedDecl<'_>,
     facing: &Facing<'_>,
-    of_facing: &mut Standing,
+    of_facing: &mut KnownPair,
 ) -> Result<Option<Obstacle>, AllocError>
     requires askable { turns.IsAskable window.now.items.now }
     requires moved { turns.IsMovedDecl window.now.items.now moved.now }
@@ -151,7 +158,8 @@ fn of_selectors(
     Ok(None)
 }
 
-/// With the pair of another declaration and the selector of this number.
+/// With the pair of another declaration and the selector of this number, which is passed over where no selector of the
+/// moved rule has its specificity.
 fn with_selector(
     alloc: Global,
     pairs: &mut Pairs,
@@ -172,24 +180,28 @@ fn with_selector(
         IsToldOf pairs.new.answers window.now (turns.OfSelectors moved.now.at.rule.now moved.now.at.decl.now (λ p. OfPair p (turns.pair_of y other.now.decl.now))) found) }
     ensures known { IsKnown window.now known.new }
 {
+    let selector = selector_of(other.rule, number);
+    let specificity = specificity_in_profile(selector);
+    if !is_among(moved.specificities, specificity) {
+        return Ok(None);
+    }
+    let mask = ItemMask {
+        families: other.mask,
+        selectors: selector_mask(selector),
+    };
     let q = PairRef {
-        selector: selector_of(other.rule, number),
+        selector,
         decl: other.decl,
+        mask,
     };
-    let place = PairPlace {
-        item: other.item,
-        sel: number,
-        decl: other.number,
-    };
-    let specificity = specificity_in_profile(q.selector);
-    let mut of_q = Standing::Unasked;
+    let mut of_q = unknown_pair();
     of_selectors(
         alloc,
         pairs,
         known,
         window,
         moved,
-        &Facing::Pair(q, place, specificity),
+        &Facing::Pair(q, place_of(other, number), specificity),
         &mut of_q,
     )
 }
@@ -373,7 +385,7 @@ fn with_kept(
             window,
             moved,
             &Facing::Kept(number),
-            &mut Standing::Unasked,
+            &mut unknown_pair(),
         )
     } else {
         Ok(None)
@@ -453,6 +465,7 @@ fn of_decl(
     let moved = MovedDecl {
         at,
         specificities: &source.specificities,
+        selectors: &source.selectors,
     };
     with_item(alloc, pairs, known, window, &moved, met)
 }

@@ -56,7 +56,7 @@ fn is_same(first: Specificity, second: Specificity) -> bool
 }
 
 /// Whether a specificity is among these.
-fn is_among(specificities: &[Specificity], specificity: Specificity) -> bool
+pub(crate) fn is_among(specificities: &[Specificity], specificity: Specificity) -> bool
     ensures { IsTrue result ↔ Contains specificities.now specificity }
 {
     let mut rest = specificities;

@@ -1,8 +1,9 @@
 //! What blocks a step, looked for among the items from its first to its last one.
 
-ghost use Rattle.std.specs.Prelude.{◌≡◌, true, IfNone, IfOk, IfSome, None, Some, map, slice_get};
+ghost use Rattle.std.specs.Prelude.{◌≡◌, ◌<◌, true, IfNone, IfOk, IfSome, None, Some, bit_or, length, map, slice_get};
 ghost use Rattle.css_model.specs.declared.sheet.Item.TheVariants as kinds;
 ghost use Rattle.css_model.specs.Sheets.RuleParts.{RuleParts};
+ghost use Rattle.item_masks.specs.declared.mask.ItemMask as declared;
 ghost use Rattle.item_masks.specs.Masks.{item_mask};
 ghost use Rattle.obstacles.specs.Blocking.{IsBlockedBy};
 ghost use Rattle.order_laws.specs.Edits.{Edit};
@@ -24,6 +25,7 @@ use crate::facing::Source;
 use crate::hinted::by_hint;
 use crate::hints::{Hints, Way, hint_of, mover_of, note_found, way_of};
 use crate::left_parts::left_by;
+use crate::selector_masks::selector_masks_of;
 use crate::specificities::specificities_of;
 use crate::window_search::in_window;
 use css_model::{Rule, Sheet};
@@ -53,6 +55,21 @@ fn starts_of(step: &Step) -> (usize, usize)
     }
 }
 
+/// The bits of the masks of two items, by their numbers.
+fn both_masks(masks: &[ItemMask], first: u32, last: u32) -> ItemMask
+    requires first { first < length masks.now }
+    requires last { last < length masks.now }
+    ensures { (m n : declared.ItemMask) → slice_get masks.now first ≡ Some m → slice_get masks.now last ≡ Some n →
+        result ≡ record { families = bit_or m.families n.families; selectors = bit_or m.selectors n.selectors } }
+{
+    let first = masks[first as usize];
+    let last = masks[last as usize];
+    ItemMask {
+        families: first.families | last.families,
+        selectors: first.selectors | last.selectors,
+    }
+}
+
 /// The window of a step. No part of a rule is copied.
 pub fn window_of<'a>(sheet: &'a Sheet, masks: &'a [ItemMask], step: &Step) -> Window<'a>
     requires is_step { HasStep sheet.now.items step.now }
@@ -62,8 +79,9 @@ pub fn window_of<'a>(sheet: &'a Sheet, masks: &'a [ItemMask], step: &Step) -> Wi
 {
     let items = sheet.items.as_slice();
     let (start, middle) = starts_of(step);
-    let (_, last) = items_of(step);
+    let (first, last) = items_of(step);
     let (first_left, last_left) = left_by(sheet, step);
+    let left_mask = both_masks(masks, first, last);
     Window {
         items,
         masks,
@@ -72,6 +90,7 @@ pub fn window_of<'a>(sheet: &'a Sheet, masks: &'a [ItemMask], step: &Step) -> Wi
         last: last as usize,
         first_left,
         last_left,
+        left_mask,
     }
 }
 
@@ -88,6 +107,7 @@ fn whole(alloc: Global, sheet: &Sheet, item: u32) -> Result<Source<'_>, AllocErr
     let masks = masks_of(alloc, &rule.decls, None)?;
     let mask = bits_of(&masks);
     let specificities = specificities_of(alloc, &rule.selectors)?;
+    let selectors = selector_masks_of(alloc, &rule.selectors)?;
     Ok(Source {
         item,
         rule,
@@ -95,6 +115,7 @@ fn whole(alloc: Global, sheet: &Sheet, item: u32) -> Result<Source<'_>, AllocErr
         masks,
         mask,
         specificities,
+        selectors,
     })
 }
 
@@ -115,6 +136,7 @@ fn common(alloc: Global, sheet: &Sheet, item: u32, other: u32) -> Result<Source<
     let masks = masks_of(alloc, &rule.decls, Some(with))?;
     let mask = bits_of(&masks);
     let specificities = specificities_of(alloc, &rule.selectors)?;
+    let selectors = selector_masks_of(alloc, &rule.selectors)?;
     Ok(Source {
         item,
         rule,
@@ -122,6 +144,7 @@ fn common(alloc: Global, sheet: &Sheet, item: u32, other: u32) -> Result<Source<
         masks,
         mask,
         specificities,
+        selectors,
     })
 }
 
@@ -225,6 +248,7 @@ fn bare<'a>(alloc: Global, sheet: &'a Sheet, item: u32, with: Option<&'a Rule>) 
         masks: Vec::new(alloc),
         mask: 0,
         specificities: Vec::new(alloc),
+        selectors: Vec::new(alloc),
     }
 }
 

@@ -28,10 +28,6 @@ last_not_before above last p q has not = ((has_append above (last ∷ []) p).1 (
 pub last_second : (above : List Item) (last : Item) (p q : Pair) → (HasPair (last ∷ []) p → ⊥) → HasPair (last ∷ []) q → IsSecond (above ++ last ∷ []) above p q
 last_second above last p q none has = record { rest = last ∷ []; parts = refl; none = none; second = has }
 
--- of pairs that are the same
-pub found_of : (above : List Item) (last : Item) (p q p' q' : Pair) (found : Found) → p' ≡ p → q' ≡ q → IsFoundLast above last p' q' found → IsFoundLast above last p q found
-found_of above last p q p' q' found first second is = subst (λ (y : Pair). IsFoundLast above last p y found) second (subst (λ (x : Pair). IsFoundLast above last x q' found) first is)
-
 -- ---- Of some items
 
 -- items of which the ones behind have neither pair

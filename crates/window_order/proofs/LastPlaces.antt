@@ -1,5 +1,5 @@
 -- What the last items tell in which pairs stand.
-use Rattle.std.proofs.Common.{◌≡◌, ◌↔◌, ◌⊎◌, ℕ, zero, suc, ◌+◌, ◌<◌, Bool, true, false, List, [], ◌∷◌, ◌++◌, length, take, drop, Option, Some, None, refl, sym, ap, ◌∙◌, subst, inl, inr, append_assoc, arith}
+use Rattle.std.proofs.Common.{◌≡◌, ◌↔◌, ◌⊎◌, ℕ, zero, suc, ◌+◌, ◌<◌, Bool, true, List, [], ◌∷◌, ◌++◌, length, take, drop, Option, Some, None, refl, sym, ap, ◌∙◌, subst, inl, inr, append_assoc, arith}
 use Rattle.std.specs.Prelude.{slice_get}
 use Rattle.cascade_laws.proofs.ForCallers.{some-same}
 use Rattle.css_model.specs.Cascade.Order.{Pair, HasPair, IsBefore}
@@ -76,6 +76,10 @@ stands_behind (x ∷ items) zero (suc j) item q less at has = subst (λ (xs : Li
 stands_behind (x ∷ items) (suc i) (suc j) item q less at has =
     let e : suc i + 1 ≡ suc (i + 1) = omega arith in
     subst (λ (k : ℕ). HasPair (drop k (x ∷ items)) q) (sym e) (stands_behind items i j item q (omega (arith, less)) at has)
+
+-- it stands in the item of the number
+pub stands_at : (items : List Item) (i j : ℕ) (item : Item) (p : Pair) → i ≡ j → slice_get items i ≡ Some item → IsLastPlace items j p → HasPair (item ∷ []) p
+stands_at items i j item p same at is = subst (λ (x : Item). HasPair (x ∷ []) p) (some-same (sym is.item_at ∙ ap (λ (n : ℕ). slice_get items n) (sym same) ∙ at)) is.stands
 
 -- ---- Of two
 

@@ -10,6 +10,7 @@ use Rattle.item_masks.proofs.ForCallers.{stands_meets}
 use Rattle.item_masks.specs.declared.mask.ItemMask.{ItemMask}
 use Rattle.item_masks.specs.Masks.{item_mask, meets, pair_mask}
 use Rattle.window_order.proofs.StandingTests.{in_item_is, stands_is}
+use Rattle.window_order.specs.Left.{Covers}
 use Rattle.window_order.specs.Standing.{is_in_item, is_in_masked, stands}
 
 none_passes : (b : Bool) → (b && false) ≡ false
@@ -37,11 +38,10 @@ masked_is p items masks b masks_are is = (λ e. (stands_is items p).0 (sym same 
     same : b ≡ stands items p
     same = is ∙ ap (λ (list : List ItemMask). list_any (by_masks p) (zip items list)) masks_are ∙ all_are p items
 
--- in an item that a pair does not meet it does not stand
-pub unmet_has_none : (p p' : Pair) (item : Item) (of_item mask : ItemMask) (b : Bool) → p' ≡ p → mask ≡ pair_mask p' → of_item ≡ item_mask item → b ≡ meets of_item mask → b ≡ false → HasPair (item ∷ []) p → ⊥
-unmet_has_none p p' item of_item mask b same of_pair of told unmet has =
-    let met : meets of_item mask ≡ true =
-    ap (λ (m : ItemMask). meets m mask) of ∙ ap (λ (m : ItemMask). meets (item_mask item) m) (of_pair ∙ ap pair_mask same) ∙ stands_meets p item has in
+-- in items that a mask covers a pair does not stand that it does not meet
+pub uncovered : (mask of_p : ItemMask) (items : List Item) (p p' : Pair) (b : Bool) → Covers mask items → p' ≡ p → of_p ≡ pair_mask p' → b ≡ meets mask of_p → b ≡ false → HasPair items p → ⊥
+uncovered mask of_p items p p' b covers same of_pair told unmet has =
+    let met : meets mask of_p ≡ true = ap (λ (m : ItemMask). meets mask m) (of_pair ∙ ap pair_mask same) ∙ covers p has in
     false≢true (sym unmet ∙ told ∙ met)
 
 -- the masks of what lies behind

@@ -8,7 +8,7 @@ use Rattle.order_laws.proofs.ForCallers.{has_append, before_in_two}
 use Rattle.order_laws.specs.Reversing.{Differ}
 use Rattle.window_order.proofs.LastFound.{before_in, in_neither, neither_in, no, not_before_in, second_alone, yes}
 use Rattle.window_order.specs.Found.{IsSecond}
-use Rattle.window_order.specs.Orders.{AreAlwaysSame, AreEnds, IsOrder, comes_before, is_before, joined, second_below}
+use Rattle.window_order.specs.Orders.{AreAlwaysSame, AreEnds, IsOrder, comes_before, first_alone, is_before, joined, second_below}
 use Rattle.window_order.specs.declared.ends.PairEnds.{PairEnds}
 use Rattle.window_order.specs.declared.order.PairOrder.{PairOrder}
 use Rattle.window_order.specs.declared.order.PairOrder.TheVariants.{Before, NotBefore, Second, Neither}
@@ -23,6 +23,11 @@ second_is items above p q false s told = (λ h. none ((has_append above s.rest p
     none : HasPair above p ⊎ HasPair s.rest p → ⊥
     none (inl h) = false≢true (told.1 h)
     none (inr h) = s.none h
+
+-- the second pair does not stand in them
+pub first_alone_is : (items : List Item) (p q : Pair) (b : Bool) → (HasPair items q → ⊥) → (b ≡ true) ↔ HasPair items p → IsOrder items p q (first_alone b)
+first_alone_is items p q true none told = (told.0 refl, λ b. none (b.later, b.second.stands))
+first_alone_is items p q false none told = (λ h. false≢true (told.1 h), none)
 
 -- the items have one order: so it does not matter that it is not looked for
 pub no_order : (items : List Item) (p q : Pair) → ((order : PairOrder) → IsOrder items p q order → ⊥) → ⊥
@@ -94,7 +99,3 @@ pub never_other : (first middle last first' last' : List Item) (p q : Pair) (old
 never_other first middle last first' last' p q old new same at at' d = no_order middle p q (λ between is.
     none_differ (comes_before old between) (comes_before new between) (equal (comes_before old between) (comes_before new between) (same between))
     (before_with first middle last p q old between at is) (before_with first' middle last' p q new between at' is) d)
-
--- of pairs that are the same
-pub ends_of : (first last : List Item) (p q p' q' : Pair) (ends : PairEnds) → p ≡ p' → q ≡ q' → AreEnds first last p q ends → AreEnds first last p' q' ends
-ends_of first last p q p' q' ends left right at = subst (λ (y : Pair). AreEnds first last p' y ends) right (subst (λ (x : Pair). AreEnds first last x q ends) left at)

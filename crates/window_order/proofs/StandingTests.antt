@@ -15,7 +15,7 @@ use Rattle.css_model.specs.Sheets.RuleParts.{RuleParts}
 use Rattle.list_facts.proofs.Members.{Contains-here, Contains-there}
 use Rattle.order_laws.proofs.ForCallers.{InRule, decls, DeclBefore, before_rule, has_append, has_decl_is, has_rule, has_selector_is}
 use Rattle.order_laws.specs.Members.{same_decl, has_selector, has_decl}
-use Rattle.window_order.specs.Standing.{decl_before, is_in_item, is_in_rule, item_before, rule_before, stands}
+use Rattle.window_order.specs.Standing.{decl_before, is_in_item, is_in_rule, rule_before, stands}
 
 -- ---- In a rule
 
@@ -109,10 +109,23 @@ rule_before_is r p q = (
         let v : (is_in_rule r q ≡ true) × (decl_before r.decls p.decl q.decl ≡ true) = and_parts (is_in_rule r q) (decl_before r.decls p.decl q.decl) w.1 in
         ((in_rule_is r p).0 w.0, (in_rule_is r q).0 v.0, (decl_before_is r.decls p.decl q.decl).0 v.1)
 
-pub item_before_is : (item : Item) (p q : Pair) → (item_before item p q ≡ true) ↔ IsBefore (item ∷ []) p q
-item_before_is (Rule r) p q = rule_before_is r p q
-item_before_is (KeptRule k) p q = (λ h. absurd (false≢true h), λ h. absurd (kept_rule_has (KeptRule k) p (λ r e. cc) (h.place, h.first.stands)))
-item_before_is (KeptBlock k) p q = (λ h. absurd (false≢true h), λ h. absurd (kept_rule_has (KeptBlock k) p (λ r e. cc) (h.place, h.first.stands)))
+-- where both pairs stand
+pub before_there : (item : Item) (r : RuleParts) (p q : Pair) (b : Bool) → item ≡ Rule r → HasPair (item ∷ []) p → HasPair (item ∷ []) q → b ≡ decl_before r.decls p.decl q.decl → (b ≡ true) ↔ IsBefore (item ∷ []) p q
+before_there item r p q b item_is first second is = subst (λ (x : Item). (b ≡ true) ↔ IsBefore (x ∷ []) p q) (sym item_is) (
+  λ e. (rule_before_is r p q).0 (whole ∙ sym is ∙ e),
+  λ h. is ∙ sym whole ∙ (rule_before_is r p q).1 h,
+)
+  where
+    has : (x : Pair) → HasPair (item ∷ []) x → is_in_rule r x ≡ true
+    has x h = (in_rule_is r x).1 ((has_rule r x).0 (subst (λ (y : Item). HasPair (y ∷ []) x) item_is h))
+
+    passed : (a c d : Bool) → a ≡ true → c ≡ true → (a && (c && d)) ≡ d
+    passed true true d e f = refl
+    passed true false d e f = absurd (false≢true f)
+    passed false c d e f = absurd (false≢true e)
+
+    whole : rule_before r p q ≡ decl_before r.decls p.decl q.decl
+    whole = passed (is_in_rule r p) (is_in_rule r q) (decl_before r.decls p.decl q.decl) (has p first) (has q second)
 
 -- ---- A kept item
 

@@ -1,11 +1,14 @@
 -- What stands in the place of an item after a step, by parts of rules of the sheet (own).
-use Rattle.std.specs.Prelude.{not, List, [], ◌∷◌, ◌++◌, Option, Some, None}
+use Rattle.std.specs.Prelude.{◌≡◌, true, not, List, [], ◌∷◌, ◌++◌, Option, Some, None}
 use Rattle.std.specs.List.{filter}
+use Rattle.css_model.specs.Cascade.Order.{Pair, HasPair}
 use Rattle.css_model.specs.declared.sheet.DeclItem.{DeclItem}
 use Rattle.css_model.specs.declared.sheet.Item.{Item}
 use Rattle.css_model.specs.declared.sheet.Item.TheVariants.{Rule}
 use Rattle.css_model.specs.declared.sheet.SelItem.{SelItem}
 use Rattle.css_model.specs.Sheets.RuleParts.{RuleParts}
+use Rattle.item_masks.specs.Masks.{meets, pair_mask}
+use Rattle.item_masks.specs.declared.mask.ItemMask.{ItemMask}
 use Rattle.order_laws.specs.Members.{has_decl, has_selector}
 use Rattle.step_laws.specs.RuleParting.{each_last, rule_or_none}
 use Rattle.window_order.specs.declared.left.Left.{Left}
@@ -44,3 +47,7 @@ rest_of None = []
 -- in order
 abbrev pub items_of : Left → List Item
 items_of l = made_of l.made ++ rest_of l.rest
+
+-- a mask meets those of all pairs that stand in some items
+abbrev pub Covers : ItemMask → List Item → Type 0
+Covers mask items = (p : Pair) → HasPair items p → meets mask (pair_mask p) ≡ true

@@ -23,6 +23,11 @@ abbrev pub second_below : Bool → PairOrder
 second_below true = Before
 second_below false = Second
 
+-- where the second pair does not stand, by whether the first one does
+abbrev pub first_alone : Bool → PairOrder
+first_alone true = NotBefore
+first_alone false = Neither
+
 -- in items of which some lie above the others
 abbrev pub joined : PairOrder → PairOrder → PairOrder
 joined above Before = Before

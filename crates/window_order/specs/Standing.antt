@@ -37,9 +37,3 @@ decl_before (x ∷ xs) d f = if same_decl x.decl d && not (has_decl xs d) then h
 -- two pairs stand in a rule, the last of the first before the last of the second
 abbrev pub rule_before : RuleParts → Pair → Pair → Bool
 rule_before r p q = is_in_rule r p && (is_in_rule r q && decl_before r.decls p.decl q.decl)
-
--- two pairs stand so in an item
-abbrev pub item_before : Item → Pair → Pair → Bool
-item_before (Rule r) p q = rule_before r p q
-item_before (KeptRule k) p q = false
-item_before (KeptBlock piece) p q = false

@@ -4,7 +4,7 @@ ghost use Rattle.std.specs.Prelude.{◌≡◌};
 ghost use Rattle.window_order.specs.Reversed as reversed;
 ghost use Rattle.window_order.specs.Standing as standing;
 
-use crate::pair::{PairRef, with_mask};
+use crate::pair::PairRef;
 use crate::window::Window;
 
 impl<'a> Window<'a> {
@@ -12,6 +12,6 @@ impl<'a> Window<'a> {
     pub fn is_behind(&self, p: &PairRef<'_>) -> bool
         ensures { result ≡ standing.stands (reversed.behind_of self.now) p.now }
     {
-        self.stands_behind(&with_mask(p))
+        self.stands_behind(p)
     }
 }

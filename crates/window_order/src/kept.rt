@@ -9,13 +9,13 @@ ghost use Rattle.window_order.specs.Orders as orders;
 ghost use Rattle.window_order.specs.Places as places;
 
 use crate::masked::stands_by_masks;
-use crate::pair::{MaskedPair, PairRef};
+use crate::pair::PairRef;
 use css_model::Item;
 use item_masks::ItemMask;
 
 /// Whether a pair stands in the parts at the ends of a window.
 #[derive(Clone, Copy)]
-pub(crate) struct KeptEnds {
+pub struct KeptEnds {
     /// In the first part.
     pub above: bool,
     /// In the last part.
@@ -39,7 +39,7 @@ pub(crate) fn always_same_kept(old: KeptEnds, new: KeptEnds) -> bool
 }
 
 /// Whether a pair stands in the items below the one of this number, by the masks.
-fn stands_below(items: &[Item], masks: &[ItemMask], number: usize, p: &MaskedPair<'_>) -> bool
+fn stands_below(items: &[Item], masks: &[ItemMask], number: usize, p: &PairRef<'_>) -> bool
     requires number { number < length items.now }
     requires items { masks.now ≡ map item_mask items.now }
     ensures { IsTrue result ↔ HasPair (drop (number + 1) items.now) p.now }
@@ -48,7 +48,7 @@ fn stands_below(items: &[Item], masks: &[ItemMask], number: usize, p: &MaskedPai
 }
 
 /// Whether it stands in the items above the one of this number.
-fn stands_above(items: &[Item], masks: &[ItemMask], number: usize, p: &MaskedPair<'_>) -> bool
+fn stands_above(items: &[Item], masks: &[ItemMask], number: usize, p: &PairRef<'_>) -> bool
     requires number { number < length items.now }
     requires items { masks.now ≡ map item_mask items.now }
     ensures { IsTrue result ↔ HasPair (take number items.now) p.now }
@@ -64,7 +64,7 @@ pub(crate) fn has_other_place(
     middle: &[Item],
     masks: &[ItemMask],
     number: usize,
-    p: &MaskedPair<'_>,
+    p: &PairRef<'_>,
 ) -> bool
     requires kept { (item : declared.Item) × (slice_get middle.now number ≡ Some item) × (keeping.is_kept item ≡ true) }
     requires items { masks.now ≡ map item_mask middle.now }

@@ -10,10 +10,11 @@ ghost use Rattle.window_order.specs.Orders as orders;
 ghost use Rattle.window_order.specs.Standing as standing;
 
 use crate::ends::joined;
-use crate::order::PairOrder;
+use crate::order::{PairOrder, first_alone};
 use crate::pair::PairRef;
 use crate::standing::decl_before;
 use css_model::{Decl, DeclItem, SelItem, Selector};
+use item_masks::ItemMask;
 use step_savings::{has_decl, has_selector};
 
 /// Selectors that stand in rules of a sheet.
@@ -213,14 +214,46 @@ fn order_in_any(rule: &Option<LeftRule<'_>>, p: &PairRef<'_>, q: &PairRef<'_>) -
 
 impl<'a> Left<'a> {
     /// Whether a pair stands in what is left.
-    pub(crate) fn has_pair(&self, p: &PairRef<'_>) -> bool
+    fn has_pair(&self, p: &PairRef<'_>) -> bool
         ensures { IsTrue result ↔ HasPair (left.items_of self.now) p.now }
     {
         is_in_any(&self.made, p) || is_in_any(&self.rest, p)
     }
 
+    /// Whether a pair stands in what is left, by a mask that meets those of all pairs in it.
+    pub(crate) fn has_masked(&self, mask: ItemMask, p: &PairRef<'_>) -> bool
+        requires { left.Covers mask (left.items_of self.now) }
+        ensures { IsTrue result ↔ HasPair (left.items_of self.now) p.now }
+    {
+        if !mask.meets(p.mask) {
+            return false;
+        }
+        self.has_pair(p)
+    }
+
+    /// How two pairs stand in what is left, by whether each does.
+    pub(crate) fn order_by_both(
+        &self,
+        p: &PairRef<'_>,
+        first: bool,
+        q: &PairRef<'_>,
+        second: bool,
+    ) -> PairOrder
+        requires first { IsTrue first ↔ HasPair (left.items_of self.now) p.now }
+        requires second { IsTrue second ↔ HasPair (left.items_of self.now) q.now }
+        ensures { orders.IsOrder (left.items_of self.now) p.now q.now result }
+    {
+        if !second {
+            return first_alone(first);
+        }
+        if !first {
+            return PairOrder::Second;
+        }
+        self.order_of(p, q)
+    }
+
     /// How two pairs stand in what is left.
-    pub(crate) fn order_of(&self, p: &PairRef<'_>, q: &PairRef<'_>) -> PairOrder
+    fn order_of(&self, p: &PairRef<'_>, q: &PairRef<'_>) -> PairOrder
         ensures { orders.IsOrder (left.items_of self.now) p.now q.now result }
     {
         let above = order_in_any(&self.made, p, q);

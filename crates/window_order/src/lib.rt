@@ -3,6 +3,7 @@
 
 mod behind;
 mod ends;
+mod ends_known;
 mod kept;
 mod left;
 mod masked;
@@ -14,8 +15,10 @@ mod standing;
 mod weighing;
 mod window;
 
+pub use ends_known::{Ends, KnownPair, unknown_pair};
+pub use kept::KeptEnds;
 pub use left::{Left, LeftDecls, LeftRule, LeftSelectors};
-pub use pair::PairRef;
+pub use pair::{PairRef, pair_of};
 pub use place::Standing;
 pub use weighing::{decls_weigh, same_specificity, weighs_kept};
 pub use window::Window;

@@ -9,31 +9,28 @@ ghost use Rattle.window_order.specs.Orders as orders;
 ghost use Rattle.window_order.specs.Places as places;
 ghost use Rattle.window_order.specs.Standing as standing;
 
-use crate::order::{Found, PairOrder, found_last, second_below};
-use crate::pair::MaskedPair;
-use crate::standing::is_in_item;
+use crate::order::{Found, PairOrder, first_alone, second_below};
+use crate::pair::PairRef;
+use crate::standing::{comes_before_if, is_in_item};
 use css_model::Item;
 use item_masks::ItemMask;
 
 /// Whether a pair stands in an item with a mask. Nearly all in which it does not are told by the masks.
-fn is_in_masked(item: &Item, of_item: ItemMask, p: &MaskedPair<'_>) -> bool
+fn is_in_masked(item: &Item, of_item: ItemMask, p: &PairRef<'_>) -> bool
     ensures { result ≡ standing.is_in_masked (pair_mask p.now) p.now item.now of_item }
 {
-    of_item.meets(p.mask) && is_in_item(item, &p.pair)
+    of_item.meets(p.mask) && is_in_item(item, p)
 }
 
 /// Whether it stands in some items with masks.
-fn stands_masked(items: &[Item], masks: &[ItemMask], p: &MaskedPair<'_>) -> bool
+fn stands_masked(items: &[Item], masks: &[ItemMask], p: &PairRef<'_>) -> bool
     ensures { result ≡ list_any (λ x. standing.is_in_masked (pair_mask p.now) p.now x.0 x.1) (zip items.now masks.now) }
 {
-    items
-        .iter()
-        .zip(masks)
-        .any(|(item, of_item)| is_in_masked(item, *of_item, p))
+    items.iter().zip(masks).any(|(item, of_item)| of_item.meets(p.mask) && is_in_item(item, p))
 }
 
 /// Whether it stands in some items, by its mask and theirs.
-pub(crate) fn stands_by_masks(items: &[Item], masks: &[ItemMask], p: &MaskedPair<'_>) -> bool
+pub(crate) fn stands_by_masks(items: &[Item], masks: &[ItemMask], p: &PairRef<'_>) -> bool
     requires { masks.now ≡ map item_mask items.now }
     ensures { IsTrue result ↔ HasPair items.now p.now }
 {
@@ -41,7 +38,7 @@ pub(crate) fn stands_by_masks(items: &[Item], masks: &[ItemMask], p: &MaskedPair
 }
 
 /// Whether it stands in an item, by its mask and that of the item.
-fn stands_in_masked(item: &Item, of_item: ItemMask, p: &MaskedPair<'_>) -> bool
+fn stands_in_masked(item: &Item, of_item: ItemMask, p: &PairRef<'_>) -> bool
     requires { of_item ≡ item_mask item.now }
     ensures { IsTrue result ↔ HasPair (item.now ∷ []) p.now }
 {
@@ -49,7 +46,7 @@ fn stands_in_masked(item: &Item, of_item: ItemMask, p: &MaskedPair<'_>) -> bool
 }
 
 /// The number of the last of some items in which a pair stands, by its mask and theirs.
-pub(crate) fn last_by_masks(items: &[Item], masks: &[ItemMask], p: &MaskedPair<'_>) -> Option<usize>
+pub(crate) fn last_by_masks(items: &[Item], masks: &[ItemMask], p: &PairRef<'_>) -> Option<usize>
     requires { masks.now ≡ map item_mask items.now }
     ensures { places.IsPlace items.now p.now result }
 {
@@ -63,30 +60,37 @@ pub(crate) fn last_by_masks(items: &[Item], masks: &[ItemMask], p: &MaskedPair<'
     None
 }
 
-/// What an item with a mask tells that has these above it. It is looked at only where its mask meets that of one of the
-/// pairs.
+/// What an item with a mask tells that has these above it.
 fn found_masked<'a>(
     above: &'a [Item],
     last: &Item,
     of_last: ItemMask,
-    p: &MaskedPair<'_>,
-    q: &MaskedPair<'_>,
+    p: &PairRef<'_>,
+    q: &PairRef<'_>,
 ) -> Found<'a>
     requires { of_last ≡ item_mask last.now }
     ensures { IsFoundLast above.now last.now p.now q.now result }
 {
-    if !of_last.meets(p.mask) && !of_last.meets(q.mask) {
-        return Found::Neither;
+    let second = stands_in_masked(last, of_last, q);
+    if stands_in_masked(last, of_last, p) {
+        if comes_before_if(last, p, q, second) {
+            Found::Before
+        } else {
+            Found::NotBefore
+        }
+    } else if second {
+        Found::Second(above)
+    } else {
+        Found::Neither
     }
-    found_last(above, last, &p.pair, &q.pair)
 }
 
 /// What the last of some items that has one of two pairs tells of their order, by the masks.
 fn found_by_masks<'a>(
     items: &'a [Item],
     masks: &[ItemMask],
-    p: &MaskedPair<'_>,
-    q: &MaskedPair<'_>,
+    p: &PairRef<'_>,
+    q: &PairRef<'_>,
 ) -> Found<'a>
     requires { masks.now ≡ map item_mask items.now }
     ensures { IsFound items.now p.now q.now result }
@@ -102,7 +106,7 @@ fn found_by_masks<'a>(
 }
 
 /// Whether a pair stands in the first of some items, by the masks of all.
-fn stands_above(above: &[Item], masks: &[ItemMask], p: &MaskedPair<'_>) -> bool
+fn stands_above(above: &[Item], masks: &[ItemMask], p: &PairRef<'_>) -> bool
     requires items { take (length above.now) masks.now ≡ map item_mask above.now }
     requires count { length above.now ≤ length masks.now }
     ensures { IsTrue result ↔ HasPair above.now p.now }
@@ -114,8 +118,8 @@ fn stands_above(above: &[Item], masks: &[ItemMask], p: &MaskedPair<'_>) -> bool
 pub(crate) fn order_by_masks(
     items: &[Item],
     masks: &[ItemMask],
-    p: &MaskedPair<'_>,
-    q: &MaskedPair<'_>,
+    p: &PairRef<'_>,
+    q: &PairRef<'_>,
 ) -> PairOrder
     requires { masks.now ≡ map item_mask items.now }
     ensures { orders.IsOrder items.now p.now q.now result }
@@ -126,4 +130,27 @@ pub(crate) fn order_by_masks(
         Found::Second(above) => second_below(stands_above(above, masks, p)),
         Found::Neither => PairOrder::Neither,
     }
+}
+
+/// The same, by whether each of them stands in them: they are looked at only where both do.
+pub(crate) fn order_by_both(
+    items: &[Item],
+    masks: &[ItemMask],
+    p: &PairRef<'_>,
+    first: bool,
+    q: &PairRef<'_>,
+    second: bool,
+) -> PairOrder
+    requires items { masks.now ≡ map item_mask items.now }
+    requires first { IsTrue first ↔ HasPair items.now p.now }
+    requires second { IsTrue second ↔ HasPair items.now q.now }
+    ensures { orders.IsOrder items.now p.now q.now result }
+{
+    if !second {
+        return first_alone(first);
+    }
+    if !first {
+        return PairOrder::Second;
+    }
+    order_by_masks(items, masks, p, q)
 }

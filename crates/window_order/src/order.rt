@@ -1,11 +1,8 @@
 //! How two pairs stand in items, and which of them comes last before the other.
 
-ghost use Rattle.std.specs.Prelude.{◌≡◌, ◌↔◌, IsTrue};
-ghost use Rattle.window_order.specs.Found.{IsFound, IsFoundLast};
+ghost use Rattle.std.specs.Prelude.{◌≡◌};
 ghost use Rattle.window_order.specs.Orders as orders;
 
-use crate::pair::PairRef;
-use crate::standing::{comes_before_in_item, stands_in, stands_in_item};
 use css_model::Item;
 
 /// What the last of some items that has one of two pairs tells of their order.
@@ -34,40 +31,15 @@ pub(crate) enum PairOrder {
     Neither,
 }
 
-/// What an item tells that has these above it.
-pub(crate) fn found_last<'a>(
-    above: &'a [Item],
-    last: &Item,
-    p: &PairRef<'_>,
-    q: &PairRef<'_>,
-) -> Found<'a>
-    ensures { IsFoundLast above.now last.now p.now q.now result }
+/// How two pairs stand in items in which the second one does not, by whether the first one does.
+pub(crate) fn first_alone(stands: bool) -> PairOrder
+    ensures { result ≡ orders.first_alone stands }
 {
-    if stands_in_item(last, p) {
-        if comes_before_in_item(last, p, q) {
-            Found::Before
-        } else {
-            Found::NotBefore
-        }
-    } else if stands_in_item(last, q) {
-        Found::Second(above)
+    if stands {
+        PairOrder::NotBefore
     } else {
-        Found::Neither
+        PairOrder::Neither
     }
-}
-
-/// What the last of some items that has one of two pairs tells of their order.
-fn found_in<'a>(items: &'a [Item], p: &PairRef<'_>, q: &PairRef<'_>) -> Found<'a>
-    ensures { IsFound items.now p.now q.now result }
-{
-    let mut rest = items;
-    'rest: while let Some((last, above)) = rest.split_last() {
-        match found_last(above, last, p, q) {
-            Found::Neither => rest = above,
-            found => return found,
-        }
-    }
-    Found::Neither
 }
 
 /// How two pairs stand in items of which the last that has one has the second alone, by whether the first one stands
@@ -79,17 +51,5 @@ pub(crate) fn second_below(stands_above: bool) -> PairOrder
         PairOrder::Before
     } else {
         PairOrder::Second
-    }
-}
-
-/// How two pairs stand in some items.
-pub(crate) fn order_in(items: &[Item], p: &PairRef<'_>, q: &PairRef<'_>) -> PairOrder
-    ensures { orders.IsOrder items.now p.now q.now result }
-{
-    match found_in(items, p, q) {
-        Found::Before => PairOrder::Before,
-        Found::NotBefore => PairOrder::NotBefore,
-        Found::Second(above) => second_below(stands_in(above, p)),
-        Found::Neither => PairOrder::Neither,
     }
 }

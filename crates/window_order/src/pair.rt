@@ -1,4 +1,4 @@
-//! A pair, by its parts where they stand, and with its mask.
+//! A pair, by its parts where they stand, with its mask.
 
 ghost use Rattle.std.specs.Prelude.{◌≡◌};
 ghost use Rattle.item_masks.specs.Masks as masks;
@@ -7,13 +7,16 @@ use css_model::{Decl, Selector};
 use item_masks::{ItemMask, pair_mask};
 use std::marker::Model;
 
-/// A selector and a declaration, where they stand.
+/// A selector and a declaration, where they stand, with the mask of both, which is made once.
 #[derive(Drop)]
 pub struct PairRef<'a> {
     /// The selector.
     pub selector: &'a Selector,
     /// The declaration.
     pub decl: &'a Decl,
+    /// The mask.
+    pub mask: ItemMask,
+    ghost masked: { mask ≡ masks.pair_mask (record { selector = selector.now; decl = decl.now }) },
 }
 
 impl<'a> Model for PairRef<'a> {
@@ -24,31 +27,13 @@ impl<'a> Model for PairRef<'a> {
     ghost view = { λ p. record { selector = p.selector.now; decl = p.decl.now } };
 }
 
-/// A pair with its mask.
-#[derive(Drop)]
-pub(crate) struct MaskedPair<'a> {
-    pub(crate) pair: PairRef<'a>,
-    pub(crate) mask: ItemMask,
-    ghost masked: { mask ≡ masks.pair_mask pair },
-}
-
-impl<'a> Model for MaskedPair<'a> {
-    ghost use Rattle.css_model.specs.Cascade.Order.{Pair};
-
-    ghost Value = { Pair };
-
-    ghost view = { λ m. m.pair };
-}
-
-/// A pair with its mask.
-pub(crate) fn with_mask<'a>(p: &PairRef<'a>) -> MaskedPair<'a>
-    ensures { result ≡ p.now }
+/// The pair of a selector and a declaration.
+pub fn pair_of<'a>(selector: &'a Selector, decl: &'a Decl) -> PairRef<'a>
+    ensures { result ≡ record { selector = selector.now; decl = decl.now } }
 {
-    MaskedPair {
-        pair: PairRef {
-            selector: p.selector,
-            decl: p.decl,
-        },
-        mask: pair_mask(p.selector, p.decl),
+    PairRef {
+        selector,
+        decl,
+        mask: pair_mask(selector, decl),
     }
 }

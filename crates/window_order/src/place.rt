@@ -12,11 +12,12 @@ ghost use Rattle.window_order.specs.Places as places;
 ghost use Rattle.window_order.specs.Reversed as reversed;
 
 use crate::ends::{PairEnds, always_same, comes_before};
+use crate::ends_known::KnownPair;
 use crate::kept::{KeptEnds, always_same_kept, has_place_other};
 use crate::masked::last_by_masks;
 use crate::order::PairOrder;
-use crate::pair::{MaskedPair, PairRef, with_mask};
-use crate::standing::comes_before_in_item;
+use crate::pair::PairRef;
+use crate::standing::comes_before_there;
 use crate::window::Window;
 use css_model::Item;
 
@@ -60,7 +61,7 @@ fn comes_before_at(
     if other < at {
         return false;
     }
-    comes_before_in_item(item_at(items, at), p, q)
+    comes_before_there(item_at(items, at), p, q)
 }
 
 /// How they stand in them if both do.
@@ -104,14 +105,14 @@ fn order_by_places(
 
 impl<'a> Window<'a> {
     /// The last item of what lies between in which a pair stands.
-    fn last_between(&self, p: &MaskedPair<'_>) -> Option<usize>
+    fn last_between(&self, p: &PairRef<'_>) -> Option<usize>
         ensures { places.IsPlace (reversed.middle_of self.now) p.now result }
     {
         last_by_masks(self.between(), self.between_masks(), p)
     }
 
     /// Where a pair stands.
-    fn looked_for(&self, p: &MaskedPair<'_>) -> Option<Option<usize>>
+    fn looked_for(&self, p: &PairRef<'_>) -> Option<Option<usize>>
         ensures { places.IsSeen self.now p.now result }
     {
         if self.stands_behind(p) {
@@ -119,13 +120,6 @@ impl<'a> Window<'a> {
         } else {
             Some(self.last_between(p))
         }
-    }
-
-    /// Where a pair stands, which is looked for.
-    fn first_seen(&self, p: &PairRef<'_>) -> Option<Option<usize>>
-        ensures { places.IsSeen self.now p.now result }
-    {
-        self.looked_for(&with_mask(p))
     }
 
     /// Where a pair stands, which is looked for if it was not yet.
@@ -138,7 +132,7 @@ impl<'a> Window<'a> {
             Standing::Behind => None,
             Standing::Last(place) => Some(place),
             Standing::Unasked => {
-                let seen = self.first_seen(p);
+                let seen = self.looked_for(p);
                 *standing = match seen {
                     None => Standing::Behind,
                     Some(place) => Standing::Last(place),
@@ -236,22 +230,24 @@ impl<'a> Window<'a> {
     pub fn is_known_reversed(
         &self,
         p: &PairRef<'_>,
-        of_p: &mut Standing,
+        of_p: &mut KnownPair,
         q: &PairRef<'_>,
-        of_q: &mut Standing,
+        of_q: &mut KnownPair,
     ) -> bool
-        requires first { places.IsStanding self.now p.now of_p.old }
-        requires second { places.IsStanding self.now q.now of_q.old }
+        requires first { places.IsKnownPair self.now p.now of_p.old }
+        requires second { places.IsKnownPair self.now q.now of_q.old }
         ensures told { IsTrue result ↔ reversed.IsReversed self.now p.now q.now }
-        ensures first { places.IsStanding self.now p.now of_p.new }
-        ensures second { places.IsStanding self.now q.now of_q.new }
+        ensures first { places.IsKnownPair self.now p.now of_p.new }
+        ensures second { places.IsKnownPair self.now q.now of_q.new }
     {
-        let old = self.old_ends(p, q);
-        let new = self.new_ends(p, q);
+        let ends_of_p = self.ends_of(p, of_p);
+        let ends_of_q = self.ends_of(q, of_q);
+        let old = self.old_ends(p, ends_of_p, q, ends_of_q);
+        let new = self.new_ends(p, ends_of_p, q, ends_of_q);
         if always_same(old, new) {
             return false;
         }
-        self.is_reversed_by(old, new, p, of_p, q, of_q)
+        self.is_reversed_by(old, new, p, &mut of_p.standing, q, &mut of_q.standing)
     }
 
     /// Whether a pair that stands so and the kept item of this number of the middle part have another order in the
@@ -301,22 +297,21 @@ impl<'a> Window<'a> {
     pub fn is_known_kept_reversed(
         &self,
         p: &PairRef<'_>,
-        of_p: &mut Standing,
+        of_p: &mut KnownPair,
         number: usize,
     ) -> bool
         requires above { self.now.start ≤ number }
         requires below { number ≤ self.now.last }
         requires kept { (item : declared.Item) × (slice_get self.now.items.now number ≡ Some item) × (is_kept item ≡ true) }
-        requires first { places.IsStanding self.now p.now of_p.old }
+        requires first { places.IsKnownPair self.now p.now of_p.old }
         ensures told { IsTrue result ↔ reversed.IsKeptReversed self.now p.now (reversed.kept_number self.now number) }
-        ensures first { places.IsStanding self.now p.now of_p.new }
+        ensures first { places.IsKnownPair self.now p.now of_p.new }
     {
-        let old = self.old_kept_ends(p);
-        let new = self.new_kept_ends(p);
+        let ends = self.ends_of(p, of_p);
         let place = self.place_between(number);
-        if always_same_kept(old, new) {
+        if always_same_kept(ends.old, ends.new) {
             return false;
         }
-        self.is_kept_reversed_by(old, new, p, of_p, place)
+        self.is_kept_reversed_by(ends.old, ends.new, p, &mut of_p.standing, place)
     }
 }

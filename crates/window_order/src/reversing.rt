@@ -13,16 +13,15 @@ ghost use Rattle.window_order.specs.Reversed as reversed;
 use crate::ends::{PairEnds, always_same, comes_before};
 use crate::kept::{KeptEnds, always_same_kept, has_other_place};
 use crate::masked::{order_by_masks, stands_by_masks};
-use crate::order::{PairOrder, order_in};
-use crate::pair::{MaskedPair, PairRef, with_mask};
-use crate::standing::stands_in;
+use crate::order::PairOrder;
+use crate::pair::PairRef;
 use crate::window::Window;
 use css_model::Item;
 use item_masks::ItemMask;
 
 impl<'a> Window<'a> {
     /// The first item, if there is one.
-    fn first(&self) -> &'a [Item]
+    pub(crate) fn first(&self) -> &'a [Item]
         ensures { result.now ≡ reversed.first_of self.now }
     {
         &self.items[self.start..self.middle]
@@ -36,7 +35,7 @@ impl<'a> Window<'a> {
     }
 
     /// The last item.
-    fn last(&self) -> &'a [Item]
+    pub(crate) fn last(&self) -> &'a [Item]
         ensures { result.now ≡ reversed.last_of self.now }
     {
         &self.items[self.last..self.last + 1]
@@ -47,6 +46,20 @@ impl<'a> Window<'a> {
         ensures { result.now ≡ reversed.behind_of self.now }
     {
         &self.items[self.last + 1..]
+    }
+
+    /// The mask of the first item, if there is one.
+    pub(crate) fn first_masks(&self) -> &'a [ItemMask]
+        ensures { result.now ≡ map item_mask (reversed.first_of self.now) }
+    {
+        &self.masks[self.start..self.middle]
+    }
+
+    /// The mask of the last item.
+    pub(crate) fn last_masks(&self) -> &'a [ItemMask]
+        ensures { result.now ≡ map item_mask (reversed.last_of self.now) }
+    {
+        &self.masks[self.last..self.last + 1]
     }
 
     /// The masks of what lies between.
@@ -64,34 +77,14 @@ impl<'a> Window<'a> {
     }
 
     /// Whether a pair stands behind.
-    pub(crate) fn stands_behind(&self, p: &MaskedPair<'_>) -> bool
+    pub(crate) fn stands_behind(&self, p: &PairRef<'_>) -> bool
         ensures { IsTrue result ↔ HasPair (reversed.behind_of self.now) p.now }
     {
         stands_by_masks(self.behind(), self.behind_masks(), p)
     }
 
-    /// How two pairs stand in the parts at the ends before the step.
-    pub(crate) fn old_ends(&self, p: &PairRef<'_>, q: &PairRef<'_>) -> PairEnds
-        ensures { orders.AreEnds (reversed.first_of self.now) (reversed.last_of self.now) p.now q.now result }
-    {
-        PairEnds {
-            above: order_in(self.first(), p, q),
-            below: order_in(self.last(), p, q),
-        }
-    }
-
-    /// How they do afterwards.
-    pub(crate) fn new_ends(&self, p: &PairRef<'_>, q: &PairRef<'_>) -> PairEnds
-        ensures { orders.AreEnds (left.items_of self.now.first_left) (left.items_of self.now.last_left) p.now q.now result }
-    {
-        PairEnds {
-            above: self.first_left.order_of(p, q),
-            below: self.last_left.order_of(p, q),
-        }
-    }
-
-    /// How they stand in what lies between.
-    fn order_between(&self, p: &MaskedPair<'_>, q: &MaskedPair<'_>) -> PairOrder
+    /// How two pairs stand in what lies between.
+    fn order_between(&self, p: &PairRef<'_>, q: &PairRef<'_>) -> PairOrder
         ensures { orders.IsOrder (reversed.middle_of self.now) p.now q.now result }
     {
         order_by_masks(self.between(), self.between_masks(), p, q)
@@ -102,8 +95,8 @@ impl<'a> Window<'a> {
         &self,
         old: PairEnds,
         new: PairEnds,
-        p: &MaskedPair<'_>,
-        q: &MaskedPair<'_>,
+        p: &PairRef<'_>,
+        q: &PairRef<'_>,
     ) -> bool
         requires old { orders.AreEnds (reversed.first_of self.now) (reversed.last_of self.now) p.now q.now old }
         requires new { orders.AreEnds (left.items_of self.now.first_left) (left.items_of self.now.last_left) p.now q.now new }
@@ -118,8 +111,8 @@ impl<'a> Window<'a> {
         &self,
         old: PairEnds,
         new: PairEnds,
-        p: &MaskedPair<'_>,
-        q: &MaskedPair<'_>,
+        p: &PairRef<'_>,
+        q: &PairRef<'_>,
     ) -> bool
         requires old { orders.AreEnds (reversed.first_of self.now) (reversed.last_of self.now) p.now q.now old }
         requires new { orders.AreEnds (left.items_of self.now.first_left) (left.items_of self.now.last_left) p.now q.now new }
@@ -139,32 +132,14 @@ impl<'a> Window<'a> {
     pub fn is_reversed(&self, p: &PairRef<'_>, q: &PairRef<'_>) -> bool
         ensures { IsTrue result ↔ reversed.IsReversed self.now p.now q.now }
     {
-        let old = self.old_ends(p, q);
-        let new = self.new_ends(p, q);
+        let of_p = self.ends_looked_for(p);
+        let of_q = self.ends_looked_for(q);
+        let old = self.old_ends(p, of_p, q, of_q);
+        let new = self.new_ends(p, of_p, q, of_q);
         if always_same(old, new) {
             return false;
         }
-        self.is_reversed_between(old, new, &with_mask(p), &with_mask(q))
-    }
-
-    /// Whether a pair stands in the parts at the ends before the step.
-    pub(crate) fn old_kept_ends(&self, p: &PairRef<'_>) -> KeptEnds
-        ensures { orders.AreKeptEnds (reversed.first_of self.now) (reversed.last_of self.now) p.now result }
-    {
-        KeptEnds {
-            above: stands_in(self.first(), p),
-            below: stands_in(self.last(), p),
-        }
-    }
-
-    /// Whether it does so afterwards.
-    pub(crate) fn new_kept_ends(&self, p: &PairRef<'_>) -> KeptEnds
-        ensures { orders.AreKeptEnds (left.items_of self.now.first_left) (left.items_of self.now.last_left) p.now result }
-    {
-        KeptEnds {
-            above: self.first_left.has_pair(p),
-            below: self.last_left.has_pair(p),
-        }
+        self.is_reversed_between(old, new, p, q)
     }
 
     /// The number among the items of the middle part of the kept item of this number.
@@ -184,7 +159,7 @@ impl<'a> Window<'a> {
         &self,
         old: KeptEnds,
         new: KeptEnds,
-        p: &MaskedPair<'_>,
+        p: &PairRef<'_>,
         place: usize,
     ) -> bool
         requires old { orders.AreKeptEnds (reversed.first_of self.now) (reversed.last_of self.now) p.now old }
@@ -200,7 +175,7 @@ impl<'a> Window<'a> {
         &self,
         old: KeptEnds,
         new: KeptEnds,
-        p: &MaskedPair<'_>,
+        p: &PairRef<'_>,
         place: usize,
     ) -> bool
         requires old { orders.AreKeptEnds (reversed.first_of self.now) (reversed.last_of self.now) p.now old }
@@ -222,12 +197,11 @@ impl<'a> Window<'a> {
         requires kept { (item : declared.Item) × (slice_get self.now.items.now number ≡ Some item) × (is_kept item ≡ true) }
         ensures { IsTrue result ↔ reversed.IsKeptReversed self.now p.now (reversed.kept_number self.now number) }
     {
-        let old = self.old_kept_ends(p);
-        let new = self.new_kept_ends(p);
+        let ends = self.ends_looked_for(p);
         let place = self.place_between(number);
-        if always_same_kept(old, new) {
+        if always_same_kept(ends.old, ends.new) {
             return false;
         }
-        self.is_kept_reversed_between(old, new, &with_mask(p), place)
+        self.is_kept_reversed_between(ends.old, ends.new, p, place)
     }
 }

@@ -30,28 +30,6 @@ pub(crate) fn is_in_item(item: &Item, p: &PairRef<'_>) -> bool
     }
 }
 
-/// Whether a pair is the one of an item.
-#[tactic(auto, using(crate::proofs::StandingTests::in_item_is))]
-pub(crate) fn stands_in_item(item: &Item, p: &PairRef<'_>) -> bool
-    ensures { IsTrue result ↔ HasPair (item.now ∷ []) p.now }
-{
-    is_in_item(item, p)
-}
-
-/// Whether a pair stands in some items.
-fn stands(items: &[Item], p: &PairRef<'_>) -> bool
-    ensures { result ≡ standing.stands items.now p.now }
-{
-    items.iter().any(|item| is_in_item(item, p))
-}
-
-/// Whether a pair stands in some items.
-pub(crate) fn stands_in(items: &[Item], p: &PairRef<'_>) -> bool
-    ensures { IsTrue result ↔ HasPair items.now p.now }
-{
-    stands(items, p)
-}
-
 /// Whether the last of a declaration stands before the last of another one.
 pub(crate) fn decl_before(decls: &[DeclItem], first: &Decl, second: &Decl) -> bool
     ensures { result ≡ standing.decl_before decls.now first.now second.now }
@@ -66,27 +44,33 @@ pub(crate) fn decl_before(decls: &[DeclItem], first: &Decl, second: &Decl) -> bo
     false
 }
 
-/// Whether two pairs stand in a rule, the last of the first before the last of the second.
-fn rule_before(rule: &Rule, p: &PairRef<'_>, q: &PairRef<'_>) -> bool
-    ensures { result ≡ standing.rule_before rule.now p.now q.now }
+/// Whether in a rule the last of the first pair's declaration stands before the last of the second's.
+fn decls_before(rule: &Rule, p: &PairRef<'_>, q: &PairRef<'_>) -> bool
+    ensures { result ≡ standing.decl_before rule.now.decls p.now.decl q.now.decl }
 {
-    is_in_rule(rule, p) && is_in_rule(rule, q) && decl_before(&rule.decls, p.decl, q.decl)
+    decl_before(&rule.decls, p.decl, q.decl)
 }
 
-/// Whether two pairs stand so in an item.
-fn item_before(item: &Item, p: &PairRef<'_>, q: &PairRef<'_>) -> bool
-    ensures { result ≡ standing.item_before item.now p.now q.now }
+/// Whether of two pairs that stand in an item the last of the first stands before the last of the second.
+pub(crate) fn comes_before_there(item: &Item, p: &PairRef<'_>, q: &PairRef<'_>) -> bool
+    requires first { HasPair (item.now ∷ []) p.now }
+    requires second { HasPair (item.now ∷ []) q.now }
+    ensures { IsTrue result ↔ IsBefore (item.now ∷ []) p.now q.now }
 {
     match item {
-        Item::Rule(rule) => rule_before(rule, p, q),
+        Item::Rule(rule) => decls_before(rule, p, q),
         _ => false,
     }
 }
 
-/// Whether two pairs stand so in an item.
-#[tactic(auto, using(crate::proofs::StandingTests::item_before_is))]
-pub(crate) fn comes_before_in_item(item: &Item, p: &PairRef<'_>, q: &PairRef<'_>) -> bool
+/// Whether it does, by whether the second pair stands in the item.
+pub(crate) fn comes_before_if(item: &Item, p: &PairRef<'_>, q: &PairRef<'_>, second: bool) -> bool
+    requires first { HasPair (item.now ∷ []) p.now }
+    requires second { IsTrue second ↔ HasPair (item.now ∷ []) q.now }
     ensures { IsTrue result ↔ IsBefore (item.now ∷ []) p.now q.now }
 {
-    item_before(item, p, q)
+    if !second {
+        return false;
+    }
+    comes_before_there(item, p, q)
 }

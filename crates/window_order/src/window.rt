@@ -4,7 +4,7 @@ ghost use Rattle.std.specs.Prelude.{◌≡◌, ◌≤◌, ◌<◌, [], length, m
 ghost use Rattle.css_model.specs.Sheets.KeptItems.{kept_items};
 ghost use Rattle.item_masks.specs.Masks.{item_mask};
 ghost use Rattle.window_order.specs.Between.{AreBetween};
-ghost use Rattle.window_order.specs.Left.{items_of};
+ghost use Rattle.window_order.specs.Left.{Covers, items_of};
 
 use crate::left::Left;
 use css_model::Item;
@@ -29,6 +29,8 @@ pub struct Window<'a> {
     pub first_left: Left<'a>,
     /// What stands in the place of the last item.
     pub last_left: Left<'a>,
+    /// A mask that meets those of all pairs in what stands there.
+    pub left_mask: ItemMask,
     ghost masked: { masks.now ≡ map item_mask items.now },
     ghost start_first: { start ≤ middle },
     ghost middle_first: { middle ≤ last },
@@ -36,4 +38,6 @@ pub struct Window<'a> {
     ghost between: { AreBetween items.now start middle last },
     ghost first_plain: { kept_items (slice_range items.now start middle) ≡ [] },
     ghost left_plain: { kept_items (items_of first_left) ≡ [] },
+    ghost first_covered: { Covers left_mask (items_of first_left) },
+    ghost last_covered: { Covers left_mask (items_of last_left) },
 }

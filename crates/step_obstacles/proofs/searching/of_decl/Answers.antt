@@ -22,6 +22,7 @@ with_item-requires-clause-moved c =
     record {
       at = record { item = x.0; rule_at = c.requires.source; decl_at = x.1; is = sym same; masked = counts.1 ∙ ap decl_mask (sym same) };
       specificities = c.deref.ensures.value ∙ c.requires.masked.specificities;
+      selectors = c.deref-2.ensures.value ∙ c.requires.masked.selectors;
     }
 
 pub returns-clause-told : goal.returns-clause-told

@@ -5,11 +5,12 @@ use Rattle.cascade_laws.proofs.ForCallers.{some-same}
 use Rattle.css_model.specs.declared.selector.Specificity.{Specificity}
 use Rattle.css_model.specs.declared.sheet.SelItem.{SelItem}
 use Rattle.css_model.specs.Documents.Specificity.{specificity_of}
-use Rattle.step_obstacles.proofs.Masked.{at_map}
+use Rattle.item_masks.specs.Masks.{selector_mask}
+use Rattle.step_obstacles.proofs.Masked.{at_map, pair_masked}
 use Rattle.step_obstacles.proofs.Named.{blocks_named, in_profile, noted_as_stands, pair, passes_named, passes_unlike, stands_as_noted}
 use Rattle.step_obstacles.proofs.searching.of_selector.Goals as goal
 use Rattle.step_obstacles.specs.Blocked.{IsTold}
-use Rattle.step_obstacles.specs.Turns.{MayWeigh, hindrance_of, specificities_of}
+use Rattle.step_obstacles.specs.Turns.{MayWeigh, hindrance_of, selector_masks_of, specificities_of}
 
 -- the specificity of a number is that of the selector of this number
 specificity_there : (list : List Specificity) (selectors : List SelItem) (n : ℕ) (x : SelItem) → list ≡ specificities_of selectors → slice_get selectors n ≡ Some x → slice_get list n ≡ Some (specificity_of x.selector)
@@ -17,6 +18,21 @@ specificity_there list selectors n x is at = at_map (λ (y : SelItem). specifici
 
 specificity_is : (list : List Specificity) (selectors : List SelItem) (n : ℕ) (x : SelItem) → list ≡ specificities_of selectors → slice_get selectors n ≡ Some x → (k : Specificity) → slice_get list n ≡ Some k → k ≡ specificity_of x.selector
 specificity_is list selectors n x is at k k_at = some-same (sym k_at ∙ specificity_there list selectors n x is at)
+
+mask_there : (list : List ℕ) (selectors : List SelItem) (n : ℕ) (x : SelItem) → list ≡ selector_masks_of selectors → slice_get selectors n ≡ Some x → slice_get list n ≡ Some (selector_mask x.selector)
+mask_there list selectors n x is at = at_map (λ (y : SelItem). selector_mask y.selector) selectors list n x is at
+
+pub mask_at-requires : goal.mask_at-requires
+mask_at-requires c =
+    let x = c.requires.number in
+    (selector_mask x.0.selector, mask_there c.args.moved.now.selectors.now c.args.moved.now.at.rule.now.selectors c.args.number x.0 c.requires.moved.selectors x.1)
+
+pub invariant_of-p-inside : goal.invariant_of-p-inside
+invariant_of-p-inside c =
+    let x = c.requires.number in
+    let there = mask_there c.args.moved.now.selectors.now c.args.moved.now.at.rule.now.selectors c.args.number x.0 c.requires.moved.selectors x.1 in
+    let own : c.mask_at.result ≡ selector_mask c.selector_of.result.now = some-same (sym c.mask_at.ensures ∙ there) ∙ ap selector_mask (sym (c.selector_of.ensures x.0 x.1)) in
+    (pair_masked c.selector_of.result.now c.args.moved.now.at.decl.now c.args.moved.now.at.mask c.mask_at.result c.requires.moved.at.masked own, tt)
 
 pub specificity_at-requires : goal.specificity_at-requires
 specificity_at-requires c =

@@ -1,12 +1,12 @@
-use Rattle.window_order.proofs.LastFound.{found_of}
-use Rattle.window_order.proofs.MaskedTests.{unmet_has_none}
+use Rattle.std.proofs.Common.{◌∙◌, sym}
+use Rattle.std.proofs.lemmas.Bool.{false≢true}
+use Rattle.window_order.proofs.LastFound.{last_before, last_not_before}
 use Rattle.window_order.proofs.masked.found_masked.Goals as goal
 
-pub returns-then-not-meets-2 : goal.returns-then-not-meets-2
-returns-then-not-meets-2 c = (
-  unmet_has_none c.args.p.now c.p.inside.pair c.args.last.now c.args.of_last c.p.inside.mask c.meets.result c.p.view_is c.p.inside.masked c.requires c.meets.ensures c.if-not-meets.true,
-  unmet_has_none c.args.q.now c.q.inside.pair c.args.last.now c.args.of_last c.q.inside.mask c.meets-then-not-meets.result c.q.view_is c.q.inside.masked c.requires c.meets-then-not-meets.ensures c.if-not-meets-2.true,
-)
+pub returns-then-comes_before_if : goal.returns-then-comes_before_if
+returns-then-comes_before_if c = last_before c.args.above.now c.args.last.now c.args.p.now c.args.q.now (c.comes_before_if.ensures.0 c.if-comes_before_if.true)
 
-pub returns : goal.returns
-returns c = found_of c.args.above.now c.args.last.now c.args.p.now c.args.q.now c.p.inside.pair c.q.inside.pair c.found_last.result c.p.view_is c.q.view_is c.found_last.ensures
+pub returns-else-comes_before_if : goal.returns-else-comes_before_if
+returns-else-comes_before_if c =
+    last_not_before c.args.above.now c.args.last.now c.args.p.now c.args.q.now (c.stands_in_masked.ensures.0 c.if-stands_in_masked.true)
+    (λ b. false≢true (sym c.if-comes_before_if.false ∙ c.comes_before_if.ensures.1 b))

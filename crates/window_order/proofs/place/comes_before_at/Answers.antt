@@ -1,6 +1,6 @@
-use Rattle.std.proofs.Common.{◌≡◌, ◌<◌, arith}
+use Rattle.std.proofs.Common.{◌≡◌, ◌<◌, refl, arith}
 use Rattle.window_order.proofs.LastFound.{no, yes}
-use Rattle.window_order.proofs.LastPlaces.{before_in_one, earlier, later}
+use Rattle.window_order.proofs.LastPlaces.{before_in_one, earlier, later, stands_at}
 use Rattle.window_order.proofs.place.comes_before_at.Goals as goal
 
 pub returns-then-at-other : goal.returns-then-at-other
@@ -16,7 +16,15 @@ returns-then-other-at c =
 pub item_at-requires : goal.item_at-requires
 item_at-requires c = (c.requires.first.item, c.requires.first.item_at)
 
+pub comes_before_there-requires-clause-first : goal.comes_before_there-requires-clause-first
+comes_before_there-requires-clause-first c = stands_at c.args.items.now c.args.at c.args.at c.item_at.result.now c.args.p.now refl c.item_at.ensures c.requires.first
+
+pub comes_before_there-requires-clause-second : goal.comes_before_there-requires-clause-second
+comes_before_there-requires-clause-second c =
+    let same : c.args.at ≡ c.args.other = omega (arith, c.if-at-other.false, c.if-other-at.false) in
+    stands_at c.args.items.now c.args.at c.args.other c.item_at.result.now c.args.q.now same c.item_at.ensures c.requires.second
+
 pub returns : goal.returns
 returns c =
     let same : c.args.at ≡ c.args.other = omega (arith, c.if-at-other.false, c.if-other-at.false) in
-    before_in_one c.args.items.now c.args.at c.args.other c.item_at.result.now c.args.p.now c.args.q.now c.comes_before_in_item.result same c.item_at.ensures c.requires.first c.requires.second c.comes_before_in_item.ensures
+    before_in_one c.args.items.now c.args.at c.args.other c.item_at.result.now c.args.p.now c.args.q.now c.comes_before_there.result same c.item_at.ensures c.requires.first c.requires.second c.comes_before_there.ensures

@@ -12,5 +12,5 @@ returns-then-always_same_kept-clause-told c = no (λ r.
     let at = c.place_between-place.ensures.kept in
     let reversed : IsKeptReversed c.args.self.now c.args.p.now (kept_before c.place_between-place.result (middle_of c.args.self.now)) =
     subst (λ (n : ℕ). IsKeptReversed c.args.self.now c.args.p.now (kept_before n (middle_of c.args.self.now))) (sym c.place_between-place.ensures.place) r in
-    false≢true ((never_other_place (middle_of c.args.self.now) c.place_between-place.result at.0 at.1 at.2 c.args.p.now c.old_kept_ends-old.result c.new_kept_ends-new.result (c.always_same_kept.ensures.0 c.if-always_same_kept.true)
-    (first_of c.args.self.now) (last_of c.args.self.now) (items_of c.args.self.now.first_left) (items_of c.args.self.now.last_left) c.old_kept_ends-old.ensures c.new_kept_ends-new.ensures c.args.self.now.first_plain c.args.self.now.left_plain).1 reversed.order))
+    false≢true ((never_other_place (middle_of c.args.self.now) c.place_between-place.result at.0 at.1 at.2 c.args.p.now c.ends_of-ends.result.old c.ends_of-ends.result.new (c.always_same_kept.ensures.0 c.if-always_same_kept.true)
+    (first_of c.args.self.now) (last_of c.args.self.now) (items_of c.args.self.now.first_left) (items_of c.args.self.now.last_left) c.ends_of-ends.ensures.ends.0 c.ends_of-ends.ensures.ends.1 c.args.self.now.first_plain c.args.self.now.left_plain).1 reversed.order))
