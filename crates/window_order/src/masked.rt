@@ -1,6 +1,6 @@
 //! Whether a pair stands in items with masks, and how two pairs do.
 
-ghost use Rattle.std.specs.Prelude.{◌≡◌, ◌↔◌, IsTrue, ◌≤◌, ◌∷◌, [], length, map, take, zip};
+ghost use Rattle.std.specs.Prelude.{◌≡◌, ◌↔◌, IfSome, IsTrue, ◌≤◌, ◌∷◌, [], length, map, take, zip};
 ghost use Rattle.std.specs.List.{list_any};
 ghost use Rattle.css_model.specs.Cascade.Order.{HasPair};
 ghost use Rattle.item_masks.specs.Masks.{item_mask, pair_mask};
@@ -11,7 +11,7 @@ ghost use Rattle.window_order.specs.Standing as standing;
 
 use crate::order::{Found, PairOrder, first_alone, second_below};
 use crate::pair::PairRef;
-use crate::standing::{comes_before_if, is_in_item};
+use crate::standing::{comes_before_if, comes_before_there, is_in_item};
 use css_model::Item;
 use item_masks::ItemMask;
 
@@ -132,7 +132,32 @@ pub(crate) fn order_by_masks(
     }
 }
 
-/// The same, by whether each of them stands in them: they are looked at only where both do.
+/// The one of some items, if they are one.
+fn only_one(items: &[Item]) -> Option<&Item>
+    ensures { IfSome result (λ x. items.now ≡ x.now ∷ []) }
+{
+    if let Some((last, above)) = items.split_last() {
+        if above.is_empty() {
+            return Some(last);
+        }
+    }
+    None
+}
+
+/// How two pairs stand in an item in which both do.
+fn order_in_one(item: &Item, p: &PairRef<'_>, q: &PairRef<'_>) -> PairOrder
+    requires first { HasPair (item.now ∷ []) p.now }
+    requires second { HasPair (item.now ∷ []) q.now }
+    ensures { orders.IsOrder (item.now ∷ []) p.now q.now result }
+{
+    if comes_before_there(item, p, q) {
+        PairOrder::Before
+    } else {
+        PairOrder::NotBefore
+    }
+}
+
+/// How two pairs stand in some items, by whether each of them does: they are looked at only where both do.
 pub(crate) fn order_by_both(
     items: &[Item],
     masks: &[ItemMask],
@@ -152,5 +177,8 @@ pub(crate) fn order_by_both(
     if !first {
         return PairOrder::Second;
     }
-    order_by_masks(items, masks, p, q)
+    match only_one(items) {
+        Some(item) => order_in_one(item, p, q),
+        None => order_by_masks(items, masks, p, q),
+    }
 }
