@@ -143,8 +143,10 @@ fn try_share(
         return Ok(());
     }
     let step = Step::Share { upper, lower };
-    if let Some(saving) = share_saving(board, source, upper, lower, apart, once) {
-        return try_known(board, tables, source, walls, after, &step, saving, found);
+    if selectors_differ(board, upper, lower) && decls_differ(board, upper, lower) {
+        if let Some(saving) = share_saving(board, source, upper, lower, apart, once) {
+            return try_known(board, tables, source, walls, after, &step, saving, found);
+        }
     }
     try_step(
         board, tables, source, walls, after, &step, false, apart, found,
