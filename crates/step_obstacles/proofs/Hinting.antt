@@ -35,8 +35,9 @@ use Rattle.step_obstacles.specs.Known.{FacedStands}
 use Rattle.step_obstacles.specs.StepWindow.{IsOfSource, IsToldBy}
 use Rattle.step_obstacles.specs.Turns.{IsAskable, IsDeclAt, IsRuleAt, OfWindow, hindrance_of, is_common, pair_of}
 use Rattle.wall_laws.specs.Holding.{Hindrance}
-use Rattle.window_order.specs.declared.place.Standing.TheVariants.{Unasked}
+use Rattle.window_order.specs.declared.ends_known.KnownPair.{KnownPair}
 use Rattle.window_order.specs.declared.window.Window.{Window}
+use Rattle.window_order.specs.Places.{IsKnownPair, unknown}
 use Rattle.window_order.specs.Weighing.{DeclsWeigh}
 
 -- ---- What the code has at hand
@@ -63,9 +64,16 @@ pub kept_faces : (w : Window) (d : Decl) (n : ℕ) (item : Item) → slice_get w
 kept_faces w d n item at is above below weighs = record { faces = (record { item = item; item_at = at; kept = kept_either item is; above = above; below = below }, weighs); within = tt }
 
 -- nothing is known of what a pair faces
-pub unasked : (w : Window) (f : Facing) → FacedStands w f Unasked
-unasked w (facing.Pair q place k) = tt
-unasked w (facing.Kept i) = tt
+faced_unknown : (w : Window) (f : Facing) → FacedStands w f unknown
+faced_unknown w (facing.Pair q place k) = (tt, tt)
+faced_unknown w (facing.Kept i) = tt
+
+pub unasked : (w : Window) (f : Facing) (k : KnownPair) → k ≡ unknown → FacedStands w f k
+unasked w f k is = subst (λ (j : KnownPair). FacedStands w f j) (sym is) (faced_unknown w f)
+
+-- nor of a pair
+pub unasked_pair : (w : Window) (p : Pair) (k : KnownPair) → k ≡ unknown → IsKnownPair w p k
+unasked_pair w p k is = subst (λ (j : KnownPair). IsKnownPair w p j) (sym is) (tt, tt)
 
 -- ---- What blocks is among what is looked at
 

@@ -183,7 +183,7 @@ fn faced<'a>(window: &Window<'a>, moved: &DeclAt<'_>, other: &Other) -> Option<F
 }
 
 /// Of a selector of the declaration's rule with what it faces.
-#[tactic(auto, using(crate::proofs::Hinting::unasked, crate::proofs::HeldAnswers::stays_itself))]
+#[tactic(auto, using(crate::proofs::Hinting::unasked, crate::proofs::Hinting::unasked_pair, crate::proofs::HeldAnswers::stays_itself))]
 fn with_facing(
     pairs: &mut Pairs,
     window: &Window<'_>,
