@@ -2,7 +2,7 @@
 use Rattle.std.proofs.Common.{◌≡◌, ◌⊎◌, ℕ, ◌+◌, ◌≤◌, inl, inr, Bool, true, false, not, cond, List, [], ◌∷◌, ◌++◌, Some, length, refl, sym, ap, subst, ◌∙◌, arith}
 use Rattle.std.specs.Prelude.{slice_get}
 use Rattle.std.specs.List.{Contains, filter}
-use Rattle.std.proofs.lemmas.Bool.{cond_both, false_from_ne_true}
+use Rattle.std.proofs.lemmas.Bool.{false_from_ne_true}
 use Rattle.list_facts.proofs.Members.{Contains-cons_cases, Contains-here, Contains-nil, Contains-there}
 use Rattle.css_model.specs.declared.sheet.Decl.{Decl}
 use Rattle.css_model.specs.declared.sheet.DeclItem.{DeclItem}
@@ -20,8 +20,8 @@ use Rattle.order_laws.specs.Members.{has_decl, has_selector}
 use Rattle.step_laws.proofs.ForCallers.{rule_is_light, steps_weigh}
 use Rattle.step_laws.specs.declared.step.Step.{Step}
 use Rattle.step_laws.specs.declared.step.Step.TheVariants.{JoinDeclDown, JoinDeclUp, JoinSelDown, JoinSelUp, Share}
-use Rattle.step_laws.specs.RuleParting.{both_selectors, common_decls, each_last, rule_or_none, without_decls}
-use Rattle.step_laws.specs.Sizes.{Saves, brought_weight, rule_weight, rules_weight, size, taken_weight, weight}
+use Rattle.step_laws.specs.RuleParting.{both_selectors, common_decls, each_last}
+use Rattle.step_laws.specs.Sizes.{Saves, brought_weight, rule_weight, size, taken_weight, weight}
 use Rattle.step_laws.specs.StepEdits.{join_decls_down, join_decls_up, join_selectors_down, join_selectors_up, share}
 use Rattle.step_laws.specs.Steps.{IsStep, first_item, last_item}
 use Rattle.step_savings.specs.Apart.{RulesApart}
