@@ -20,14 +20,18 @@ fn is_behind(window: &Window<'_>, selector: &SelItem, decl: &Decl) -> bool
 fn are_behind(window: &Window<'_>, selectors: &[SelItem], decl: &Decl) -> bool
     ensures { result ≡ list_all (λ s. stands (behind_of window.now) (turns.pair_of s decl.now)) selectors.now }
 {
-    selectors.iter().all(|selector| is_behind(window, selector, decl))
+    selectors
+        .iter()
+        .all(|selector| is_behind(window, selector, decl))
 }
 
 /// Whether those of each of some declarations do.
 fn all_are_behind(window: &Window<'_>, selectors: &[SelItem], decls: &[DeclItem]) -> bool
     ensures { result ≡ list_all (λ d. list_all (λ s. stands (behind_of window.now) (turns.pair_of s d.decl)) selectors.now) decls.now }
 {
-    decls.iter().all(|item| are_behind(window, selectors, &item.decl))
+    decls
+        .iter()
+        .all(|item| are_behind(window, selectors, &item.decl))
 }
 
 /// Whether all pairs of a rule do.
