@@ -227,12 +227,12 @@ pub(crate) fn share_is_late(
     requires apart { apart ≡ true → RulesApart board.now.items upper lower }
     ensures { result ≡ true → IsLate source.now board.now found.now (kinds.Share upper lower) }
 {
-    if !has_one_decl(board, lower) {
-        return false;
-    }
     let Some(most) = late_saving(board, &found.others, Kind::Sharing, upper, lower) else {
         return false;
     };
+    if !has_one_decl(board, lower) {
+        return false;
+    }
     let Some(left) = without_common(board, source, upper, lower, apart, most) else {
         return false;
     };
