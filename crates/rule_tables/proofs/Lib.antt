@@ -1,5 +1,7 @@
+mod Ascending
 mod Cutting
 mod EntrySets
+mod ListedEntries
 mod Numbers
 mod OtherRules
 mod Sharing

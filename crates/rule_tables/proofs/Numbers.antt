@@ -1,5 +1,5 @@
 -- Numbers put behind others, and sorted, each left once.
-use Rattle.std.proofs.Common.{◌≡◌, ◌⊎◌, inl, inr, ℕ, List, [], ◌++◌, subst, sym, eqb}
+use Rattle.std.proofs.Common.{◌≡◌, ◌⊎◌, inl, inr, ℕ, List, [], ◌++◌, Result, Ok, Err, OnOk, is_ok, if◌then◌else◌, subst, sym, eqb}
 use Rattle.std.specs.Ordering.{nat_cmp}
 use Rattle.std.specs.List.{Contains, dedup}
 use Rattle.std.specs.List.Retain.{DiffersFromLast, IsFiltered}
@@ -20,6 +20,10 @@ put_behind {X} old new more is x = (
     back : Contains old x ⊎ Contains more x → Contains (old ++ more) x
     back (inl h) = Contains-append_left old more x h
     back (inr h) = Contains-append_right old more x h
+
+pub appended : {A E : Type 0} (r : Result A E) (old new more : List ℕ) → new ≡ (if is_ok r then old ++ more else old) → OnOk r (Puts old more new)
+appended (Ok a) old new more is = put_behind old new more is
+appended (Err e) old new more is = tt
 
 module _ (old sorted new : List ℕ) (moved : IsPermutation old sorted) (kept : IsFiltered (DiffersFromLast eqb) [] sorted new) where
   is : new ≡ dedup eqb sorted

@@ -1,6 +1,8 @@
 -- Which labels are found for a rule.
-use Rattle.std.proofs.Common.{◌≡◌, ◌⊎◌, inl, inr, ℕ, List, [], ◌∷◌, sym, ap, subst, ◌∙◌}
-use Rattle.std.specs.List.{Contains}
+use Rattle.std.proofs.Common.{◌≡◌, ◌↔◌, ◌⊎◌, inl, inr, ℕ, List, [], ◌∷◌, map, sym, ap, subst, ◌∙◌}
+use Rattle.std.specs.List.{Contains, flat_map}
+use Rattle.css_model.specs.declared.sheet.Decl.{Decl}
+use Rattle.css_model.specs.Documents.SelectorParts.{SelectorParts}
 use Rattle.css_model.specs.declared.sheet.DeclItem.{DeclItem}
 use Rattle.css_model.specs.declared.sheet.SelItem.{SelItem}
 use Rattle.css_model.specs.Sheets.RuleParts.{RuleParts}
@@ -8,27 +10,61 @@ use Rattle.css_model.specs.Sheets.StyleRule.{HaveSameSelectors, selectors_of}
 use Rattle.list_facts.proofs.Members.{Contains-cons_cases, Contains-here, Contains-nil, Contains-there}
 use Rattle.rule_tables.specs.declared.entries.Entry.{Entry}
 use Rattle.rule_tables.specs.Digests.{selector_digest, decl_digest}
-use Rattle.rule_tables.specs.Entries.{HaveSameMembers, PutsUnder, entry}
-use Rattle.rule_tables.specs.Tables.{CanBePartners, Cover, IsUnderOne, IsUnderPart, Labelled, PutsShared, PutsUnderOne, TableParts, decl_digests, entries_by_decl, entries_by_selector, selector_digests}
+use Rattle.rule_tables.specs.Entries.{HaveSameMembers, Puts, PutsUnder, entry}
+use Rattle.rule_tables.specs.Tables.{CanBePartners, Cover, IsUnderEach, IsUnderOne, IsUnderPart, Labelled, PutsShared, PutsUnderOne, TableParts, decl_digests, entries_by_selector, selector_digests}
 use Rattle.rule_tables.specs.Tables.{by_selectors, by_decl}
+use Rattle.step_laws.specs.Steps.{decls_of}
 use Rattle.rule_tables.proofs.EntrySets.{mapped, unmapped}
 use Rattle.rule_tables.proofs.Standing.{in_flat}
 
 -- ---- By one selector, and by declarations
 
-pub shared_by_one : (entries : List Entry) (digests : List ℕ) (digest : ℕ) → Contains digests digest → (old new : List ℕ) → PutsUnder entries digest old new → PutsShared entries digests old new
-shared_by_one entries digests digest among old new puts = record {
+-- these labels stand under the digest
+abbrev pub IsUnder : List Entry → ℕ → List ℕ → Type 0
+IsUnder entries digest labels = (label : ℕ) → Contains labels label ↔ Contains entries (entry digest label)
+
+-- these labels stand under the digest of one of the selectors
+abbrev pub IsOfOne : List Entry → List SelItem → List ℕ → Type 0
+IsOfOne entries selectors labels = (s : SelItem) × Contains selectors s × IsUnder entries (selector_digest s.selector) labels
+
+pub is_under_as : (entries : List Entry) (labels : List ℕ) {digest other : ℕ} → digest ≡ other → IsUnder entries digest labels → IsUnder entries other labels
+is_under_as entries labels same under = subst (λ (n : ℕ). IsUnder entries n labels) same under
+
+pub either : {X : Type 0} (P : X → Type 0) (a b c : X) → (c ≡ a) ⊎ (c ≡ b) → P a → P b → P c
+either P a b c (inl e) p q = subst P (sym e) p
+either P a b c (inr e) p q = subst P (sym e) q
+
+pub only_own : (labels : List ℕ) (own : ℕ) → (labels ≡ []) ⊎ (labels ≡ own ∷ []) → (label : ℕ) → Contains labels label → label ≡ own
+only_own labels own (inl e) label h = absurd (Contains-nil label (subst (λ (ls : List ℕ). Contains ls label) e h))
+only_own labels own (inr e) label h = elim (Contains-cons_cases own [] label (subst (λ (ls : List ℕ). Contains ls label) e h)) [ inl same ↦ sym same | inr n ↦ absurd (Contains-nil label n) ]
+
+pub shared_by_one : (entries : List Entry) (selectors : List SelItem) (labels : List ℕ) → IsOfOne entries selectors labels → PutsShared entries (selector_digests selectors) [] labels
+shared_by_one entries selectors labels (s, among, under) =
+    let digest : Contains (selector_digests selectors) (selector_digest s.selector) = mapped (λ (x : SelItem). selector_digest x.selector) selectors s among in
+    record {
+      keeps = λ label h. absurd (Contains-nil label h);
+      shared = λ label h. (under label).1 (h.1 (selector_digest s.selector) digest);
+      only = λ label h. inr (selector_digest s.selector, digest, (under label).0 h);
+    }
+
+-- behind others
+pub shared_behind : (entries : List Entry) (digests old labels new : List ℕ) → PutsShared entries digests [] labels → Puts old labels new → PutsShared entries digests old new
+shared_behind entries digests old labels new shared puts = record {
   keeps = λ label h. (puts label).1 (inl h);
-  shared = λ label h. (puts label).1 (inr (h.1 digest among));
-  only = λ label h. elim ((puts label).0 h) [ inl k ↦ inl k | inr k ↦ inr (digest, among, k) ];
+  shared = λ label h. (puts label).1 (inr (shared.shared label h));
+  only = λ label h. elim ((puts label).0 h) [ inl k ↦ inl k | inr k ↦ elim (shared.only label k) [ inl n ↦ absurd (Contains-nil label n) | inr m ↦ inr m ] ];
 }
 
-pub shared_by_none : (entries : List Entry) (digests : List ℕ) → digests ≡ [] → (old : List ℕ) → PutsShared entries digests old old
-shared_by_none entries digests is old = record {
-  keeps = λ label h. h;
-  shared = λ label h. absurd (Contains-nil h.0.0 (subst (λ (ds : List ℕ). Contains ds h.0.0) is h.0.1));
-  only = λ label h. inl h;
-}
+pub under_behind : (entries : List Entry) (digest : ℕ) (old labels new : List ℕ) → IsUnder entries digest labels → Puts old labels new → PutsUnder entries digest old new
+under_behind entries digest old labels new under puts label = (λ h. there ((puts label).0 h), λ h. (puts label).1 (back h))
+  where
+    there : Contains old label ⊎ Contains labels label → Contains old label ⊎ Contains entries (entry digest label)
+    there (inl h) = inl h
+    there (inr h) = inr ((under label).0 h)
+
+    back : Contains old label ⊎ Contains entries (entry digest label) → Contains old label ⊎ Contains labels label
+    back (inl h) = inl h
+    back (inr h) = inr ((under label).1 h)
 
 one_step : (entries : List Entry) (digest : ℕ) (digests : List ℕ) (a b c : List ℕ) → PutsUnder entries digest a b → PutsUnderOne entries digests b c → PutsUnderOne entries (digest ∷ digests) a c
 one_step entries digest digests a b c f g label = (λ h. there ((g label).0 h), λ h. (g label).1 (back h))
@@ -58,6 +94,33 @@ none_under entries a label = (λ h. inl h, back)
 pub digests_end : (entries : List Entry) (rest : List ℕ) → rest ≡ [] → (a : List ℕ) → PutsUnderOne entries rest a a
 digests_end entries rest is a = subst (λ (ds : List ℕ). PutsUnderOne entries ds a a) (sym is) (none_under entries a)
 
+-- of the digests of parts, the first one is done with
+module _ {S : Type 0} (digest : S → ℕ) (entries : List Entry) (P : ℕ → Type 0) where
+  pub digest_done : (rest behind : List S) (first : S) → rest ≡ first ∷ behind → ((label : ℕ) → Contains entries (entry (digest first) label) → P label) →
+      (label : ℕ) → IsUnderOne entries (map digest rest) label → P label ⊎ IsUnderOne entries (map digest behind) label
+  digest_done rest behind first is done label h = by (subst (λ (xs : List S). IsUnderOne entries (map digest xs) label) is h)
+    where
+      by : IsUnderOne entries (digest first ∷ map digest behind) label → P label ⊎ IsUnderOne entries (map digest behind) label
+      by (d, among, there) = elim (Contains-cons_cases (digest first) (map digest behind) d among) [
+        | inl e ↦ inl (done label (subst (λ (n : ℕ). Contains entries (entry n label)) (sym e) there))
+        | inr r ↦ inr (d, r, there)
+      ]
+
+  pub all_done : (rest : List S) → rest ≡ [] → (label : ℕ) → P label ⊎ IsUnderOne entries (map digest rest) label → P label
+  all_done rest is label (inl p) = p
+  all_done rest is label (inr h) = absurd (Contains-nil h.0 (subst (λ (xs : List S). Contains (map digest xs) h.0) is h.1))
+
+pub under_all_alike : {S : Type 0} (digest : S → ℕ) (entries : List Entry) (parts behind : List S) (first : S) → parts ≡ first ∷ behind → (labels : List ℕ) → IsUnder entries (digest first) labels →
+    ((label : ℕ) → IsUnderOne entries (map digest behind) label → Contains labels label) → PutsUnderOne entries (map digest parts) [] labels
+under_all_alike {S} digest entries parts behind first is labels under alike label = (
+  λ h. inr (subst (λ (xs : List S). IsUnderOne entries (map digest xs) label) (sym is) (digest first, Contains-here (digest first) (map digest behind), (under label).0 h)),
+  back,
+)
+  where
+    back : Contains [] label ⊎ IsUnderOne entries (map digest parts) label → Contains labels label
+    back (inl h) = absurd (Contains-nil label h)
+    back (inr h) = elim (digest_done digest entries (Contains labels) parts behind first is (λ m k. (under m).1 k) label h) [ inl k ↦ k | inr k ↦ alike label k ]
+
 -- the same digests in another order, or more than once
 pub under_the_same : (entries : List Entry) (once digests : List ℕ) → HaveSameMembers once digests → (a b : List ℕ) → PutsUnderOne entries once a b → PutsUnderOne entries digests a b
 under_the_same entries once digests same a b puts label = (λ h. there ((puts label).0 h), λ h. (puts label).1 (back h))
@@ -69,6 +132,12 @@ under_the_same entries once digests same a b puts label = (λ h. there ((puts la
     back : Contains a label ⊎ IsUnderOne entries digests label → Contains a label ⊎ IsUnderOne entries once label
     back (inl h) = inl h
     back (inr h) = inr (h.0, (same h.0).1 h.1, h.2)
+
+pub under_in_order : (entries : List Entry) (digests old found list : List ℕ) → old ≡ [] → PutsUnderOne entries digests old found → HaveSameMembers list found → PutsUnderOne entries digests [] list
+under_in_order entries digests old found list none puts same label = (
+  λ h. subst (λ (ls : List ℕ). Contains ls label ⊎ IsUnderOne entries digests label) none ((puts label).0 ((same label).0 h)),
+  λ h. (same label).1 ((puts label).1 (subst (λ (ls : List ℕ). Contains ls label ⊎ IsUnderOne entries digests label) (sym none) h)),
+)
 
 -- ---- All partners are found, and no label that stands under no digest of a part
 
@@ -82,17 +151,37 @@ by_each t rules r x stand in_list same digest h =
     subst (λ (d : ℕ). Contains t.selectors (entry d x.label)) (ap selector_digest j.2 ∙ i.2)
     (stand.selectors (entry (selector_digest j.0.selector) x.label) (in_flat entries_by_selector rules x (entry (selector_digest j.0.selector) x.label) in_list e))
 
-pub partners_found : (t : TableParts) (r : RuleParts) (none some found : List ℕ) → PutsShared t.selectors (selector_digests r.selectors) none some → PutsUnderOne t.decls (decl_digests r.decls) some found →
-    (rules : List Labelled) (x : Labelled) → Cover t rules → Contains rules x → CanBePartners r x.rule → Contains found x.label
-partners_found t r none some found shared under rules x stand in_list (by_selectors s has same) =
+under_each : (t : TableParts) (rules : List Labelled) (r : RuleParts) (x : Labelled) → Cover t rules → Contains rules x → (s : SelectorParts) → Contains (selectors_of r) s → HaveSameSelectors r x.rule →
+    IsUnderEach t.selectors (selector_digests r.selectors) x.label
+under_each t rules r x cover among s has same =
     let i : (y : SelItem) × Contains r.selectors y × (y.selector ≡ s) = unmapped (λ (y : SelItem). y.selector) r.selectors s has in
-    (under x.label).1 (inl (shared.shared x.label ((selector_digest i.0.selector, mapped (λ (y : SelItem). selector_digest y.selector) r.selectors i.0 i.1), by_each t rules r x stand in_list same)))
-partners_found t r none some found shared under rules x stand in_list (by_decl d has_r has_x) =
-    let i : (y : DeclItem) × Contains r.decls y × (y.decl ≡ d) = unmapped (λ (y : DeclItem). y.decl) r.decls d has_r in
-    let j : (y : DeclItem) × Contains x.rule.decls y × (y.decl ≡ d) = unmapped (λ (y : DeclItem). y.decl) x.rule.decls d has_x in
-    let e : Contains (entries_by_decl x) (entry (decl_digest j.0.decl) x.label) = mapped (λ (y : DeclItem). entry (decl_digest y.decl) x.label) x.rule.decls j.0 j.1 in
-    let k : Contains t.decls (entry (decl_digest j.0.decl) x.label) = stand.decls (entry (decl_digest j.0.decl) x.label) (in_flat entries_by_decl rules x (entry (decl_digest j.0.decl) x.label) in_list e) in
-    (under x.label).1 (inr (decl_digest i.0.decl, mapped (λ (y : DeclItem). decl_digest y.decl) r.decls i.0 i.1, subst (λ (n : ℕ). Contains t.decls (entry n x.label)) (ap decl_digest (j.2 ∙ sym i.2)) k))
+    ((selector_digest i.0.selector, mapped (λ (y : SelItem). selector_digest y.selector) r.selectors i.0 i.1), by_each t rules r x cover among same)
+
+-- the digest of a part of both rules
+module _ {S X : Type 0} (part : S → X) (digest : X → ℕ) (parts : RuleParts → List S) (keys : List Entry) (rules : List Labelled)
+    (covers : (e : Entry) → Contains (flat_map (λ (x : Labelled). map (λ (y : S). entry (digest (part y)) x.label) (parts x.rule)) rules) e → Contains keys e) where
+  under_part : (r : RuleParts) (x : Labelled) → Contains rules x → (p : X) → Contains (map part (parts r)) p → Contains (map part (parts x.rule)) p →
+      IsUnderOne keys (map (λ (y : S). digest (part y)) (parts r)) x.label
+  under_part r x among p in_rule in_other =
+      let i : (y : S) × Contains (parts r) y × (part y ≡ p) = unmapped part (parts r) p in_rule in
+      let j : (y : S) × Contains (parts x.rule) y × (part y ≡ p) = unmapped part (parts x.rule) p in_other in
+      let e : Contains (map (λ (y : S). entry (digest (part y)) x.label) (parts x.rule)) (entry (digest (part j.0)) x.label) = mapped (λ (y : S). entry (digest (part y)) x.label) (parts x.rule) j.0 j.1 in
+      let k : Contains keys (entry (digest (part j.0)) x.label) =
+      covers (entry (digest (part j.0)) x.label) (in_flat (λ (z : Labelled). map (λ (y : S). entry (digest (part y)) z.label) (parts z.rule)) rules x (entry (digest (part j.0)) x.label) among e) in
+      (digest (part i.0), mapped (λ (y : S). digest (part y)) (parts r) i.0 i.1, subst (λ (n : ℕ). Contains keys (entry n x.label)) (ap digest (j.2 ∙ sym i.2)) k)
+
+under_decl_of : (t : TableParts) (rules : List Labelled) (r : RuleParts) (x : Labelled) → Cover t rules → Contains rules x → (d : Decl) → Contains (decls_of r) d → Contains (decls_of x.rule) d →
+    IsUnderOne t.decls (decl_digests r.decls) x.label
+under_decl_of t rules r x cover among d in_rule in_other = under_part (λ (y : DeclItem). y.decl) decl_digest (λ q. q.decls) t.decls rules cover.decls r x among d in_rule in_other
+
+under_selector_of : (t : TableParts) (rules : List Labelled) (r : RuleParts) (x : Labelled) → Cover t rules → Contains rules x → (s : SelectorParts) → Contains (selectors_of r) s → Contains (selectors_of x.rule) s →
+    IsUnderOne t.selectors (selector_digests r.selectors) x.label
+under_selector_of t rules r x cover among s in_rule in_other = under_part (λ (y : SelItem). y.selector) selector_digest (λ q. q.selectors) t.selectors rules cover.selectors r x among s in_rule in_other
+
+partners_found : (t : TableParts) (r : RuleParts) (none some found : List ℕ) → PutsShared t.selectors (selector_digests r.selectors) none some → PutsUnderOne t.decls (decl_digests r.decls) some found →
+    (rules : List Labelled) (x : Labelled) → Cover t rules → Contains rules x → CanBePartners r x.rule → Contains found x.label
+partners_found t r none some found shared under rules x cover among (by_selectors s has same) = (under x.label).1 (inl (shared.shared x.label (under_each t rules r x cover among s has same)))
+partners_found t r none some found shared under rules x cover among (by_decl d has_r has_x) = (under x.label).1 (inr (under_decl_of t rules r x cover among d has_r has_x))
 
 pub only_such : (t : TableParts) (r : RuleParts) (none some found : List ℕ) → none ≡ [] → PutsShared t.selectors (selector_digests r.selectors) none some → PutsUnderOne t.decls (decl_digests r.decls) some found →
     (label : ℕ) → Contains found label → IsUnderPart t r label
@@ -119,3 +208,20 @@ module _ (t : TableParts) (r : RuleParts) (a b : List Entry) (ss : List SelItem)
 
   pub only_listed : none ≡ [] → PutsShared a (selector_digests ss) none some → PutsUnderOne b (decl_digests ds) some found → (label : ℕ) → Contains list label → IsUnderPart t r label
   only_listed empty shared under label h = only_such t r none some found empty (shared_there shared) (under_there under) label ((same label).0 h)
+
+module _ (t : TableParts) (r : RuleParts) (a : List Entry) (ss : List SelItem) (is_a : a ≡ t.selectors) (is_ss : ss ≡ r.selectors) (rules : List Labelled) (x : Labelled) (cover : Cover t rules) (among : Contains rules x) where
+  pub selectors_in_code : (s : SelectorParts) → Contains (selectors_of r) s → HaveSameSelectors r x.rule → IsUnderEach a (selector_digests ss) x.label
+  selectors_in_code s has same =
+      subst (λ (es : List Entry). IsUnderEach es (selector_digests ss) x.label) (sym is_a)
+      (subst (λ (zs : List SelItem). IsUnderEach t.selectors (selector_digests zs) x.label) (sym is_ss) (under_each t rules r x cover among s has same))
+
+  pub selector_in_code : (s : SelectorParts) → Contains (selectors_of r) s → Contains (selectors_of x.rule) s → IsUnderOne a (selector_digests ss) x.label
+  selector_in_code s in_rule in_other =
+      subst (λ (es : List Entry). IsUnderOne es (selector_digests ss) x.label) (sym is_a)
+      (subst (λ (zs : List SelItem). IsUnderOne t.selectors (selector_digests zs) x.label) (sym is_ss) (under_selector_of t rules r x cover among s in_rule in_other))
+
+pub decl_in_code : (t : TableParts) (r : RuleParts) (a : List Entry) (ds : List DeclItem) → a ≡ t.decls → ds ≡ r.decls → (rules : List Labelled) (x : Labelled) → Cover t rules → Contains rules x →
+    (d : Decl) → Contains (decls_of r) d → Contains (decls_of x.rule) d → IsUnderOne a (decl_digests ds) x.label
+decl_in_code t r a ds is_a is_ds rules x cover among d in_rule in_other =
+    subst (λ (es : List Entry). IsUnderOne es (decl_digests ds) x.label) (sym is_a)
+    (subst (λ (zs : List DeclItem). IsUnderOne t.decls (decl_digests zs) x.label) (sym is_ds) (under_decl_of t rules r x cover among d in_rule in_other))

@@ -1,6 +1,6 @@
 -- The entries of the tables (own): for each part of a rule its digest, with the label of the rule.
 use Rattle.std.specs.Prelude.{◌↔◌, ◌⊎◌, ℕ, List, map}
-use Rattle.std.specs.List.{Contains}
+use Rattle.std.specs.List.{Contains, flat_map}
 use Rattle.css_model.specs.declared.sheet.DeclItem.{DeclItem}
 use Rattle.css_model.specs.declared.sheet.SelItem.{SelItem}
 use Rattle.rule_tables.specs.declared.entries.Entry.{Entry}
@@ -14,6 +14,10 @@ selector_entries label selectors = map (λ s. entry (selector_digest s.selector)
 
 abbrev pub decl_entries : ℕ → List DeclItem → List Entry
 decl_entries label decls = map (λ d. entry (decl_digest d.decl) label) decls
+
+-- the entries of lists of labels, each with the digest under which it stands
+abbrev pub entries_of : List (ℕ × List ℕ) → List Entry
+entries_of lists = flat_map (λ (under : ℕ × List ℕ). map (entry under.0) under.1) lists
 
 -- ---- Changes of a set, by the lists of what it has
 

@@ -3,12 +3,15 @@
 
 mod digests;
 mod entries;
+mod label_lists;
+mod labels;
 mod laws;
 mod pairs;
 mod partners;
 mod tables;
 
 pub use digests::{decl_digest, decl_digests, selector_digest, selector_digests};
+pub use labels::Labels;
 pub use laws::{
     decl_cuts_are_told, labelled_rules_stand, rules_are_labelled, selector_cuts_are_told,
     steps_have_partners,

@@ -2,14 +2,12 @@
 
 ghost use Rattle.std.specs.Prelude.{◌≢◌, ◌↔◌, ℕ, IsTrue, List};
 ghost use Rattle.std.specs.List.{Contains};
-ghost use Rattle.rule_tables.specs.Entries.{entry};
+ghost use Rattle.std.specs.List.Sorted.{IsStrictlyIncreasing};
 ghost use Rattle.rule_tables.specs.Pairs as pairs;
 ghost use Rattle.rule_tables.specs.Tables as spec;
 
-use crate::entries::Entry;
+use crate::label_lists::has_label;
 use css_model::{Decl, Selector};
-use std::collections::BTreeSet;
-use std::ops::Range;
 
 /// Rules with labels, which tell whether one of them has a pair.
 pub trait LabelledRules {
@@ -37,14 +35,32 @@ fn is_pair_of_other<R: LabelledRules>(
     rules.has_pair(label, selector, decl)
 }
 
+/// The same, where the label of a rule that has both stands among others.
+fn is_pair_of_listed<R: LabelledRules>(
+    others: &[u64],
+    rules: &R,
+    own: u64,
+    label: u64,
+    selector: &Selector,
+    decl: &Decl,
+) -> bool
+    requires ascends { IsStrictlyIncreasing others.now }
+    requires listed { pairs.LabelHasBoth (R.rules rules.now) label selector.now decl.now → Contains others.now label }
+    ensures { IsTrue result ↔ ((label ≢ own) × pairs.LabelHasBoth (R.rules rules.now) label selector.now decl.now) }
+{
+    if !has_label(others, label) {
+        return false;
+    }
+    is_pair_of_other(rules, own, label, selector, decl)
+}
+
 /// How many rules under a digest are looked at before it is known that they are few.
 const SOON: usize = 4;
 
-/// Whether one of the first rules under a digest is another rule that has a selector and a declaration. Where none of them
-/// is, a later one may be.
+/// Whether one of the first of these labels is another one whose rule has a selector and a declaration. Where none of
+/// them is, a later one may be.
 pub(crate) fn is_pair_soon<R: LabelledRules>(
-    entries: &BTreeSet<Entry>,
-    digest: u32,
+    labels: &[u64],
     rules: &R,
     own: u64,
     selector: &Selector,
@@ -52,48 +68,40 @@ pub(crate) fn is_pair_soon<R: LabelledRules>(
 ) -> bool
     ensures { IsTrue result → pairs.AnotherHasBoth (R.rules rules.now) own selector.now decl.now }
 {
-    let digest = u64::from(digest);
-    let start = Entry { digest, label: 0 };
-    let end = Entry {
-        digest: digest + 1,
-        label: 0,
-    };
-    let mut rest = entries.range(Range { start, end });
+    let mut rest = labels;
     for _ in 0..SOON {
-        let Some(entry) = rest.next() else {
+        let Some((first, behind)) = rest.split_first() else {
             return false;
         };
-        if is_pair_of_other(rules, own, entry.label, selector, decl) {
+        if is_pair_of_other(rules, own, *first, selector, decl) {
             return true;
         }
+        rest = behind;
     }
     false
 }
 
-/// Whether one of the rules under a digest is another rule that has a selector and a declaration, where each rule that
-/// has both stands there.
-pub(crate) fn is_pair_under<R: LabelledRules>(
-    entries: &BTreeSet<Entry>,
-    digest: u32,
+/// Whether one of these labels is another one whose rule has a selector and a declaration, where the label of each rule
+/// that has both stands in both lists.
+pub(crate) fn is_pair_in_both<R: LabelledRules>(
+    labels: &[u64],
+    others: &[u64],
     rules: &R,
     own: u64,
     selector: &Selector,
     decl: &Decl,
 ) -> bool
-    requires { (label : ℕ) → pairs.LabelHasBoth (R.rules rules.now) label selector.now decl.now → Contains entries.now.keys (entry digest label) }
+    requires ascends { IsStrictlyIncreasing others.now }
+    requires all { (label : ℕ) → pairs.LabelHasBoth (R.rules rules.now) label selector.now decl.now
+        → Contains labels.now label × Contains others.now label }
     ensures { IsTrue result ↔ pairs.AnotherHasBoth (R.rules rules.now) own selector.now decl.now }
 {
-    let digest = u64::from(digest);
-    let start = Entry { digest, label: 0 };
-    let end = Entry {
-        digest: digest + 1,
-        label: 0,
-    };
-    let mut rest = entries.range(Range { start, end });
-    'rest: while let Some(entry) = rest.next() {
-        if is_pair_of_other(rules, own, entry.label, selector, decl) {
+    let mut rest = labels;
+    'rest: while let Some((first, behind)) = rest.split_first() {
+        if is_pair_of_listed(others, rules, own, *first, selector, decl) {
             return true;
         }
+        rest = behind;
     }
     false
 }

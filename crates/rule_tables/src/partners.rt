@@ -1,125 +1,93 @@
 //! Labels of the rules that have parts in common with a rule.
 
-ghost use Rattle.std.specs.Prelude.{◌≡◌, [], IfNone, IfOk, IfSome, OnOk};
+ghost use Rattle.std.specs.Prelude.{◌≡◌, ◌≢◌, [], ℕ, Decides, IfOk, IfSome, IsTrue, OnOk};
 ghost use Rattle.std.specs.List.{Contains};
 ghost use Rattle.std.specs.List.Sorted.{IsStrictlyIncreasing};
-ghost use Rattle.rule_tables.specs.Entries.{HaveSameMembers};
+ghost use Rattle.css_model.specs.declared.sheet.SelItem.{SelItem};
+ghost use Rattle.rule_tables.specs.Entries.{HaveSameMembers, Puts};
+ghost use Rattle.rule_tables.specs.Labels.{labels_of};
 ghost use Rattle.rule_tables.specs.Tables as spec;
 
-use crate::digests::{decl_digests, selector_digests};
-use crate::entries::{Entry, put_labels};
+use crate::digests::{decl_digest, decl_digests, selector_digest};
+use crate::label_lists::{LabelLists, has_no_other, shorter};
+use crate::labels::Labels;
 use css_model::{DeclItem, SelItem};
 use std::alloc::{AllocError, Global};
-use std::collections::BTreeSet;
-use std::ops::Range;
 
-/// Whether fewer labels than the limit stand under a digest.
-fn are_fewer(entries: &BTreeSet<Entry>, digest: u32, limit: usize) -> bool {
-    let digest = u64::from(digest);
-    let start = Entry { digest, label: 0 };
-    let end = Entry {
-        digest: digest + 1,
-        label: 0,
-    };
-    entries.range(Range { start, end }).take(limit).count() < limit
+/// How many selectors of a rule are looked at.
+const FEW: usize = 8;
+
+/// The first selectors.
+fn first_few(selectors: &[SelItem]) -> &[SelItem]
+    ensures some { selectors.now ≢ [] → result.now ≢ [] }
+    ensures among { (s : SelItem) → Contains result.now s → Contains selectors.now s }
+{
+    &selectors[..FEW.min(selectors.len())]
 }
 
-/// Whether fewer labels stand under one digest than under another one; where they are about as many, either answer.
-pub(crate) fn is_rarer(
-    entries: &BTreeSet<Entry>,
-    digest: u32,
-    others: &BTreeSet<Entry>,
-    other: u32,
-) -> bool {
-    for doublings in 2..32_u32 {
-        let limit = 1 << doublings;
-        if are_fewer(entries, digest, limit) {
-            return true;
-        }
-        if are_fewer(others, other, limit) {
+/// The labels under the digest of one of the first selectors: those that stand under all of them, and maybe others.
+pub(crate) fn labels_of_selectors<'a>(entries: &'a LabelLists, selectors: &[SelItem]) -> &'a [u64]
+    ensures ascends { IsStrictlyIncreasing result.now }
+    ensures shared { spec.PutsShared entries.now (spec.selector_digests selectors.now) [] result.now }
+{
+    let Some((first, behind)) = first_few(selectors).split_first() else {
+        return &[];
+    };
+    let mut found = entries.under(selector_digest(&first.selector));
+    let mut rest = behind;
+    'rest: while let Some((next, behind)) = rest.split_first() {
+        found = shorter(found, entries.under(selector_digest(&next.selector)));
+        rest = behind;
+    }
+    found
+}
+
+/// Whether under the digests of selectors no other label than this one stands. It is not looked for where there are many.
+pub(crate) fn have_no_others(entries: &LabelLists, selectors: &[SelItem], own: u64) -> bool
+    ensures { IsTrue result → (label : ℕ) → spec.IsUnderOne entries.now (spec.selector_digests selectors.now) label → label ≡ own }
+{
+    if selectors.len() > FEW {
+        return false;
+    }
+    let mut rest = selectors;
+    'rest: while let Some((first, behind)) = rest.split_first() {
+        if !has_no_other(entries.under(selector_digest(&first.selector)), own) {
             return false;
         }
+        rest = behind;
     }
     true
 }
 
-/// The first digest under which fewer labels than the limit stand.
-fn find_rare(entries: &BTreeSet<Entry>, digests: &[u32], limit: usize) -> Option<u32>
-    ensures { IfSome result (λ digest. Contains digests.now digest) }
+/// Puts labels behind the others.
+fn put_labels(found: &mut Vec<u64>, labels: &[u64]) -> Result<(), AllocError>
+    ensures { OnOk result (Puts found.old.items labels.now found.new.items) }
 {
-    let mut rest = digests;
-    'rest: while let Some((first, behind)) = rest.split_first() {
-        if are_fewer(entries, *first, limit) {
-            return Some(*first);
-        }
-        rest = behind;
-    }
-    None
-}
-
-/// The first digest, if there is one.
-fn find_first(digests: &[u32]) -> Option<u32>
-    ensures some { IfSome result (λ digest. Contains digests.now digest) }
-    ensures none { IfNone result (digests.now ≡ []) }
-{
-    match digests {
-        [] => None,
-        [first, ..] => Some(*first),
-    }
-}
-
-/// A digest under which at most twice as many labels stand as under any other one, or the first one.
-fn find_rarest(entries: &BTreeSet<Entry>, digests: &[u32]) -> Option<u32>
-    ensures some { IfSome result (λ digest. Contains digests.now digest) }
-    ensures none { IfNone result (digests.now ≡ []) }
-{
-    for doublings in 1..32_u32 {
-        if let Some(found) = find_rare(entries, digests, 1 << doublings) {
-            return Some(found);
-        }
-    }
-    find_first(digests)
-}
-
-/// Puts in labels that stand under digests: at least those that stand under all of them.
-fn put_under_rarest(
-    found: &mut Vec<u64>,
-    entries: &BTreeSet<Entry>,
-    digests: &[u32],
-) -> Result<(), AllocError>
-    ensures { OnOk result (spec.PutsShared entries.now.keys digests.now found.old.items found.new.items) }
-{
-    match find_rarest(entries, digests) {
-        Some(digest) => put_labels(found, entries, digest),
-        None => Ok(()),
-    }
+    found.extend_from_slice(labels)
 }
 
 /// Puts in labels that stand under digests of selectors: at least those that stand under all of them.
 pub(crate) fn put_shared(
-    alloc: Global,
     found: &mut Vec<u64>,
-    entries: &BTreeSet<Entry>,
+    entries: &LabelLists,
     selectors: &[SelItem],
 ) -> Result<(), AllocError>
-    ensures { OnOk result (spec.PutsShared entries.now.keys (spec.selector_digests selectors.now) found.old.items found.new.items) }
+    ensures { OnOk result (spec.PutsShared entries.now (spec.selector_digests selectors.now) found.old.items found.new.items) }
 {
-    let digests = selector_digests(alloc, selectors)?;
-    put_under_rarest(found, entries, &digests)?;
-    Ok(())
+    put_labels(found, labels_of_selectors(entries, selectors))
 }
 
 /// Puts in the labels that stand under one of these digests.
 fn put_under_each(
     found: &mut Vec<u64>,
-    entries: &BTreeSet<Entry>,
+    entries: &LabelLists,
     digests: &[u32],
 ) -> Result<(), AllocError>
-    ensures { OnOk result (spec.PutsUnderOne entries.now.keys digests.now found.old.items found.new.items) }
+    ensures { OnOk result (spec.PutsUnderOne entries.now digests.now found.old.items found.new.items) }
 {
     let mut rest = digests;
     'rest: while let Some((first, behind)) = rest.split_first() {
-        put_labels(found, entries, *first)?;
+        put_labels(found, entries.under(*first))?;
         rest = behind;
     }
     Ok(())
@@ -138,10 +106,10 @@ fn each_once(mut digests: Vec<u32>) -> Vec<u32>
 pub(crate) fn put_under_decls(
     alloc: Global,
     found: &mut Vec<u64>,
-    entries: &BTreeSet<Entry>,
+    entries: &LabelLists,
     decls: &[DeclItem],
 ) -> Result<(), AllocError>
-    ensures { OnOk result (spec.PutsUnderOne entries.now.keys (spec.decl_digests decls.now) found.old.items found.new.items) }
+    ensures { OnOk result (spec.PutsUnderOne entries.now (spec.decl_digests decls.now) found.old.items found.new.items) }
 {
     let digests = each_once(decl_digests(alloc, decls)?);
     put_under_each(found, entries, &digests)
@@ -155,4 +123,47 @@ pub(crate) fn in_order(mut found: Vec<u64>) -> Result<Vec<u64>, AllocError>
     found.sort()?;
     found.dedup();
     Ok(found)
+}
+
+/// Whether two lists are the same.
+fn are_same(labels: &[u64], others: &[u64]) -> bool
+    ensures { Decides result (labels.now ≡ others.now) }
+{
+    labels == others
+}
+
+/// The labels under the digest of each of these declarations, where they are the same for all.
+fn labels_alike<'a>(entries: &'a LabelLists, decls: &[DeclItem]) -> Option<&'a [u64]>
+    ensures ascends { IfSome result (λ labels. IsStrictlyIncreasing labels.now) }
+    ensures under { IfSome result (λ labels. spec.PutsUnderOne entries.now (spec.decl_digests decls.now) [] labels.now) }
+{
+    let Some((first, behind)) = decls.split_first() else {
+        return Some(&[]);
+    };
+    let found = entries.under(decl_digest(&first.decl));
+    let mut rest = behind;
+    'rest: while let Some((next, behind)) = rest.split_first() {
+        if !are_same(entries.under(decl_digest(&next.decl)), found) {
+            return None;
+        }
+        rest = behind;
+    }
+    Some(found)
+}
+
+/// The labels under the digest of one of these declarations, ascending. Takes no memory where the declarations have all the same.
+pub(crate) fn labels_of_decls<'a>(
+    alloc: Global,
+    entries: &'a LabelLists,
+    decls: &[DeclItem],
+) -> Result<Labels<'a>, AllocError>
+    ensures ascends { IfOk result (λ l. IsStrictlyIncreasing (labels_of l)) }
+    ensures under { IfOk result (λ l. spec.PutsUnderOne entries.now (spec.decl_digests decls.now) [] (labels_of l)) }
+{
+    if let Some(labels) = labels_alike(entries, decls) {
+        return Ok(Labels::Under(labels));
+    }
+    let mut found = Vec::new(alloc);
+    put_under_decls(alloc, &mut found, entries, decls)?;
+    Ok(Labels::Made(in_order(found)?))
 }

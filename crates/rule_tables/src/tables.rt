@@ -1,18 +1,26 @@
 //! Tables of the rules of a sheet by their parts.
 
-ghost use Rattle.std.specs.Prelude.{◌↔◌, ◌∷◌, [], ℕ, IfOk, IsTrue, List, OnErr, OnOk};
+ghost use Rattle.std.specs.Prelude.{◌≡◌, ◌≢◌, ◌↔◌, ◌∷◌, [], ℕ, true, IfOk, IsTrue, List, OnErr, OnOk};
 ghost use Rattle.std.specs.List.{Contains};
 ghost use Rattle.std.specs.List.Sorted.{IsStrictlyIncreasing};
+ghost use Rattle.css_model.specs.declared.sheet.Decl.{Decl};
+ghost use Rattle.css_model.specs.Documents.SelectorParts.{SelectorParts};
+ghost use Rattle.css_model.specs.Sheets.StyleRule.{HaveSameSelectors, selectors_of};
+ghost use Rattle.rule_tables.specs.Labels.{labels_of};
 ghost use Rattle.rule_tables.specs.Pairs as pairs;
 ghost use Rattle.rule_tables.specs.Tables as spec;
+ghost use Rattle.step_laws.specs.Steps.{decls_of};
 
 use crate::digests::{decl_digest, selector_digest};
-use crate::entries::{Entry, put_decls, put_selectors, take_decls, take_selectors};
-use crate::pairs::{LabelledRules, is_pair_soon, is_pair_under};
-use crate::partners::{in_order, is_rarer, put_shared, put_under_decls};
+use crate::entries::{put_decls, put_selectors, take_decls, take_selectors};
+use crate::label_lists::{LabelLists, has_no_other};
+use crate::labels::Labels;
+use crate::pairs::{LabelledRules, is_pair_in_both, is_pair_soon};
+use crate::partners::{
+    have_no_others, in_order, labels_of_decls, labels_of_selectors, put_shared, put_under_decls,
+};
 use css_model::{Decl, Item, Rule, Selector};
 use std::alloc::{AllocError, Global};
-use std::collections::BTreeSet;
 use std::marker::Model;
 
 /// The rules of a sheet by the digests of their selectors and of their declarations. Each rule has a label, which
@@ -20,8 +28,8 @@ use std::marker::Model;
 /// takes a rule out of the sheet takes its entries out by `remove`: what stays makes each look longer.
 #[derive(Debug, Drop)]
 pub struct Tables {
-    selectors: BTreeSet<Entry>,
-    decls: BTreeSet<Entry>,
+    selectors: LabelLists,
+    decls: LabelLists,
 }
 
 impl Model for Tables {
@@ -29,7 +37,7 @@ impl Model for Tables {
 
     ghost Value = { TableParts };
 
-    ghost view = { λ t. record { selectors = t.selectors.keys; decls = t.decls.keys } };
+    ghost view = { λ t. record { selectors = t.selectors; decls = t.decls } };
 }
 
 impl Tables {
@@ -39,8 +47,8 @@ impl Tables {
         ensures covers { IfOk result (λ tables. spec.Cover tables (spec.labelled items.now labels.now)) }
     {
         let mut tables = Tables {
-            selectors: BTreeSet::new(alloc),
-            decls: BTreeSet::new(alloc),
+            selectors: LabelLists::new(alloc),
+            decls: LabelLists::new(alloc),
         };
         let mut rest = items;
         let mut rest_of_labels = labels;
@@ -109,9 +117,39 @@ impl Tables {
         ensures only { IfOk result (λ found. (label : ℕ) → Contains found.items label → spec.IsUnderPart self.now rule.now label) }
     {
         let mut found = Vec::new(alloc);
-        put_shared(alloc, &mut found, &self.selectors, &rule.selectors)?;
+        put_shared(&mut found, &self.selectors, &rule.selectors)?;
         put_under_decls(alloc, &mut found, &self.decls, &rule.decls)?;
         in_order(found)
+    }
+
+    /// The labels, ascending, of the rules with the same selectors, and maybe of others that have a selector whose digest
+    /// one of them has. Few digests are looked at. The error comes where memory is short.
+    pub fn with_selectors(&self, _alloc: Global, rule: &Rule) -> Result<Labels<'_>, AllocError>
+        ensures ascends { IfOk result (λ l. IsStrictlyIncreasing (labels_of l)) }
+        ensures all { IfOk result (λ l. (rules : List spec.Labelled) (x : spec.Labelled) (s : SelectorParts) → spec.Cover self.now rules
+            → Contains rules x → Contains (selectors_of rule.now) s → HaveSameSelectors rule.now x.rule
+            → Contains (labels_of l) x.label) }
+    {
+        Ok(Labels::Under(labels_of_selectors(&self.selectors, &rule.selectors)))
+    }
+
+    /// The labels, ascending, of the rules that have one of the declarations, and maybe of others that have one with the
+    /// digest of one of them. The error comes where memory is short.
+    pub fn with_decl(&self, alloc: Global, rule: &Rule) -> Result<Labels<'_>, AllocError>
+        ensures ascends { IfOk result (λ l. IsStrictlyIncreasing (labels_of l)) }
+        ensures all { IfOk result (λ l. (rules : List spec.Labelled) (x : spec.Labelled) (d : Decl) → spec.Cover self.now rules
+            → Contains rules x → Contains (decls_of rule.now) d → Contains (decls_of x.rule) d → Contains (labels_of l) x.label) }
+    {
+        labels_of_decls(alloc, &self.decls, &rule.decls)
+    }
+
+    /// Whether no other rule than that with the label `own` has one of the rule's selectors. Where it has more than
+    /// eight, or others have the digest of one, the answer is no. Takes no memory.
+    pub fn has_own_selectors(&self, rule: &Rule, own: u64) -> bool
+        ensures { result ≡ true → (rules : List spec.Labelled) (x : spec.Labelled) (s : SelectorParts) → spec.Cover self.now rules
+            → Contains rules x → x.label ≢ own → Contains (selectors_of rule.now) s → Contains (selectors_of x.rule) s → ⊥ }
+    {
+        have_no_others(&self.selectors, &rule.selectors, own)
     }
 
     /// Whether a selector and a declaration stand together in one of these rules that has another label than `own`, where
@@ -127,14 +165,17 @@ impl Tables {
         requires { spec.Cover self.now (R.rules rules.now) }
         ensures { IsTrue result ↔ pairs.AnotherHasBoth (R.rules rules.now) own selector.now decl.now }
     {
-        let by_selector = selector_digest(selector);
-        let by_decl = decl_digest(decl);
-        if is_pair_soon(&self.decls, by_decl, rules, own, selector, decl) {
+        let with_decl = self.decls.under(decl_digest(decl));
+        if has_no_other(with_decl, own) {
+            return false;
+        }
+        if is_pair_soon(with_decl, rules, own, selector, decl) {
             return true;
         }
-        if is_rarer(&self.selectors, by_selector, &self.decls, by_decl) {
-            return is_pair_under(&self.selectors, by_selector, rules, own, selector, decl);
+        let with_selector = self.selectors.under(selector_digest(selector));
+        if with_selector.len() < with_decl.len() {
+            return is_pair_in_both(with_selector, with_decl, rules, own, selector, decl);
         }
-        is_pair_under(&self.decls, by_decl, rules, own, selector, decl)
+        is_pair_in_both(with_decl, with_selector, rules, own, selector, decl)
     }
 }

@@ -1,4 +1,4 @@
-use Rattle.std.proofs.Common.{◌≡◌, ℕ, ap}
+use Rattle.std.proofs.Common.{◌≡◌}
 use Rattle.std.proofs.lemmas.List.{nil_from_length}
 use Rattle.css_model.specs.declared.sheet.SelItem.{SelItem}
 use Rattle.rule_tables.specs.Digests.{selector_digest}
@@ -8,18 +8,18 @@ use Rattle.rule_tables.proofs.entries.put_selectors.Goals as goal
 
 pub returns-in_err-put-clause-err : goal.returns-in_err-put-clause-err
 returns-in_err-put-clause-err c =
-    given_some c.from_residual.result (c.rest.invariant.part c.put.new.entries.keys (some_put c.rest.entries.keys c.put.new.entries.keys _ c.in_err-put.ensures.err))
+    given_some c.from_residual.result (c.rest.invariant.part c.put.new.self (some_put c.rest.entries c.put.new.self _ c.in_err-put.ensures.err))
 
 pub rest-preserved : goal.rest-preserved
 rest-preserved c =
-    let is : entry c.from-digest.result c.args.label ≡ entry (selector_digest c.in-Some.first.now.selector) c.args.label = ap (λ (d : ℕ). entry d c.args.label) (let e : c.from-digest.result ≡ selector_digest c.in-Some.first.now.selector = cc in e) in
+    let is : c.entry_of.result ≡ entry (selector_digest c.in-Some.first.now.selector) c.args.label = cc in
     record {
       whole = λ final h. c.rest.invariant.whole final (puts_step (λ (x : SelItem). entry (selector_digest x.selector) c.args.label) c.rest.rest.now c.in-Some.behind.now c.in-Some.first.now c.in-Some.ensures.cases.0
-          c.rest.entries.keys c.put.new.entries.keys final (entry c.from-digest.result c.args.label) is c.in_ok-put.ensures.ok h);
+          c.rest.entries c.put.new.self final c.entry_of.result is c.in_ok-put.ensures.ok h);
       part = λ final h. c.rest.invariant.part final (some_step (λ (x : SelItem). entry (selector_digest x.selector) c.args.label) c.rest.rest.now c.in-Some.behind.now c.in-Some.first.now c.in-Some.ensures.cases.0
-          c.rest.entries.keys c.put.new.entries.keys final (entry c.from-digest.result c.args.label) is c.in_ok-put.ensures.ok h);
+          c.rest.entries c.put.new.self final c.entry_of.result is c.in_ok-put.ensures.ok h);
     }
 
 pub returns-clause-ok : goal.returns-clause-ok
 returns-clause-ok c =
-    c.rest.invariant.whole c.rest.entries.keys (puts_end (λ (x : SelItem). entry (selector_digest x.selector) c.args.label) c.rest.rest.now (nil_from_length c.rest.rest.now (rw c.in_default.is at c.split_first.ensures.cases)) c.rest.entries.keys)
+    c.rest.invariant.whole c.rest.entries (puts_end (λ (x : SelItem). entry (selector_digest x.selector) c.args.label) c.rest.rest.now (nil_from_length c.rest.rest.now (rw c.in_default.is at c.split_first.ensures.cases)) c.rest.entries)

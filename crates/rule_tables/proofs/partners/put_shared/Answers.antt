@@ -1,6 +1,9 @@
-use Rattle.std.proofs.Common.{ℕ, List, ◌∙◌, subst}
-use Rattle.rule_tables.specs.Tables.{PutsShared}
+use Rattle.rule_tables.specs.Tables.{selector_digests}
+use Rattle.rule_tables.proofs.EntrySets.{then_ok}
+use Rattle.rule_tables.proofs.Sharing.{shared_behind}
 use Rattle.rule_tables.proofs.partners.put_shared.Goals as goal
 
 pub returns : goal.returns
-returns c = subst (λ (digests : List ℕ). PutsShared c.args.entries.now.keys digests c.args.found.now.items c.put_under_rarest.new.found.items) (c.deref.ensures.value ∙ c.in_ok-digests.ensures) c.in_ok-put_under_rarest.ensures
+returns c =
+    then_ok c.put_labels.result (shared_behind c.args.entries.now (selector_digests c.args.selectors.now) c.args.found.now.items c.labels_of_selectors.result.now c.put_labels.new.found.items c.labels_of_selectors.ensures.shared)
+    c.put_labels.ensures

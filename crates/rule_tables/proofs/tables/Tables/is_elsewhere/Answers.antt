@@ -1,19 +1,29 @@
-use Rattle.std.proofs.Common.{ℕ, subst, sym}
-use Rattle.std.specs.List.{Contains, flat_map}
-use Rattle.rule_tables.specs.declared.entries.Entry.{Entry}
-use Rattle.rule_tables.specs.Entries.{entry}
-use Rattle.rule_tables.specs.Tables.{TableParts, entries_by_decl, entries_by_selector}
-use Rattle.rule_tables.proofs.OtherRules.{under_decl, under_selector}
+use Rattle.std.proofs.Common.{ap, sym, true≢false}
+use Rattle.rule_tables.specs.Tables.{TableParts}
+use Rattle.rule_tables.proofs.OtherRules.{listed_by_decl, listed_by_selector}
+use Rattle.rule_tables.proofs.Sharing.{only_own}
 use Rattle.rule_tables.proofs.tables.Tables.is_elsewhere.Goals as goal
 
-pub is_pair_under-requires : goal.is_pair_under-requires
-is_pair_under-requires g c = λ label has.
-    subst (λ (n : ℕ). Contains c.self.inside.selectors.keys (entry n label)) (sym c.selector_digest-by_selector.ensures)
-    (under_selector (g.R.LabelledRules.rules c.args.rules.now) c.args.own c.args.selector.now c.args.decl.now c.self.inside.selectors.keys
-    (subst (λ (t : TableParts). (e : Entry) → Contains (flat_map entries_by_selector (g.R.LabelledRules.rules c.args.rules.now)) e → Contains t.selectors e) (sym c.self.view_is) c.requires.selectors) label has)
+pub returns-then-has_no_other : goal.returns-then-has_no_other
+returns-then-has_no_other g c = (
+  λ h. absurd (true≢false (sym h)),
+  λ a. absurd (a.1 (only_own c.under-with_decl.result.now c.args.own (c.has_no_other.ensures.0 c.if-has_no_other.true) a.0
+      (listed_by_decl (g.R.LabelledRules.rules c.args.rules.now) c.args.own c.args.selector.now c.args.decl.now c.args.self.now c.self.inside.decls (ap (λ (t : TableParts). t.decls) c.self.view_is) c.requires c.decl_digest.result
+      c.decl_digest.ensures c.under-with_decl.result.now c.under-with_decl.ensures.same a.0 a.2))),
+)
 
-pub is_pair_under-requires-2 : goal.is_pair_under-requires-2
-is_pair_under-requires-2 g c = λ label has.
-    subst (λ (n : ℕ). Contains c.self.inside.decls.keys (entry n label)) (sym c.decl_digest-by_decl.ensures)
-    (under_decl (g.R.LabelledRules.rules c.args.rules.now) c.args.own c.args.selector.now c.args.decl.now c.self.inside.decls.keys
-    (subst (λ (t : TableParts). (e : Entry) → Contains (flat_map entries_by_decl (g.R.LabelledRules.rules c.args.rules.now)) e → Contains t.decls e) (sym c.self.view_is) c.requires.decls) label has)
+pub is_pair_in_both-requires-clause-all : goal.is_pair_in_both-requires-clause-all
+is_pair_in_both-requires-clause-all g c = λ label has. (
+  listed_by_selector (g.R.LabelledRules.rules c.args.rules.now) c.args.own c.args.selector.now c.args.decl.now c.args.self.now c.self.inside.selectors (ap (λ (t : TableParts). t.selectors) c.self.view_is) c.requires
+      c.selector_digest.result c.selector_digest.ensures c.under-with_selector.result.now c.under-with_selector.ensures.same label has,
+  listed_by_decl (g.R.LabelledRules.rules c.args.rules.now) c.args.own c.args.selector.now c.args.decl.now c.args.self.now c.self.inside.decls (ap (λ (t : TableParts). t.decls) c.self.view_is) c.requires
+      c.decl_digest.result c.decl_digest.ensures c.under-with_decl.result.now c.under-with_decl.ensures.same label has,
+)
+
+pub is_pair_in_both-requires-2-clause-all : goal.is_pair_in_both-requires-2-clause-all
+is_pair_in_both-requires-2-clause-all g c = λ label has. (
+  listed_by_decl (g.R.LabelledRules.rules c.args.rules.now) c.args.own c.args.selector.now c.args.decl.now c.args.self.now c.self.inside.decls (ap (λ (t : TableParts). t.decls) c.self.view_is) c.requires
+      c.decl_digest.result c.decl_digest.ensures c.under-with_decl.result.now c.under-with_decl.ensures.same label has,
+  listed_by_selector (g.R.LabelledRules.rules c.args.rules.now) c.args.own c.args.selector.now c.args.decl.now c.args.self.now c.self.inside.selectors (ap (λ (t : TableParts). t.selectors) c.self.view_is) c.requires
+      c.selector_digest.result c.selector_digest.ensures c.under-with_selector.result.now c.under-with_selector.ensures.same label has,
+)

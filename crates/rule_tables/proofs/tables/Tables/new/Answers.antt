@@ -6,7 +6,7 @@ use Rattle.rule_tables.proofs.tables.Tables.new.Goals as goal
 pub returns-in_default-split_first : goal.returns-in_default-split_first
 returns-in_default-split_first c =
     let stand : StandFor c.rest.tables (labelled c.args.items.now c.args.labels.now) =
-    made (record { selectors = c.new.result.keys; decls = c.new-2.result.keys }) c.rest.tables (labelled c.args.items.now c.args.labels.now) c.new.ensures.empty c.new-2.ensures.empty
+    made (record { selectors = c.new.result; decls = c.new-2.result }) c.rest.tables (labelled c.args.items.now c.args.labels.now) c.new.ensures c.new-2.ensures
     (c.rest.invariant c.rest.tables (no_labels c.rest.tables c.rest.rest.now c.rest.rest_of_labels.now (nil_from_length c.rest.rest_of_labels.now (rw c.in_default-split_first.is at c.split_first-in-Some.ensures.cases)))) in
     record { exact = stand; covers = covers_made c.rest.tables (labelled c.args.items.now c.args.labels.now) stand }
 
@@ -17,6 +17,6 @@ rest-preserved c = λ final h. c.rest.invariant final (next_item c.rest.rest.now
 pub returns : goal.returns
 returns c =
     let stand : StandFor c.rest.tables (labelled c.args.items.now c.args.labels.now) =
-    made (record { selectors = c.new.result.keys; decls = c.new-2.result.keys }) c.rest.tables (labelled c.args.items.now c.args.labels.now) c.new.ensures.empty c.new-2.ensures.empty
+    made (record { selectors = c.new.result; decls = c.new-2.result }) c.rest.tables (labelled c.args.items.now c.args.labels.now) c.new.ensures c.new-2.ensures
     (c.rest.invariant c.rest.tables (no_items c.rest.tables c.rest.rest.now c.rest.rest_of_labels.now (nil_from_length c.rest.rest.now (rw c.in_default.is at c.split_first.ensures.cases)))) in
     record { exact = stand; covers = covers_made c.rest.tables (labelled c.args.items.now c.args.labels.now) stand }
