@@ -225,3 +225,15 @@ pub decl_in_code : (t : TableParts) (r : RuleParts) (a : List Entry) (ds : List 
 decl_in_code t r a ds is_a is_ds rules x cover among d in_rule in_other =
     subst (λ (es : List Entry). IsUnderOne es (decl_digests ds) x.label) (sym is_a)
     (subst (λ (zs : List DeclItem). IsUnderOne t.decls (decl_digests zs) x.label) (sym is_ds) (under_decl_of t rules r x cover among d in_rule in_other))
+
+-- what stands under a digest of the parts that the code has stands under one of the rule's
+pub of_selectors : (t : TableParts) (r : RuleParts) (a : List Entry) (ss : List SelItem) → a ≡ t.selectors → ss ≡ r.selectors → (label : ℕ) → Contains [] label ⊎ IsUnderOne a (selector_digests ss) label →
+    IsUnderOne t.selectors (selector_digests r.selectors) label
+of_selectors t r a ss is_a is_ss label (inl h) = absurd (Contains-nil label h)
+of_selectors t r a ss is_a is_ss label (inr h) =
+    subst (λ (es : List Entry). IsUnderOne es (selector_digests r.selectors) label) is_a (subst (λ (zs : List SelItem). IsUnderOne a (selector_digests zs) label) is_ss h)
+
+pub of_decls : (t : TableParts) (r : RuleParts) (a : List Entry) (ds : List DeclItem) → a ≡ t.decls → ds ≡ r.decls → (label : ℕ) → Contains [] label ⊎ IsUnderOne a (decl_digests ds) label →
+    IsUnderOne t.decls (decl_digests r.decls) label
+of_decls t r a ds is_a is_ds label (inl h) = absurd (Contains-nil label h)
+of_decls t r a ds is_a is_ds label (inr h) = subst (λ (es : List Entry). IsUnderOne es (decl_digests r.decls) label) is_a (subst (λ (zs : List DeclItem). IsUnderOne a (decl_digests zs) label) is_ds h)

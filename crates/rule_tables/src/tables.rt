@@ -123,12 +123,14 @@ impl Tables {
     }
 
     /// The labels, ascending, of the rules with the same selectors, and maybe of others that have a selector whose digest
-    /// one of them has. Few digests are looked at. The error comes where memory is short.
+    /// one of them has. At most eight digests are looked at. Takes no memory today, so that no error comes.
     pub fn with_selectors(&self, _alloc: Global, rule: &Rule) -> Result<Labels<'_>, AllocError>
         ensures ascends { IfOk result (λ l. IsStrictlyIncreasing (labels_of l)) }
         ensures all { IfOk result (λ l. (rules : List spec.Labelled) (x : spec.Labelled) (s : SelectorParts) → spec.Cover self.now rules
             → Contains rules x → Contains (selectors_of rule.now) s → HaveSameSelectors rule.now x.rule
             → Contains (labels_of l) x.label) }
+        ensures only { IfOk result (λ l. (label : ℕ) → Contains (labels_of l) label
+            → spec.IsUnderOne self.now.selectors (spec.selector_digests rule.now.selectors) label) }
     {
         Ok(Labels::Under(labels_of_selectors(&self.selectors, &rule.selectors)))
     }
@@ -139,6 +141,8 @@ impl Tables {
         ensures ascends { IfOk result (λ l. IsStrictlyIncreasing (labels_of l)) }
         ensures all { IfOk result (λ l. (rules : List spec.Labelled) (x : spec.Labelled) (d : Decl) → spec.Cover self.now rules
             → Contains rules x → Contains (decls_of rule.now) d → Contains (decls_of x.rule) d → Contains (labels_of l) x.label) }
+        ensures only { IfOk result (λ l. (label : ℕ) → Contains (labels_of l) label
+            → spec.IsUnderOne self.now.decls (spec.decl_digests rule.now.decls) label) }
     {
         labels_of_decls(alloc, &self.decls, &rule.decls)
     }
