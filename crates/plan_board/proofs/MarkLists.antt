@@ -5,8 +5,9 @@ use Rattle.std.specs.List.{All, AllPairs, insert, remove}
 use Rattle.std.proofs.lemmas.List.{length-set, get_or_default}
 use Rattle.std.proofs.lemmas.List.Edits.{length-insert, length-remove, get_or-insert_at, get_or-insert_below, get_or-insert_above, get_or-remove_below, get_or-remove_above}
 use Rattle.std.proofs.lemmas.List.Quantifiers.{all_pairs_remove}
+use Rattle.std.proofs.lemmas.Option.{slice_get-get_or}
 use Rattle.plan_board.specs.declared.marks.Mark.{Mark}
-use Rattle.plan_board.specs.MarkList.{MarkList, AreMarks}
+use Rattle.plan_board.specs.MarkList.{MarkList, AreMarks, IsLabelAt}
 use Rattle.plan_board.specs.Marking.{AreRenewed}
 use Rattle.plan_board.proofs.Puts.{put_none, put_one, put_two}
 
@@ -247,17 +248,33 @@ first_marks ms count many each = record {
 abbrev list_of : List Mark → ℕ → MarkList
 list_of ms next = record { list = ms; next = next }
 
+none_is_one : (m : Mark) → [] ≡ m ∷ [] → ⊥
+none_is_one m e = let f : 0 ≡ 1 = ap length e in absurd (omega (arith, f))
+
+two_are_one : (k l m : Mark) → k ∷ l ∷ [] ≡ m ∷ [] → ⊥
+two_are_one k l m e = let f : 2 ≡ 1 = ap length e in absurd (omega (arith, f))
+
+abbrev first_label : List Mark → ℕ
+first_label [] = 0
+first_label (m ∷ ms) = m.label
+
 pub without_is : (m : MarkList) (ms : List Mark) (next n : ℕ) → list_of ms next ≡ m → AreRenewed m.list (remove ms n) m.next n 0
 without_is m ms next n e = subst (λ (m : MarkList). AreRenewed m.list (remove ms n) m.next n 0) e
-    (record { made = []; count_is = refl; later = (λ k d within. absurd (omega (arith, within))); is = put_none n ms })
+    (record { made = []; count_is = refl; later = (λ k d within. absurd (omega (arith, within))); label = (λ m' f. absurd (none_is_one m' f)); is = put_none n ms })
 
 only : (label next birth : ℕ) → next ≤ birth → All (λ (m : Mark). next ≤ m.birth) (mark label birth ∷ [])
 only label next birth least zero d within = least
 only label next birth least (suc k) d within = absurd (omega (arith, within))
 
-pub renewed_is : (m : MarkList) (ms : List Mark) (next n label : ℕ) → list_of ms next ≡ m → AreRenewed m.list (set ms n (mark label next)) m.next n 1
-renewed_is m ms next n label e = subst (λ (m : MarkList). AreRenewed m.list (set ms n (mark label next)) m.next n 1) e
-    (record { made = mark label next ∷ []; count_is = refl; later = only label next next (omega arith); is = put_one n (mark label next) ms })
+pub renewed_is : (m : MarkList) (ms : List Mark) (next n : ℕ) (b : Mark) → list_of ms next ≡ m → n < length m.list → b ≡ get_or ms n b → AreRenewed m.list (set ms n (mark b.label next)) m.next n 1
+renewed_is m ms next n b e within b_is = subst (λ (m : MarkList). n < length m.list → AreRenewed m.list (set ms n (mark b.label next)) m.next n 1) e
+    (λ at. record {
+      made = mark b.label next ∷ [];
+      count_is = refl;
+      later = only b.label next next (omega arith);
+      label = (λ m' f. subst (λ (l : ℕ). IsLabelAt ms l n) (ap first_label f) (get_or ms n b, slice_get-get_or ms n b at, ap (λ (m : Mark). m.label) (sym b_is)));
+      is = put_one n (mark b.label next) ms;
+    }) within
 
 both : (label below next : ℕ) → All (λ (m : Mark). next ≤ m.birth) (mark label (next + 1) ∷ mark below next ∷ [])
 both label below next zero d within = omega arith
@@ -266,7 +283,7 @@ both label below next (suc k) d within = only below next next (omega arith) k d 
 pub split_is : (m : MarkList) (ms : List Mark) (next n below label : ℕ) → list_of ms next ≡ m → n < length m.list →
     AreRenewed m.list (insert (set ms n (mark below next)) n (mark label (next + 1))) m.next n 2
 split_is m ms next n below label e within = subst (λ (m : MarkList). n < length m.list → AreRenewed m.list (insert (set ms n (mark below next)) n (mark label (next + 1))) m.next n 2) e
-    (λ at. record { made = mark label (next + 1) ∷ mark below next ∷ []; count_is = refl; later = both label below next; is = put_two n (mark below next) (mark label (next + 1)) ms at }) within
+    (λ at. record { made = mark label (next + 1) ∷ mark below next ∷ []; count_is = refl; later = both label below next; label = (λ m' f. absurd (two_are_one (mark label (next + 1)) (mark below next) m' f)); is = put_two n (mark below next) (mark label (next + 1)) ms at }) within
 
 pub within_is : (m : MarkList) (ms : List Mark) (next n : ℕ) → list_of ms next ≡ m → n < length m.list → n < length ms
 within_is m ms next n e = subst (λ (m : MarkList). n < length m.list → n < length ms) e (λ h. h)

@@ -1,7 +1,9 @@
 -- A list with others in the place of one of its elements.
-use Rattle.std.proofs.Common.{◌≡◌, ℕ, zero, suc, ◌+◌, ◌<◌, ◌≤◌, List, [], ◌∷◌, ◌++◌, length, map, set, take, drop, refl, sym, ap, ap₂, ◌∙◌, arith}
+use Rattle.std.proofs.Common.{◌≡◌, ℕ, zero, suc, ◌+◌, ◌<◌, ◌≤◌, List, [], ◌∷◌, ◌++◌, length, map, set, take, drop, Some, refl, sym, ap, ap₂, ◌∙◌, arith}
+use Rattle.std.specs.Prelude.{slice_get}
 use Rattle.std.specs.List.{insert, remove}
 use Rattle.std.proofs.lemmas.List.{length-append, map-append}
+use Rattle.std.proofs.lemmas.Option.{get_or_from_slice_get}
 use Rattle.plan_board.specs.Putting.{put_at}
 
 pub put_none : {X : Type 0} (n : ℕ) (xs : List X) → remove xs n ≡ put_at n [] xs
@@ -38,6 +40,18 @@ pub put_map : {X Y : Type 0} (f : X → Y) (n : ℕ) (by xs : List X) → put_at
 put_map f n by [] = refl
 put_map f zero by (x ∷ xs) = sym (map-append f by xs)
 put_map {X} {Y} f (suc n) by (x ∷ xs) = ap (λ (ys : List Y). f x ∷ ys) (put_map f n by xs)
+
+-- so is what is said of each where one is taken out
+pub put_none_map : {X Y : Type 0} (f : X → Y) (n : ℕ) (xs : List X) → map f (put_at n [] xs) ≡ remove (map f xs) n
+put_none_map f n xs = sym (put_map f n [] xs) ∙ sym (put_none n (map f xs))
+
+-- and where one stands in the place of another one of which the same is said
+pub put_one_map : {X Y : Type 0} (f : X → Y) (n : ℕ) (y z : X) (xs : List X) → slice_get xs n ≡ Some z → f z ≡ f y → map f (put_at n (y ∷ []) xs) ≡ map f xs
+put_one_map f n y z [] at same = refl
+put_one_map {X} {Y} f zero y z (x ∷ xs) at same =
+    let e : x ≡ z = get_or_from_slice_get (x ∷ xs) 0 z z at in
+    ap (λ (i : Y). i ∷ map f xs) (sym (ap f e ∙ same))
+put_one_map {X} {Y} f (suc n) y z (x ∷ xs) at same = ap (λ (ys : List Y). f x ∷ ys) (put_one_map f n y z xs at same)
 
 -- what stood in the place does not count
 pub put_over : {X : Type 0} (n : ℕ) (by : List X) (p : X) (xs : List X) → put_at n by (set xs n p) ≡ put_at n by xs

@@ -1,6 +1,7 @@
 -- A step taken in parts: the rules lifted out, and what is left of them put in their places.
 use Rattle.std.proofs.Common.{◌≡◌, ◌≢◌, ◌⊎◌, ℕ, zero, suc, ◌+◌, ◌<◌, ◌≤◌, List, [], ◌∷◌, ◌++◌, length, set, Some, None, refl, sym, ap, ap₂, subst, ◌∙◌, arith}
 use Rattle.std.specs.Prelude.{slice_get}
+use Rattle.std.specs.List.{remove}
 use Rattle.std.proofs.lemmas.List.{length-set}
 use Rattle.std.proofs.lemmas.Option.{slice_get_within}
 use Rattle.css_model.specs.declared.sheet.DeclItem.{DeclItem}
@@ -8,6 +9,9 @@ use Rattle.css_model.specs.declared.sheet.Item.{Item}
 use Rattle.css_model.specs.declared.sheet.Item.TheVariants.{Rule}
 use Rattle.css_model.specs.declared.sheet.SelItem.{SelItem}
 use Rattle.css_model.specs.Sheets.RuleParts.{RuleParts}
+use Rattle.hold_laws.specs.declared.way.Way.{Way}
+use Rattle.hold_laws.specs.declared.way.Way.TheVariants.{Up, Down}
+use Rattle.hold_laws.specs.Ways.{IsMove, mover}
 use Rattle.merge_steps.specs.StepParts.{IsCutKind, IsJoinKind}
 use Rattle.order_laws.specs.Edits.{Change, Edit, edited, slots_from}
 use Rattle.order_laws.specs.Slots.{new_items}
@@ -19,10 +23,11 @@ use Rattle.step_savings.proofs.ForCallers.{edit_is, first_rule, last_rule, has_p
 use Rattle.step_savings.specs.CutParts.{HasPart}
 use Rattle.plan_board.specs.declared.marks.Mark.{Mark}
 use Rattle.plan_board.specs.BoardParts.{BoardParts}
+use Rattle.plan_board.specs.MarkList.{IsLabelAt, labels_of}
 use Rattle.plan_board.specs.Marking.{AreKept, AreRenewed, HasLabelBefore, HasLabelFor}
 use Rattle.plan_board.specs.Putting.{put_at, placeholder}
 use Rattle.plan_board.proofs.EditPuts.{change, one_put, two_put, kept_one, kept_two}
-use Rattle.plan_board.proofs.Puts.{put_over, put_over_both, put_length}
+use Rattle.plan_board.proofs.Puts.{put_over, put_over_both, put_length, put_none_map, put_one_map}
 
 abbrev IsRuleAt : List Item → ℕ → RuleParts → Type 0
 IsRuleAt items n r = slice_get items n ≡ Some (Rule r)
@@ -111,6 +116,59 @@ label_for k u l above below marks is has more = which k has (subst (λ (items : 
     which (JoinDeclDown x y) has many = absurd (omega (arith, many))
     which (Share x y) has many = has
 
+-- ---- Labels behind a join
+
+length_one : (ms : List Mark) → length ms ≡ 1 → (m : Mark) × (ms ≡ m ∷ [])
+length_one [] e = absurd (let f : 0 ≡ 1 = e in omega (arith, f))
+length_one (m ∷ []) e = (m, refl)
+length_one (m ∷ l ∷ ms) e = absurd (let f : suc (suc (length ms)) ≡ 1 = e in omega (arith, f))
+
+-- one in the place of another one leaves all labels
+one_renewed : (old new : List Mark) (next n count : ℕ) → count ≡ 1 → AreRenewed old new next n count → labels_of new ≡ labels_of old
+one_renewed old new next n count one r =
+    let w : (m : Mark) × (r.made ≡ m ∷ []) = length_one r.made (r.count_is ∙ one) in
+    let at : IsLabelAt old w.0.label n = r.label w.0 w.1 in
+    ap labels_of (r.is ∙ ap (λ (made : List Mark). put_at n made old) w.1) ∙ put_one_map (λ (m : Mark). m.label) n w.0 at.0 old at.1 at.2
+
+-- and none in its place takes its label
+none_renewed : (old new : List Mark) (next n count : ℕ) → count ≡ 0 → AreRenewed old new next n count → labels_of new ≡ remove (labels_of old) n
+none_renewed old new next n count none r = which r.made (r.count_is ∙ none) r.is
+  where
+    which : (made : List Mark) → length made ≡ 0 → new ≡ put_at n made old → labels_of new ≡ remove (labels_of old) n
+    which [] e is = ap labels_of is ∙ put_none_map (λ (m : Mark). m.label) n old
+    which (m ∷ made) e is = absurd (let f : suc (length made) ≡ 0 = e in omega (arith, f))
+
+labels_behind : (k : Step) (u l : RuleParts) (above below : List Item) (old between new : List Mark) (next next' : ℕ) → (edit_of k u l).changes ≡ change (first_item k) above ∷ change (last_item k) below ∷ [] →
+    AreRenewed old between next (last_item k) (length below) → AreRenewed between new next' (first_item k) (length above) →
+    (way : Way) → IsMove way k → labels_of new ≡ remove (labels_of old) (mover way k)
+labels_behind k u l above below old between new next next' is lower upper way move = which k way move refl (sym (ap first_by is)) (sym (ap second_by is))
+  where
+    up : (j : Step) → k ≡ j → length above ≡ 1 → length below ≡ 0 → labels_of new ≡ remove (labels_of old) (last_item j)
+    up j same one none =
+        one_renewed between new next' (first_item k) (length above) one upper
+        ∙ subst (λ (i : Step). labels_of between ≡ remove (labels_of old) (last_item i)) same (none_renewed old between next (last_item k) (length below) none lower)
+
+    down : (j : Step) → k ≡ j → length above ≡ 0 → length below ≡ 1 → labels_of new ≡ remove (labels_of old) (first_item j)
+    down j same none one =
+        subst (λ (i : Step). labels_of new ≡ remove (labels_of between) (first_item i)) same (none_renewed between new next' (first_item k) (length above) none upper)
+        ∙ ap (λ (labels : List ℕ). remove labels (first_item j)) (one_renewed old between next (last_item k) (length below) one lower)
+
+    which : (j : Step) (way : Way) → IsMove way j → k ≡ j → above ≡ first_by (edit_of j u l).changes → below ≡ second_by (edit_of j u l).changes → labels_of new ≡ remove (labels_of old) (mover way j)
+    which (JoinSelUp x y) Up move same one none = up (JoinSelUp x y) same (ap length one) (ap length none)
+    which (JoinDeclUp x y) Up move same one none = up (JoinDeclUp x y) same (ap length one) (ap length none)
+    which (JoinSelDown x y) Down move same none one = down (JoinSelDown x y) same (ap length none) (ap length one)
+    which (JoinDeclDown x y) Down move same none one = down (JoinDeclDown x y) same (ap length none) (ap length one)
+    which (CutDecl n i) Up move same e f = absurd move
+    which (CutSel n i) Up move same e f = absurd move
+    which (JoinSelDown x y) Up move same e f = absurd move
+    which (JoinDeclDown x y) Up move same e f = absurd move
+    which (Share x y) Up move same e f = absurd move
+    which (CutDecl n i) Down move same e f = absurd move
+    which (CutSel n i) Down move same e f = absurd move
+    which (JoinSelUp x y) Down move same e f = absurd move
+    which (JoinDeclUp x y) Down move same e f = absurd move
+    which (Share x y) Down move same e f = absurd move
+
 -- ---- A cut
 
 -- A cut in parts: its rule, the board with the rule lifted out, and with what is left of it.
@@ -192,3 +250,11 @@ two_marks old lifted again between new k x y u l above below t e is =
     (subst (λ (next : ℕ). AreRenewed old.marks between.marks next y (length below)) (t.again_next ∙ t.lifted_next)
     (subst (λ (ms : List Mark). AreRenewed ms between.marks again.next y (length below)) (t.again_marks ∙ t.lifted_marks) t.between_marks))
     (omega (arith, t.between_next, t.again_next, t.lifted_next)) t.marks
+
+pub two_labels : (old lifted again between new : BoardParts) (k : Step) (x y : ℕ) (u l : RuleParts) (above below : List Item) → TwoInParts old lifted again between new k x y u l above below →
+    (way : Way) → IsMove way k → labels_of new.marks ≡ remove (labels_of old.marks) (mover way k)
+two_labels old lifted again between new k x y u l above below t =
+    labels_behind k u l above below old.marks between.marks new.marks again.next between.next t.changes
+    (subst (λ (i : ℕ). AreRenewed old.marks between.marks again.next i (length below)) t.last
+    (subst (λ (ms : List Mark). AreRenewed ms between.marks again.next y (length below)) (t.again_marks ∙ t.lifted_marks) t.between_marks))
+    (subst (λ (i : ℕ). AreRenewed between.marks new.marks between.next i (length above)) t.first t.marks)

@@ -1,5 +1,5 @@
 -- What becomes of the marks of a board while a step is taken, and where a step finds a label.
-use Rattle.std.specs.Prelude.{◌≡◌, ◌⊎◌, ℕ, suc, ◌+◌, ◌<◌, ◌≤◌, List, Some, length, slice_get}
+use Rattle.std.specs.Prelude.{◌≡◌, ◌⊎◌, ℕ, suc, ◌+◌, ◌<◌, ◌≤◌, List, [], ◌∷◌, Some, length, slice_get}
 use Rattle.std.specs.List.{All}
 use Rattle.order_laws.specs.Edits.{Edit}
 use Rattle.step_laws.specs.declared.step.Step.{Step}
@@ -7,6 +7,7 @@ use Rattle.step_laws.specs.declared.step.Step.TheVariants.{CutDecl, CutSel, Join
 use Rattle.wall_laws.specs.Renumbering.{Leaves, new_number}
 use Rattle.plan_board.specs.declared.marks.Mark.{Mark}
 use Rattle.plan_board.specs.BoardParts.{BoardParts}
+use Rattle.plan_board.specs.MarkList.{IsLabelAt}
 use Rattle.plan_board.specs.Putting.{put_at}
 
 -- A mark is that of an item which an edit leaves, and which stands at this number behind it.
@@ -22,10 +23,12 @@ pub record AreKept (old new : BoardParts) (e : Edit) : Type 0 where
   pub born : (n : ℕ) (m : Mark) → slice_get new.marks n ≡ Some m → (old.next ≤ m.birth) ⊎ IsLeft old e n m
 
 -- The marks with so many new ones in the place of the one of this number, all of them born from `next` on.
+-- Where there is one it has the label of the one before it.
 pub record AreRenewed (old new : List Mark) (next n count : ℕ) : Type 0 where
   pub made : List Mark
   pub count_is : length made ≡ count
   pub later : All (λ m. next ≤ m.birth) made
+  pub label : (m : Mark) → made ≡ m ∷ [] → IsLabelAt old m.label n
   pub is : new ≡ put_at n made old
 
 -- a label is left before the mark of this number, which is not the first one

@@ -1,8 +1,12 @@
 //! A step taken in a board.
 
 ghost use Rattle.std.specs.Prelude.{◌≡◌, ◌↔◌, ◌≤◌, ◌<◌, ◌+◌, ◌^◌, ◌∷◌, [], IfOk, IsTrue, length};
+ghost use Rattle.std.specs.List.{remove};
+ghost use Rattle.hold_laws.specs.declared.way.Way.{Way};
+ghost use Rattle.hold_laws.specs.Ways.{IsMove, mover};
 ghost use Rattle.merge_steps.specs.StepParts.{IsCutKind, IsJoinKind};
 ghost use Rattle.order_laws.specs.Edits.{Edit, edited};
+ghost use Rattle.plan_board.specs.MarkList.{labels_of};
 ghost use Rattle.plan_board.specs.Marking.{AreKept, HasLabelBefore, HasLabelFor};
 ghost use Rattle.plan_board.specs.Putting.{items_in};
 ghost use Rattle.step_laws.specs.Steps.{HasStep, IsStep, edit_of, first_item, last_item};
@@ -148,6 +152,7 @@ impl Board {
         requires births { self.next + 4 < 2 ^ 32 }
         ensures items { IfOk result (λ b. (e : Edit) → IsStep self.items step.now e → b.items ≡ edited e self.items) }
         ensures marks { IfOk result (λ b. (e : Edit) → IsStep self.items step.now e → AreKept self b e) }
+        ensures labels { IfOk result (λ b. (way : Way) → IsMove way step.now → labels_of b.marks ≡ remove (labels_of self.marks) (mover way step.now)) }
         ensures more { IfOk result (λ b. self.next ≤ b.next) }
         ensures few { IfOk result (λ b. b.next ≤ self.next + 4) }
     {
@@ -168,6 +173,7 @@ impl Board {
         requires births { self.next + 4 < 2 ^ 32 }
         ensures items { IfOk result (λ b. (e : Edit) → IsStep self.items step.now e → b.items ≡ edited e self.items) }
         ensures marks { IfOk result (λ b. (e : Edit) → IsStep self.items step.now e → AreKept self b e) }
+        ensures labels { IfOk result (λ b. (way : Way) → IsMove way step.now → labels_of b.marks ≡ remove (labels_of self.marks) (mover way step.now)) }
         ensures more { IfOk result (λ b. self.next ≤ b.next) }
         ensures few { IfOk result (λ b. b.next ≤ self.next + 4) }
     {

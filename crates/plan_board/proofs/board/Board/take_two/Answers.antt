@@ -12,7 +12,7 @@ use Rattle.plan_board.specs.Marking.{HasLabelBefore}
 use Rattle.plan_board.specs.Putting.{put_at, items_in, placeholder}
 use Rattle.plan_board.proofs.EditPuts.{change}
 use Rattle.plan_board.proofs.Puts.{put_within}
-use Rattle.plan_board.proofs.Taken.{TwoInParts, two_items, two_marks, in_order, get_other, few_above, few_below, label_for}
+use Rattle.plan_board.proofs.Taken.{TwoInParts, two_items, two_labels, two_marks, in_order, get_other, few_above, few_below, label_for}
 use Rattle.plan_board.proofs.board.Board.take_two.Goals as goal
 
 pub lift-lifted-requires : goal.lift-lifted-requires
@@ -101,6 +101,31 @@ returns-clause-items c =
 pub returns-clause-marks : goal.returns-clause-marks
 returns-clause-marks c =
     two_marks c.args.self c.lift-lifted.result.0 c.lift-again.result.0 c.in_ok-between.between c.in_ok-after.after c.args.step.now c.args.upper c.args.lower
+    c.lift-lifted.result.1 c.lift-again.result.1 (items_in c.in_ok-left.left.above) (items_in c.in_ok-left.left.below)
+    (record {
+      join = c.requires.join;
+      first = c.requires.first;
+      last = c.requires.last;
+      upper_at = c.lift-lifted.ensures.rule;
+      lower_at = c.lift-again.ensures.rule;
+      as_many = c.lift-lifted.ensures.as_many;
+      lifted_items = c.lift-lifted.ensures.items;
+      lifted_marks = c.lift-lifted.ensures.marks;
+      lifted_next = c.lift-lifted.ensures.next;
+      again_items = c.lift-again.ensures.items;
+      again_marks = c.lift-again.ensures.marks;
+      again_next = c.lift-again.ensures.next;
+      changes = c.in_ok-left.ensures.changes;
+      between_items = c.in_ok-between.ensures.items;
+      between_marks = c.in_ok-between.ensures.marks;
+      between_next = c.in_ok-between.ensures.next;
+      items = c.in_ok-after.ensures.items;
+      marks = c.in_ok-after.ensures.marks;
+    })
+
+pub returns-clause-labels : goal.returns-clause-labels
+returns-clause-labels c =
+    two_labels c.args.self c.lift-lifted.result.0 c.lift-again.result.0 c.in_ok-between.between c.in_ok-after.after c.args.step.now c.args.upper c.args.lower
     c.lift-lifted.result.1 c.lift-again.result.1 (items_in c.in_ok-left.left.above) (items_in c.in_ok-left.left.below)
     (record {
       join = c.requires.join;
