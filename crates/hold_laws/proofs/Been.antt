@@ -25,6 +25,7 @@ use Rattle.wall_laws.specs.Holding.{HasRoom}
 use Rattle.wall_laws.specs.Renumbering.{Leaves, new_number, renumbered, renumbered_edit, IsOfTwo, ItemsStay}
 use Rattle.wall_laws.specs.SideBySide.{HasCome, StepsComeBack, SavingsGoOn}
 use Rattle.hold_laws.specs.Before.{HasBeen, CutsHaveBeen}
+use Rattle.hold_laws.specs.Facts.{HasNoCut}
 use Rattle.hold_laws.proofs.Elsewhere.{here_or_elsewhere, stands_elsewhere, replaced, stood_elsewhere}
 
 -- ---- What a step moves stands in the items that it takes
@@ -85,8 +86,7 @@ stood stay d items n y leaves less at =
     let w : (x : Item) × (slice_get items n ≡ Some x) = item_at items n less in
     w.1 ∙ sym (stay d items n w.0 leaves w.1) ∙ at
 
-module _ (rearrange : StepsRearrange) (stay : ItemsStay) (sound_on : StepsStaySound) (savings : SavingsGoOn) (source : List ℕ) (items : List Item) (j : Step) (d : Edit) (is : IsStep items j d) (sound : IsSound source items)
-    (n : ℕ) (leaves : Leaves d n) (less : n < length items) where
+module _ (rearrange : StepsRearrange) (stay : ItemsStay) (items : List Item) (j : Step) (d : Edit) (is : IsStep items j d) (n : ℕ) (leaves : Leaves d n) (less : n < length items) where
   abbrev n' : ℕ
   n' = new_number d items n
 
@@ -108,58 +108,78 @@ module _ (rearrange : StepsRearrange) (stay : ItemsStay) (sound_on : StepsStaySo
       which (inl h) = still ((replaced (edited d items) n' by m' (Rule r) p behind).0 (none p (has_at (edited d items) n' r p behind ((has_rule r p).0 h))))
       which (inr h) = (replaced items n by m (Rule r) p at).1 (inr h)
 
-  decl_been : (i : ℕ) (e' : Edit) → IsStep (edited d items) (CutDecl n' i) e' → HasBeen source items d (CutDecl n' i) e'
+  abbrev DeclCut : ℕ → RuleParts → Type 0
+  DeclCut i r = IsStep items (CutDecl n i) (cut_decl n i r) × (slice_get items n ≡ Some (Rule r))
+
+  pub decl_stood : (i : ℕ) (e' : Edit) → (c : IsStep (edited d items) (CutDecl n' i) e') → DeclCut i c.rule
+  decl_stood i e' c = (
+    record {
+      rule = c.rule;
+      rule_at = at;
+      part = c.part;
+      no_pair_goes = none_went c.rule (rule_or_none (record { selectors = c.rule.selectors; decls = remove c.rule.decls i })) (whole_rule n c.rule) (whole_rule n' c.rule) at c.no_pair_goes;
+      is = refl;
+    },
+    at,
+  )
+    where
+      at : slice_get items n ≡ Some (Rule c.rule)
+      at = stood stay d items n (Rule c.rule) leaves less c.rule_at
+
+  abbrev SelectorCut : ℕ → RuleParts → Type 0
+  SelectorCut i r = IsStep items (CutSel n i) (cut_selector n i r) × (slice_get items n ≡ Some (Rule r))
+
+  pub selector_stood : (i : ℕ) (e' : Edit) → (c : IsStep (edited d items) (CutSel n' i) e') → SelectorCut i c.rule
+  selector_stood i e' c = (
+    record {
+      rule = c.rule;
+      rule_at = at;
+      part = c.part;
+      no_pair_goes = none_went c.rule (rule_or_none (record { selectors = remove c.rule.selectors i; decls = c.rule.decls })) (whole_rule n c.rule) (whole_rule n' c.rule) at c.no_pair_goes;
+      is = refl;
+    },
+    at,
+  )
+    where
+      at : slice_get items n ≡ Some (Rule c.rule)
+      at = stood stay d items n (Rule c.rule) leaves less c.rule_at
+
+module _ (rearrange : StepsRearrange) (stay : ItemsStay) (sound_on : StepsStaySound) (savings : SavingsGoOn) (source : List ℕ) (items : List Item) (j : Step) (d : Edit) (is : IsStep items j d) (sound : IsSound source items)
+    (n : ℕ) (leaves : Leaves d n) (less : n < length items) where
+  decl_been : (i : ℕ) (e' : Edit) → IsStep (edited d items) (CutDecl (new_number d items n) i) e' → HasBeen source items d (CutDecl (new_number d items n) i) e'
   decl_been i e' c = record {
     step = CutDecl n i;
     edit = cut_decl n i c.rule;
-    is_step = here;
+    is_step = here.0;
     others = (leaves, leaves);
     step_is = refl;
     edit_is = c.is;
     saves = λ m. subst (λ (x : Edit). Saves source items (cut_decl n i c.rule) m ↔ Saves source (edited d items) x m) (sym c.is)
-        (savings source items (edited d items) (new_number d items) (CutDecl n i) (cut_decl n i c.rule) c.rule c.rule sound (sound_on source items j d is sound) here behind at at c.rule_at c.rule_at m);
+        (savings source items (edited d items) (new_number d items) (CutDecl n i) (cut_decl n i c.rule) c.rule c.rule sound (sound_on source items j d is sound) here.0 behind here.1 here.1 c.rule_at c.rule_at m);
   }
     where
-      at : slice_get items n ≡ Some (Rule c.rule)
-      at = stood stay d items n (Rule c.rule) leaves less c.rule_at
+      here : IsStep items (CutDecl n i) (cut_decl n i c.rule) × (slice_get items n ≡ Some (Rule c.rule))
+      here = decl_stood rearrange stay items j d is n leaves less i e' c
 
-      here : IsStep items (CutDecl n i) (cut_decl n i c.rule)
-      here = record {
-        rule = c.rule;
-        rule_at = at;
-        part = c.part;
-        no_pair_goes = none_went c.rule (rule_or_none (record { selectors = c.rule.selectors; decls = remove c.rule.decls i })) (whole_rule n c.rule) (whole_rule n' c.rule) at c.no_pair_goes;
-        is = refl;
-      }
-
-      behind : IsStep (edited d items) (CutDecl n' i) (cut_decl n' i c.rule)
+      behind : IsStep (edited d items) (CutDecl (new_number d items n) i) (cut_decl (new_number d items n) i c.rule)
       behind = record { rule = c.rule; rule_at = c.rule_at; part = c.part; no_pair_goes = c.no_pair_goes; is = refl }
 
-  selector_been : (i : ℕ) (e' : Edit) → IsStep (edited d items) (CutSel n' i) e' → HasBeen source items d (CutSel n' i) e'
+  selector_been : (i : ℕ) (e' : Edit) → IsStep (edited d items) (CutSel (new_number d items n) i) e' → HasBeen source items d (CutSel (new_number d items n) i) e'
   selector_been i e' c = record {
     step = CutSel n i;
     edit = cut_selector n i c.rule;
-    is_step = here;
+    is_step = here.0;
     others = (leaves, leaves);
     step_is = refl;
     edit_is = c.is;
     saves = λ m. subst (λ (x : Edit). Saves source items (cut_selector n i c.rule) m ↔ Saves source (edited d items) x m) (sym c.is)
-        (savings source items (edited d items) (new_number d items) (CutSel n i) (cut_selector n i c.rule) c.rule c.rule sound (sound_on source items j d is sound) here behind at at c.rule_at c.rule_at m);
+        (savings source items (edited d items) (new_number d items) (CutSel n i) (cut_selector n i c.rule) c.rule c.rule sound (sound_on source items j d is sound) here.0 behind here.1 here.1 c.rule_at c.rule_at m);
   }
     where
-      at : slice_get items n ≡ Some (Rule c.rule)
-      at = stood stay d items n (Rule c.rule) leaves less c.rule_at
+      here : IsStep items (CutSel n i) (cut_selector n i c.rule) × (slice_get items n ≡ Some (Rule c.rule))
+      here = selector_stood rearrange stay items j d is n leaves less i e' c
 
-      here : IsStep items (CutSel n i) (cut_selector n i c.rule)
-      here = record {
-        rule = c.rule;
-        rule_at = at;
-        part = c.part;
-        no_pair_goes = none_went c.rule (rule_or_none (record { selectors = remove c.rule.selectors i; decls = c.rule.decls })) (whole_rule n c.rule) (whole_rule n' c.rule) at c.no_pair_goes;
-        is = refl;
-      }
-
-      behind : IsStep (edited d items) (CutSel n' i) (cut_selector n' i c.rule)
+      behind : IsStep (edited d items) (CutSel (new_number d items n) i) (cut_selector (new_number d items n) i c.rule)
       behind = record { rule = c.rule; rule_at = c.rule_at; part = c.part; no_pair_goes = c.no_pair_goes; is = refl }
 
 pub cuts_have_been : StepsRearrange → ItemsStay → StepsStaySound → SavingsGoOn → (source : List ℕ) (items : List Item) (j : Step) (d : Edit) (k' : Step) (e' : Edit) → IsStep items j d → IsSound source items →
@@ -175,6 +195,18 @@ cuts_have_been rearrange stay sound_on savings source items j d (JoinSelDown x y
 cuts_have_been rearrange stay sound_on savings source items j d (JoinDeclUp x y) e' is sound one cut come = absurd (one tt)
 cuts_have_been rearrange stay sound_on savings source items j d (JoinDeclDown x y) e' is sound one cut come = absurd (one tt)
 cuts_have_been rearrange stay sound_on savings source items j d (Share x y) e' is sound one cut come = absurd (one tt)
+
+-- and where none could be, none can
+pub no_cut_comes : StepsRearrange → ItemsStay → (items : List Item) (j : Step) (d : Edit) → IsStep items j d → (n : ℕ) → Leaves d n → n < length items → HasNoCut items n → HasNoCut (edited d items) (new_number d items n)
+no_cut_comes rearrange stay items j d is n leaves less none (CutDecl m i) one same (e', c) =
+    none (CutDecl n i) (λ h. h) refl (_, (decl_stood rearrange stay items j d is n leaves less i e' (subst (λ (x : ℕ). IsStep (edited d items) (CutDecl x i) e') same c)).0)
+no_cut_comes rearrange stay items j d is n leaves less none (CutSel m i) one same (e', c) =
+    none (CutSel n i) (λ h. h) refl (_, (selector_stood rearrange stay items j d is n leaves less i e' (subst (λ (x : ℕ). IsStep (edited d items) (CutSel x i) e') same c)).0)
+no_cut_comes rearrange stay items j d is n leaves less none (JoinSelUp x y) one same h = one tt
+no_cut_comes rearrange stay items j d is n leaves less none (JoinSelDown x y) one same h = one tt
+no_cut_comes rearrange stay items j d is n leaves less none (JoinDeclUp x y) one same h = one tt
+no_cut_comes rearrange stay items j d is n leaves less none (JoinDeclDown x y) one same h = one tt
+no_cut_comes rearrange stay items j d is n leaves less none (Share x y) one same h = one tt
 
 -- ---- All steps
 

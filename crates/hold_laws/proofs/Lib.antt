@@ -5,10 +5,16 @@ mod Elsewhere
 mod FlooredJoins
 mod HeldSteps
 mod HoldExamples
+mod JoinKinds
+mod Joined
+mod JoinedCuts
 mod Led
+mod MadeParts
 mod Names
 mod Ordered
+mod OwnParts
 mod Rooms
+mod Standing
 mod WalledItems
 mod WalledJoins
 mod WalledTurns

@@ -1,6 +1,7 @@
 pub mod Before
 pub mod Behind
 pub mod Births
+pub mod Facts
 pub mod Held
 pub mod Leads
 pub mod Room

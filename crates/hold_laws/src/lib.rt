@@ -5,6 +5,7 @@
 mod before;
 mod behind;
 mod births;
+mod facts;
 mod held;
 mod leads;
 mod room;
@@ -16,6 +17,7 @@ mod way;
 pub use before::{cuts_have_been, no_step_adds_pairs, steps_have_been};
 pub use behind::{going_on_is_side_by_side, hindered_goes_on};
 pub use births::{births_tell_items, old_owners_have_come, owners_stay};
+pub use facts::{joined_has_no_cut, joined_has_own_parts, no_cut_comes, own_parts_stay};
 pub use held::{held_steps_are_covered, steps_are_set_aside, steps_held_go_on};
 pub use leads::{
     first_lead_is_taken, held_goes_over, held_may_change, leads_go_on, no_lead_is_done,
