@@ -1,12 +1,12 @@
 -- Numbers that ascend, with one more or one less.
-use Rattle.std.proofs.Common.{◌≡◌, ◌⊎◌, inl, inr, ℕ, ◌+◌, ◌-◌, ◌<◌, ◌≤◌, List, [], ◌∷◌, length, get_or, Some, Result, Ok, Err, sym, ap, ◌∙◌, subst, IsPermutation, arith}
+use Rattle.std.proofs.Common.{◌≡◌, ◌⊎◌, inl, inr, ℕ, ◌+◌, ◌-◌, ◌<◌, ◌≤◌, List, [], ◌∷◌, length, get_or, Some, Result, Ok, Err, sym, ◌∙◌, subst, IsPermutation, arith}
 use Rattle.std.specs.Prelude.{slice_get}
 use Rattle.std.specs.List.{AllPairs, Contains, insert, remove}
 use Rattle.std.specs.List.Sorted.{IsBinarySearchResult, IsStrictlyIncreasing}
 use Rattle.std.specs.Ordering.{nat_cmp}
 use Rattle.std.proofs.lemmas.Bool.{cases_lt}
 use Rattle.std.proofs.lemmas.List.{get_or_default}
-use Rattle.std.proofs.lemmas.List.Edits.{get_or-insert_above, get_or-insert_at, get_or-insert_below, get_or-remove_above, get_or-remove_below, length-insert, length-remove}
+use Rattle.std.proofs.lemmas.List.Edits.{get_or-remove_above, get_or-remove_below, length-remove}
 use Rattle.std.proofs.lemmas.List.Kept.{AllPairs-from_increasing}
 use Rattle.std.proofs.lemmas.List.Quantifiers.{all_pairs_remove}
 use Rattle.std.proofs.lemmas.List.Sorted.{Contains-permutation, IsPermutation-insert, IsPermutation-remove, IsPermutation-sym, searched}
@@ -34,58 +34,7 @@ last_place xs x last ascends at less = (
     is : get_or xs (length xs - 1) 0 ≡ last
     is = get_or_from_slice_get xs (length xs - 1) last 0 (sym at)
 
-pub stands : (xs : List ℕ) (x i : ℕ) → IsPlaceAmong xs x (Ok i) → Contains xs x
-stands xs x i (within, is) = (i, within, get_or_default xs i x 0 within ∙ is)
-
-pub stands_not : (xs : List ℕ) (x i : ℕ) → IsPlaceAmong xs x (Err i) → Contains xs x → ⊥
-stands_not xs x i (within, below, above) (k, less, is) =
-    let here : get_or xs k 0 ≡ x = get_or_default xs k 0 x less ∙ is in
-    elim (cases_lt k i) [
-      | inl l ↦ (let h : get_or xs k 0 < x = below k l in omega (arith, h, here))
-      | inr l ↦ (let h : x < get_or xs k 0 = above k l less in omega (arith, h, here))
-    ]
-
 -- ---- One more
-
-less_as : (a b c d : ℕ) → c ≡ a → d ≡ b → a < b → c < d
-less_as a b c d e f l = omega (arith, e, f, l)
-
-pub inserted_ascends : (xs : List ℕ) (x i : ℕ) → IsStrictlyIncreasing xs → IsPlaceAmong xs x (Err i) → IsStrictlyIncreasing (insert xs i x)
-inserted_ascends xs x i ascends (within, below, above) k less =
-    elim (cases_lt (k + 1) i) [
-      | inl l ↦ less_as _ _ _ _ (old_below k (omega (arith, l))) (old_below (k + 1) l) (ascends k (omega (arith, l, within)))
-      | inr l ↦ elim (cases_lt k i) [
-        | inl m ↦ less_as _ _ _ _ (old_below k m) (here (k + 1) (omega (arith, l, m))) (below k m)
-        | inr m ↦ elim (cases_lt i k) [
-          | inl n ↦ less_as _ _ _ _ (old_above k n) (old_behind k m) (later n)
-          | inr n ↦ less_as _ _ _ _ (here k (omega (arith, m, n))) (old_behind k m) (above k m in_xs)
-        ]
-      ]
-    ]
-  where
-    new : ℕ → ℕ
-    new j = get_or (insert xs i x) j 0
-
-    in_xs : k < length xs
-    in_xs = (let e : length (insert xs i x) ≡ length xs + 1 = length-insert xs i x within in omega (arith, e, less))
-
-    old_below : (j : ℕ) → j < i → get_or (insert xs i x) j 0 ≡ get_or xs j 0
-    old_below j l = get_or-insert_below xs i x 0 j l within
-
-    here : (j : ℕ) → j ≡ i → get_or (insert xs i x) j 0 ≡ x
-    here j e = ap new e ∙ get_or-insert_at xs i x 0 within
-
-    old_behind : (j : ℕ) → i ≤ j → get_or (insert xs i x) (j + 1) 0 ≡ get_or xs j 0
-    old_behind j l = get_or-insert_above xs i x 0 j l within
-
-    back : (j : ℕ) → i < j → j ≡ j - 1 + 1
-    back j l = omega (arith, l)
-
-    old_above : (j : ℕ) → i < j → get_or (insert xs i x) j 0 ≡ get_or xs (j - 1) 0
-    old_above j l = ap new (back j l) ∙ old_behind (j - 1) (omega (arith, l))
-
-    later : i < k → get_or xs (k - 1) 0 < get_or xs k 0
-    later l = subst (λ (n : ℕ). get_or xs (k - 1) 0 < get_or xs n 0) (sym (back k l)) (ascends (k - 1) (subst (λ (n : ℕ). n < length xs) (back k l) in_xs))
 
 pub puts_inserted : (xs : List ℕ) (x i : ℕ) → Puts xs (x ∷ []) (insert xs i x)
 puts_inserted xs x i y = (
@@ -101,16 +50,6 @@ puts_inserted xs x i y = (
     back (inl h) = Contains-there x xs y h
     back (inr h) = elim (Contains-cons_cases x [] y h) [
       | inl e ↦ subst (λ (z : ℕ). Contains (z ∷ xs) y) (sym e) (Contains-here y xs)
-      | inr n ↦ absurd (Contains-nil y n)
-    ]
-
-pub puts_there : (xs : List ℕ) (x : ℕ) → Contains xs x → Puts xs (x ∷ []) xs
-puts_there xs x there y = (λ h. inl h, back)
-  where
-    back : Contains xs y ⊎ Contains (x ∷ []) y → Contains xs y
-    back (inl h) = h
-    back (inr h) = elim (Contains-cons_cases x [] y h) [
-      | inl e ↦ subst (Contains xs) e there
       | inr n ↦ absurd (Contains-nil y n)
     ]
 
@@ -151,12 +90,3 @@ takes_removed xs x i ascends (within, is) y = (
     back : (x ≡ y) ⊎ Contains (remove xs i) y → ¬ Contains (x ∷ []) y → Contains (remove xs i) y
     back (inl e) n = absurd (n (subst (λ (z : ℕ). Contains (z ∷ []) y) (sym e) (Contains-here y [])))
     back (inr h) n = h
-
-pub takes_absent : (xs : List ℕ) (x : ℕ) → (Contains xs x → ⊥) → TakesOut xs (x ∷ []) xs
-takes_absent xs x absent y = (λ h. (h, λ k. other h k), λ h. h.0)
-  where
-    other : Contains xs y → Contains (x ∷ []) y → ⊥
-    other h k = elim (Contains-cons_cases x [] y k) [
-      | inl e ↦ absent (subst (Contains xs) (sym e) h)
-      | inr n ↦ Contains-nil y n
-    ]

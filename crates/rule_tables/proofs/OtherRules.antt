@@ -13,7 +13,7 @@ use Rattle.list_facts.proofs.Members.{Contains-cons_cases, Contains-nil}
 use Rattle.rule_tables.specs.declared.entries.Entry.{Entry}
 use Rattle.rule_tables.specs.Digests.{selector_digest, decl_digest}
 use Rattle.rule_tables.specs.Entries.{entry}
-use Rattle.rule_tables.specs.Pairs.{AnotherHasBoth, LabelHasBoth}
+use Rattle.rule_tables.specs.Pairs.{LabelHasBoth}
 use Rattle.rule_tables.specs.Tables.{Cover, Labelled, TableParts, entries_by_decl, entries_by_selector, labelled, with_label}
 use Rattle.rule_tables.proofs.EntrySets.{mapped, unmapped}
 use Rattle.rule_tables.proofs.Standing.{in_flat}
@@ -51,9 +51,6 @@ module _ (rules : List Labelled) (own : ℕ) (s : SelectorParts) (d : Decl) wher
     | inl same ↦ absurd (failed (subst IsOther (sym same) other))
     | inr r ↦ r
   ]
-
-  pub is_another : (label : ℕ) → IsOther label → AnotherHasBoth rules own s d
-  is_another label other = (label, other.0, other.1)
 
   under_decl : (keys : List Entry) → ((e : Entry) → Contains (flat_map entries_by_decl rules) e → Contains keys e) → (label : ℕ) → LabelHasBoth rules label s d → Contains keys (entry (decl_digest d) label)
   under_decl keys cover label (r, in_list, has) =
