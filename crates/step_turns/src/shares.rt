@@ -6,7 +6,7 @@ ghost use Rattle.std.specs.List.{AllByRecursion};
 ghost use Rattle.css_model.specs.declared.sheet.Item.TheVariants as item;
 ghost use Rattle.css_model.specs.Sheets.Limits.{max_bytes};
 ghost use Rattle.css_model.specs.Sheets.Printed.{printed_declaration, printed_selector};
-ghost use Rattle.css_model.specs.Sheets.Sound.{IsSoundDeclaration, IsSoundSelector};
+ghost use Rattle.css_model.specs.Sheets.Sound.{IsSoundDeclaration};
 ghost use Rattle.merge_plan.specs.Planning.{IsSaving};
 ghost use Rattle.plan_laws.specs.Plannable.{IsPlannable};
 ghost use Rattle.step_laws.specs.declared.step.Step.TheVariants as kinds;
@@ -20,42 +20,10 @@ ghost use Rattle.step_turns.specs.Shares.{IsKept, among_weight, new_selectors};
 use crate::cuts::find_rule;
 use crate::doubles::are_decls_different;
 use crate::masks::has_own_family;
-use css_model::{DeclItem, Rule, SelItem};
+use css_model::{DeclItem, Rule};
 use merge_plan::KnownLengths;
 use plan_board::Board;
-use step_savings::{Lengths, are_decls_among, has_decl};
-
-/// The weight of selectors: the lengths of their texts, each with the sign behind it.
-fn selectors_weight(source: &KnownLengths<'_>, items: &[SelItem]) -> u64
-    requires sound { AllByRecursion (IsSoundSelector source.now) items.now }
-    requires small { sizes.weight (printed_selector source.now) items.now ≤ max_bytes }
-    ensures exact { result ≡ sizes.weight (printed_selector source.now) items.now }
-    ensures small { result ≤ max_bytes }
-{
-    let mut total: u64 = 0;
-    let mut rest = items;
-    'rest: while let Some((first, behind)) = rest.split_first() {
-        total += source.selector(first) + 1;
-        rest = behind;
-    }
-    total
-}
-
-/// The weight of declarations.
-fn decls_weight(source: &KnownLengths<'_>, items: &[DeclItem]) -> u64
-    requires sound { AllByRecursion (IsSoundDeclaration source.now) items.now }
-    requires small { sizes.weight (printed_declaration source.now) items.now ≤ max_bytes }
-    ensures exact { result ≡ sizes.weight (printed_declaration source.now) items.now }
-    ensures small { result ≤ max_bytes }
-{
-    let mut total: u64 = 0;
-    let mut rest = items;
-    'rest: while let Some((first, behind)) = rest.split_first() {
-        total += source.decl(first) + 1;
-        rest = behind;
-    }
-    total
-}
+use step_savings::{Lengths, are_decls_among, decls_weight, has_decl, selectors_weight};
 
 /// What the declarations weigh that are among others, together with something more, if that is above a limit. They are looked
 /// at only until it is known not to be.
