@@ -1,5 +1,8 @@
 pub mod EditPuts
+pub mod JoinedMasks
+pub mod Learnt
 pub mod MarkLists
+pub mod MaskUnions
 pub mod PutNumbers
 pub mod Puts
 pub mod Searched

@@ -1,9 +1,7 @@
 -- A step taken in parts: the rules lifted out, and what is left of them put in their places.
-use Rattle.std.proofs.Common.{◌≡◌, ◌≢◌, ◌⊎◌, ℕ, zero, suc, ◌+◌, ◌<◌, ◌≤◌, List, [], ◌∷◌, ◌++◌, length, set, Some, None, refl, sym, ap, ap₂, subst, ◌∙◌, arith}
+use Rattle.std.proofs.Common.{◌≡◌, ℕ, zero, suc, ◌+◌, ◌<◌, ◌≤◌, List, [], ◌∷◌, length, set, Some, refl, sym, ap, ap₂, subst, ◌∙◌, arith}
 use Rattle.std.specs.Prelude.{slice_get}
 use Rattle.std.specs.List.{remove}
-use Rattle.std.proofs.lemmas.List.{length-set}
-use Rattle.std.proofs.lemmas.Option.{slice_get_within}
 use Rattle.css_model.specs.declared.sheet.DeclItem.{DeclItem}
 use Rattle.css_model.specs.declared.sheet.Item.{Item}
 use Rattle.css_model.specs.declared.sheet.Item.TheVariants.{Rule}
@@ -19,15 +17,14 @@ use Rattle.step_laws.specs.declared.step.Step.{Step}
 use Rattle.step_laws.specs.declared.step.Step.TheVariants.{CutDecl, CutSel, JoinSelUp, JoinSelDown, JoinDeclUp, JoinDeclDown, Share}
 use Rattle.step_laws.specs.RuleParting.{common_decls, item_if_any, rule_or_none, without_decls}
 use Rattle.step_laws.specs.Steps.{IsStep, HasStep, edit_of, first_item, last_item}
-use Rattle.step_savings.proofs.ForCallers.{edit_is, first_rule, last_rule, has_part}
-use Rattle.step_savings.specs.CutParts.{HasPart}
+use Rattle.step_savings.proofs.ForCallers.{edit_is}
 use Rattle.plan_board.specs.declared.marks.Mark.{Mark}
 use Rattle.plan_board.specs.BoardParts.{BoardParts}
 use Rattle.plan_board.specs.MarkList.{IsLabelAt, labels_of}
 use Rattle.plan_board.specs.Marking.{AreKept, AreRenewed, HasLabelBefore, HasLabelFor}
 use Rattle.plan_board.specs.Putting.{put_at, placeholder}
 use Rattle.plan_board.proofs.EditPuts.{change, one_put, two_put, kept_one, kept_two}
-use Rattle.plan_board.proofs.Puts.{put_over, put_over_both, put_length, put_none_map, put_one_map}
+use Rattle.plan_board.proofs.Puts.{put_over, put_over_both, put_none_map, put_one_map}
 
 abbrev IsRuleAt : List Item → ℕ → RuleParts → Type 0
 IsRuleAt items n r = slice_get items n ≡ Some (Rule r)
@@ -68,11 +65,11 @@ few_left r = which r.selectors r.decls
     which (s ∷ selectors) [] = omega arith
     which (s ∷ selectors) (d ∷ decls) = omega arith
 
-abbrev first_by : List Change → List Item
+abbrev pub first_by : List Change → List Item
 first_by [] = []
 first_by (c ∷ changes) = c.by
 
-abbrev second_by : List Change → List Item
+abbrev pub second_by : List Change → List Item
 second_by [] = []
 second_by (c ∷ changes) = first_by changes
 
@@ -168,6 +165,26 @@ labels_behind k u l above below old between new next next' is lower upper way mo
     which (JoinSelUp x y) Down move same e f = absurd move
     which (JoinDeclUp x y) Down move same e f = absurd move
     which (Share x y) Down move same e f = absurd move
+
+-- a join puts one item in
+pub one_made : (k : Step) (u l : RuleParts) (above below : List Item) → (edit_of k u l).changes ≡ change (first_item k) above ∷ change (last_item k) below ∷ [] →
+    (way : Way) → IsMove way k → length above + length below ≡ 1
+one_made k u l above below is way move = which k way move (ap first_by is) (ap second_by is)
+  where
+    sum : (m n : ℕ) → m ≡ length above → n ≡ length below → m + n ≡ 1 → length above + length below ≡ 1
+    sum m n e f one = omega (arith, e, f, one)
+
+    which : (j : Step) (way : Way) → IsMove way j → first_by (edit_of j u l).changes ≡ above → second_by (edit_of j u l).changes ≡ below → length above + length below ≡ 1
+    which (JoinSelUp x y) way move e f = sum 1 0 (ap length e) (ap length f) refl
+    which (JoinSelDown x y) way move e f = sum 0 1 (ap length e) (ap length f) refl
+    which (JoinDeclUp x y) way move e f = sum 1 0 (ap length e) (ap length f) refl
+    which (JoinDeclDown x y) way move e f = sum 0 1 (ap length e) (ap length f) refl
+    which (CutDecl n i) Up move e f = absurd move
+    which (CutSel n i) Up move e f = absurd move
+    which (Share x y) Up move e f = absurd move
+    which (CutDecl n i) Down move e f = absurd move
+    which (CutSel n i) Down move e f = absurd move
+    which (Share x y) Down move e f = absurd move
 
 -- ---- A cut
 

@@ -2,10 +2,13 @@
 #![tactic(auto)]
 
 mod board;
+mod facts;
+mod marked;
 mod marks;
 mod parts;
 mod putting;
 mod taking;
 
 pub use board::Board;
+pub use facts::Facts;
 pub use marks::Mark;

@@ -65,7 +65,8 @@ impl Marks {
 
     /// The birth of the next mark.
     pub(crate) fn next(&self) -> u32
-        ensures { result ≡ self.now.next }
+        ensures next { result ≡ self.now.next }
+        ensures are_marks { AreMarks self.now.list self.now.next }
     {
         self.next
     }

@@ -1,13 +1,14 @@
 //! An item taken out of a board, and what is put in its place.
 
-ghost use Rattle.std.specs.Prelude.{◌≡◌, ◌<◌, ◌+◌, ◌^◌, IfOk, Some, length, map, slice_get, slice_set};
+ghost use Rattle.std.specs.Prelude.{◌≡◌, ◌<◌, ◌+◌, ◌^◌, IfOk, IfSome, Some, length, map, slice_get, slice_set};
 ghost use Rattle.css_model.specs.declared.sheet.Item.TheVariants as item;
 ghost use Rattle.css_model.specs.Sheets.RuleParts.{RuleParts};
+ghost use Rattle.plan_board.specs.JoinedMasks.{IsMaskOf};
 ghost use Rattle.plan_board.specs.Marking.{AreRenewed, HasLabelBefore};
 ghost use Rattle.plan_board.specs.Putting.{put_at, items_in, placeholder};
 ghost use Rattle.item_masks.specs.Masks.{item_mask};
 
-use crate::board::Board;
+use crate::marked::MarkedSheet;
 use crate::parts::Left;
 use css_model::{Item, Piece, Rule, Sheet};
 use item_masks::{ItemMask, rule_mask};
@@ -38,13 +39,27 @@ fn lift_mask(masks: &mut Vec<ItemMask>, number: u32)
     };
 }
 
-/// Puts the masks of what a step leaves in the place of the one of this number.
+/// The mask of a rule, if it is not known.
+fn mask_of(rule: &Rule, known: Option<ItemMask>) -> ItemMask
+    requires { IfSome known (λ m. m ≡ item_mask (item.Rule rule.now)) }
+    ensures { result ≡ item_mask (item.Rule rule.now) }
+{
+    match known {
+        Some(mask) => mask,
+        None => rule_mask(rule),
+    }
+}
+
+/// Puts the masks of what a step leaves in the place of the one of this number. Where it is one rule, its mask may be
+/// known.
 fn put_masks(
     mut masks: Vec<ItemMask>,
     number: u32,
     left: &Left,
+    known: Option<ItemMask>,
 ) -> Result<Vec<ItemMask>, AllocError>
-    requires { number < length masks.items }
+    requires at { number < length masks.items }
+    requires known { IfSome known (IsMaskOf (items_in left.now)) }
     ensures { IfOk result (λ new. new.items ≡ put_at number (map item_mask (items_in left.now)) masks.items) }
 {
     let number = number as usize;
@@ -54,7 +69,7 @@ fn put_masks(
             Ok(masks)
         }
         Left::One(rule) => {
-            masks[number] = rule_mask(rule);
+            masks[number] = mask_of(rule, known);
             Ok(masks)
         }
         Left::Two(above, below) => {
@@ -88,9 +103,9 @@ fn put_items(mut items: Vec<Item>, number: u32, left: Left) -> Result<Vec<Item>,
     }
 }
 
-impl Board {
+impl MarkedSheet {
     /// The rule of this number, and the board with an empty piece in its place.
-    pub(crate) fn lift(self, number: u32) -> (Board, Rule)
+    pub(crate) fn lift(self, number: u32) -> (MarkedSheet, Rule)
         requires { (r : RuleParts) × (slice_get self.items number ≡ Some (item.Rule r)) }
         ensures rule { slice_get self.items number ≡ Some (item.Rule result.1) }
         ensures items { result.0.items ≡ slice_set self.items number placeholder }
@@ -98,7 +113,7 @@ impl Board {
         ensures next { result.0.next ≡ self.next }
         ensures as_many { length self.marks ≡ length self.items }
     {
-        let Board {
+        let MarkedSheet {
             sheet,
             marks,
             mut masks,
@@ -107,7 +122,7 @@ impl Board {
         let rule = lift_rule(&mut items, number);
         lift_mask(&mut masks, number);
         let sheet = Sheet { items };
-        let board = Board {
+        let board = MarkedSheet {
             sheet,
             marks,
             masks,
@@ -115,26 +130,33 @@ impl Board {
         (board, rule)
     }
 
-    /// The board with what a step leaves in the place of the item of this number.
-    pub(crate) fn put(self, number: u32, left: Left) -> Result<Board, AllocError>
+    /// The board with what a step leaves in the place of the item of this number. Where it is one rule, its mask may
+    /// be known.
+    pub(crate) fn put(
+        self,
+        number: u32,
+        left: Left,
+        known: Option<ItemMask>,
+    ) -> Result<MarkedSheet, AllocError>
         requires at { number < length self.items }
         requires room { 1 < length (items_in left) → (0 < number) × HasLabelBefore self.marks number }
         requires births { self.next + 2 < 2 ^ 32 }
+        requires known { IfSome known (IsMaskOf (items_in left)) }
         ensures items { IfOk result (λ b. b.items ≡ put_at number (items_in left) self.items) }
         ensures marks { IfOk result (λ b. AreRenewed self.marks b.marks self.next number (length (items_in left))) }
         ensures next { IfOk result (λ b. b.next ≡ self.next + length (items_in left)) }
     {
-        let Board {
+        let MarkedSheet {
             sheet,
             marks,
             masks,
         } = self;
         let Sheet { items } = sheet;
         let marks = marks.put(number, &left)?;
-        let masks = put_masks(masks, number, &left)?;
+        let masks = put_masks(masks, number, &left, known)?;
         let items = put_items(items, number, left)?;
         let sheet = Sheet { items };
-        Ok(Board {
+        Ok(MarkedSheet {
             sheet,
             marks,
             masks,

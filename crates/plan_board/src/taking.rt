@@ -1,4 +1,4 @@
-//! A step taken in a board.
+//! A step taken in a marked sheet.
 
 ghost use Rattle.std.specs.Prelude.{◌≡◌, ◌↔◌, ◌≤◌, ◌<◌, ◌+◌, ◌^◌, ◌∷◌, [], IfOk, IsTrue, length};
 ghost use Rattle.std.specs.List.{remove};
@@ -13,14 +13,16 @@ ghost use Rattle.step_laws.specs.Steps.{HasStep, IsStep, edit_of, first_item, la
 ghost use Rattle.css_model.specs.declared.sheet.Item.TheVariants as item;
 ghost use Rattle.step_laws.specs.StepEdits as kinds;
 ghost use Rattle.step_savings.specs.CutParts.{HasPart};
+ghost use Rattle.plan_board.specs.JoinedMasks as masks;
 
-use crate::board::Board;
+use crate::marked::MarkedSheet;
 use crate::marks::Mark;
 use crate::parts::{
     Left, above_left, joined_down, joined_up, left_of, shared, widened_down, widened_up,
     without_decl, without_decls, without_selector,
 };
 use css_model::Rule;
+use item_masks::ItemMask;
 use std::alloc::{AllocError, Global};
 use step_laws::Step;
 use step_savings::items_of;
@@ -86,6 +88,22 @@ fn both_left(alloc: Global, step: &Step, upper: Rule, lower: Rule) -> Result<Hal
     }
 }
 
+/// The mask of the rule that a join makes of two rules with these masks: the bits of both.
+fn joined_mask(step: &Step, upper: ItemMask, lower: ItemMask) -> Option<ItemMask>
+    ensures { result ≡ masks.joined_mask step.now upper lower }
+{
+    match step {
+        Step::JoinSelUp { .. }
+        | Step::JoinSelDown { .. }
+        | Step::JoinDeclUp { .. }
+        | Step::JoinDeclDown { .. } => Some(ItemMask {
+            families: upper.families | lower.families,
+            selectors: upper.selectors | lower.selectors,
+        }),
+        _ => None,
+    }
+}
+
 /// A rule in the upper place.
 fn up(rule: Rule) -> Halves
     ensures above { items_in result.above ≡ item.Rule rule ∷ [] }
@@ -108,9 +126,9 @@ fn down(rule: Rule) -> Halves
     }
 }
 
-impl Board {
+impl MarkedSheet {
     /// Whether the new rule of a share finds a label between its neighbours. Each other step needs none.
-    pub fn has_label_for(&self, step: &Step) -> bool
+    pub(crate) fn has_label_for(&self, step: &Step) -> bool
         ensures { IsTrue result ↔ HasLabelFor self.now.marks step.now }
     {
         match *step {
@@ -120,7 +138,7 @@ impl Board {
     }
 
     /// The board after a cut.
-    fn take_cut(self, step: &Step, number: u32) -> Result<Board, AllocError>
+    fn take_cut(self, step: &Step, number: u32) -> Result<MarkedSheet, AllocError>
         requires is_step { HasStep self.items step.now }
         requires cut { IsCutKind step.now }
         requires number { number ≡ first_item step.now }
@@ -132,7 +150,7 @@ impl Board {
     {
         let (board, rule) = self.lift(number);
         let left = cut(step, rule);
-        let after = board.put(number, left)?;
+        let after = board.put(number, left, None)?;
         Ok(after)
     }
 
@@ -143,7 +161,7 @@ impl Board {
         step: &Step,
         upper: u32,
         lower: u32,
-    ) -> Result<Board, AllocError>
+    ) -> Result<MarkedSheet, AllocError>
         requires is_step { HasStep self.items step.now }
         requires join { IsJoinKind step.now }
         requires first { upper ≡ first_item step.now }
@@ -154,20 +172,22 @@ impl Board {
         ensures marks { IfOk result (λ b. (e : Edit) → IsStep self.items step.now e → AreKept self b e) }
         ensures labels { IfOk result (λ b. (way : Way) → IsMove way step.now → labels_of b.marks ≡ remove (labels_of self.marks) (mover way step.now)) }
         ensures more { IfOk result (λ b. self.next ≤ b.next) }
+        ensures born { IfOk result (λ b. (way : Way) → IsMove way step.now → self.next < b.next) }
         ensures few { IfOk result (λ b. b.next ≤ self.next + 4) }
     {
+        let known = joined_mask(step, self.mask(upper), self.mask(lower));
         let (lifted, above) = self.lift(upper);
         let (again, below) = lifted.lift(lower);
         let left = both_left(alloc, step, above, below)?;
         let Halves { above, below } = left;
-        let between = again.put(lower, below)?;
-        let after = between.put(upper, above)?;
+        let between = again.put(lower, below, known)?;
+        let after = between.put(upper, above, known)?;
         Ok(after)
     }
 
     /// The board after one of its steps, which is taken in place: the items that it does not take keep their
     /// marks, and the others are born later than all before. After an error nothing is left.
-    pub fn take(self, alloc: Global, step: &Step) -> Result<Board, AllocError>
+    pub(crate) fn take(self, alloc: Global, step: &Step) -> Result<MarkedSheet, AllocError>
         requires is_step { HasStep self.items step.now }
         requires label { HasLabelFor self.marks step.now }
         requires births { self.next + 4 < 2 ^ 32 }
@@ -175,6 +195,7 @@ impl Board {
         ensures marks { IfOk result (λ b. (e : Edit) → IsStep self.items step.now e → AreKept self b e) }
         ensures labels { IfOk result (λ b. (way : Way) → IsMove way step.now → labels_of b.marks ≡ remove (labels_of self.marks) (mover way step.now)) }
         ensures more { IfOk result (λ b. self.next ≤ b.next) }
+        ensures born { IfOk result (λ b. (way : Way) → IsMove way step.now → self.next < b.next) }
         ensures few { IfOk result (λ b. b.next ≤ self.next + 4) }
     {
         let (first, last) = items_of(step);

@@ -1,6 +1,4 @@
-use Rattle.std.proofs.Common.{◌≡◌, ◌<◌, List, length, subst, sym}
-use Rattle.std.specs.List.{insert}
-use Rattle.plan_board.specs.MarkList.{AreMarks}
+use Rattle.std.proofs.Common.{◌<◌, length}
 use Rattle.plan_board.proofs.MarkLists.{split_marks, split_is, within_is}
 use Rattle.plan_board.proofs.marks.Marks.split.Goals as goal
 

@@ -1,5 +1,3 @@
-use Rattle.std.proofs.Common.{subst, sym}
-use Rattle.plan_board.specs.Marking.{AreRenewed}
 use Rattle.plan_board.proofs.MarkLists.{marks_without, without_is, within_is}
 use Rattle.plan_board.proofs.marks.Marks.without.Goals as goal
 

@@ -1,4 +1,4 @@
-use Rattle.std.proofs.Common.{◌≡◌, ◌<◌, ◌≤◌, ◌+◌, ◌++◌, ℕ, List, [], ◌∷◌, length, set, Some, ap, sym, subst, ◌∙◌, arith}
+use Rattle.std.proofs.Common.{◌≡◌, ◌<◌, ◌≤◌, ◌+◌, ℕ, List, [], ◌∷◌, length, Some, ap, sym, subst, ◌∙◌, arith}
 use Rattle.std.specs.Prelude.{slice_get}
 use Rattle.std.proofs.lemmas.List.{length-set}
 use Rattle.std.proofs.lemmas.Option.{slice_get_within}
@@ -9,11 +9,12 @@ use Rattle.step_laws.specs.Steps.{first_item, last_item}
 use Rattle.step_savings.proofs.ForCallers.{first_rule, last_rule}
 use Rattle.plan_board.specs.declared.marks.Mark.{Mark}
 use Rattle.plan_board.specs.Marking.{HasLabelBefore}
-use Rattle.plan_board.specs.Putting.{put_at, items_in, placeholder}
+use Rattle.plan_board.specs.Putting.{items_in, placeholder}
 use Rattle.plan_board.proofs.EditPuts.{change}
+use Rattle.plan_board.proofs.JoinedMasks.{above_known, below_known, masks_known}
 use Rattle.plan_board.proofs.Puts.{put_within}
-use Rattle.plan_board.proofs.Taken.{TwoInParts, two_items, two_labels, two_marks, in_order, get_other, few_above, few_below, label_for}
-use Rattle.plan_board.proofs.board.Board.take_two.Goals as goal
+use Rattle.plan_board.proofs.Taken.{two_items, two_labels, two_marks, in_order, get_other, one_made, few_above, few_below, label_for}
+use Rattle.plan_board.proofs.marked.MarkedSheet.take_two.Goals as goal
 
 pub lift-lifted-requires : goal.lift-lifted-requires
 lift-lifted-requires c =
@@ -51,6 +52,13 @@ put-requires-clause-room c = λ more.
 pub put-requires-clause-births : goal.put-requires-clause-births
 put-requires-clause-births c = omega (arith, c.requires.births, c.lift-again.ensures.next, c.lift-lifted.ensures.next)
 
+pub put-requires-clause-known : goal.put-requires-clause-known
+put-requires-clause-known c =
+    below_known (items_in c.in_ok-left.left.above) (items_in c.in_ok-left.left.below) c.joined_mask-known.result
+    (masks_known c.args.self.items c.lift-lifted.result.0.items c.args.step.now c.args.upper c.args.lower c.lift-lifted.result.1 c.lift-again.result.1 (items_in c.in_ok-left.left.above) (items_in c.in_ok-left.left.below)
+    c.mask.result c.mask-2.result c.joined_mask-known.result c.requires.join c.requires.is_step c.requires.first c.requires.last c.lift-lifted.ensures.rule c.lift-lifted.ensures.items c.lift-again.ensures.rule
+    c.in_ok-left.ensures.changes c.mask.ensures c.mask-2.ensures c.joined_mask-known.ensures)
+
 pub put-requires-2-clause-at : goal.put-requires-2-clause-at
 put-requires-2-clause-at c =
     let order : first_item c.args.step.now < last_item c.args.step.now = in_order c.args.self.items c.args.step.now c.requires.join c.requires.is_step in
@@ -66,6 +74,13 @@ put-requires-2-clause-room c = λ more.
     let few : length (items_in c.in_ok-left.left.above) ≤ 1 =
     few_above c.args.step.now c.lift-lifted.result.1 c.lift-again.result.1 (items_in c.in_ok-left.left.above) (change (last_item c.args.step.now) (items_in c.in_ok-left.left.below) ∷ []) c.in_ok-left.ensures.changes in
     absurd (omega (arith, more, few))
+
+pub put-requires-2-clause-known : goal.put-requires-2-clause-known
+put-requires-2-clause-known c =
+    above_known (items_in c.in_ok-left.left.above) (items_in c.in_ok-left.left.below) c.joined_mask-known.result
+    (masks_known c.args.self.items c.lift-lifted.result.0.items c.args.step.now c.args.upper c.args.lower c.lift-lifted.result.1 c.lift-again.result.1 (items_in c.in_ok-left.left.above) (items_in c.in_ok-left.left.below)
+    c.mask.result c.mask-2.result c.joined_mask-known.result c.requires.join c.requires.is_step c.requires.first c.requires.last c.lift-lifted.ensures.rule c.lift-lifted.ensures.items c.lift-again.ensures.rule
+    c.in_ok-left.ensures.changes c.mask.ensures c.mask-2.ensures c.joined_mask-known.ensures)
 
 pub put-requires-2-clause-births : goal.put-requires-2-clause-births
 put-requires-2-clause-births c =
@@ -158,3 +173,9 @@ returns-clause-few c =
     let two : length (items_in c.in_ok-left.left.below) ≤ 2 =
     few_below c.args.step.now c.lift-lifted.result.1 c.lift-again.result.1 (items_in c.in_ok-left.left.above) (items_in c.in_ok-left.left.below) c.in_ok-left.ensures.changes in
     omega (arith, few, two, c.in_ok-after.ensures.next, c.in_ok-between.ensures.next, c.lift-again.ensures.next, c.lift-lifted.ensures.next)
+
+pub returns-clause-born : goal.returns-clause-born
+returns-clause-born c = λ way move.
+    let one : length (items_in c.in_ok-left.left.above) + length (items_in c.in_ok-left.left.below) ≡ 1 =
+    one_made c.args.step.now c.lift-lifted.result.1 c.lift-again.result.1 (items_in c.in_ok-left.left.above) (items_in c.in_ok-left.left.below) c.in_ok-left.ensures.changes way move in
+    omega (arith, one, c.in_ok-after.ensures.next, c.in_ok-between.ensures.next, c.lift-again.ensures.next, c.lift-lifted.ensures.next)

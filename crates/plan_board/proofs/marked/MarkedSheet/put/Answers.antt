@@ -1,4 +1,4 @@
-use Rattle.std.proofs.Common.{◌≡◌, ◌<◌, List, length, map, ap, sym, subst, ◌∙◌}
+use Rattle.std.proofs.Common.{◌≡◌, List, length, map, ap, sym, subst, ◌∙◌}
 use Rattle.css_model.specs.declared.sheet.Item.{Item}
 use Rattle.css_model.specs.Sheets.SheetParts.{SheetParts}
 use Rattle.plan_board.specs.declared.marks.Mark.{Mark}
@@ -6,7 +6,7 @@ use Rattle.plan_board.specs.BoardParts.{BoardParts}
 use Rattle.plan_board.specs.Marking.{HasLabelBefore}
 use Rattle.plan_board.specs.Putting.{items_in, put_at}
 use Rattle.plan_board.proofs.Puts.{put_length, put_map}
-use Rattle.plan_board.proofs.board.Board.put.Goals as goal
+use Rattle.plan_board.proofs.marked.MarkedSheet.put.Goals as goal
 use Rattle.item_masks.specs.declared.mask.ItemMask.{ItemMask}
 use Rattle.item_masks.specs.Masks.{item_mask}
 

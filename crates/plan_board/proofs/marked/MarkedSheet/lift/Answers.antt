@@ -3,7 +3,7 @@ use Rattle.std.proofs.lemmas.List.{length-set, map-set}
 use Rattle.css_model.specs.declared.sheet.Item.{Item}
 use Rattle.css_model.specs.Sheets.SheetParts.{SheetParts}
 use Rattle.plan_board.specs.Putting.{placeholder}
-use Rattle.plan_board.proofs.board.Board.lift.Goals as goal
+use Rattle.plan_board.proofs.marked.MarkedSheet.lift.Goals as goal
 use Rattle.item_masks.specs.declared.mask.ItemMask.{ItemMask}
 use Rattle.item_masks.specs.Masks.{item_mask}
 

@@ -1,4 +1,4 @@
-use Rattle.std.proofs.Common.{◌≡◌, ◌<◌, ◌≤◌, ℕ, List, [], length, set, Some, ap, sym, subst, ◌∙◌, arith}
+use Rattle.std.proofs.Common.{◌≡◌, ◌<◌, ◌≤◌, ℕ, List, [], length, Some, ap, sym, subst, ◌∙◌, arith}
 use Rattle.std.specs.Prelude.{slice_get}
 use Rattle.std.proofs.lemmas.List.{length-set}
 use Rattle.std.proofs.lemmas.Option.{slice_get_within}
@@ -8,8 +8,8 @@ use Rattle.css_model.specs.Sheets.RuleParts.{RuleParts}
 use Rattle.step_laws.specs.Steps.{first_item}
 use Rattle.step_savings.proofs.ForCallers.{first_rule, has_part}
 use Rattle.plan_board.specs.Putting.{items_in, placeholder}
-use Rattle.plan_board.proofs.Taken.{CutInParts, cut_items, cut_marks, few_above}
-use Rattle.plan_board.proofs.board.Board.take_cut.Goals as goal
+use Rattle.plan_board.proofs.Taken.{cut_items, cut_marks, few_above}
+use Rattle.plan_board.proofs.marked.MarkedSheet.take_cut.Goals as goal
 
 pub lift-board-requires : goal.lift-board-requires
 lift-board-requires c =

@@ -1,7 +1,7 @@
 use Rattle.std.proofs.Common.{rules}
 use Rattle.std.proofs.lemmas.List.Sorted.{answers_always}
 use Rattle.plan_board.proofs.Searched.{label_searched}
-use Rattle.plan_board.proofs.board.find_label.Goals as goal
+use Rattle.plan_board.proofs.marked.find_label.Goals as goal
 
 -- the closure gives a mark's label
 pub returns : goal.returns

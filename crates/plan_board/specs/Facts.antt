@@ -1,0 +1,48 @@
+-- What is known of the rules of a board, by their births (own).
+use Rattle.std.specs.Prelude.{◌≡◌, ◌⊎◌, ℕ, ◌<◌, ◌≤◌, true, false, ◌&&◌, ◌||◌, List, Option, Some, IfSome, get_or, length, slice_get}
+use Rattle.css_model.specs.declared.sheet.Item.{Item}
+pub use Rattle.hold_laws.specs.Facts.{HasNoCut, HasOwnDecls, HasOwnSelectors}
+use Rattle.hold_laws.specs.declared.way.Way.{Way}
+use Rattle.hold_laws.specs.Ways.{IsMove}
+use Rattle.plan_board.specs.BoardParts.{BoardParts}
+use Rattle.plan_board.specs.declared.facts.Facts.{Facts}
+use Rattle.plan_board.specs.declared.marks.Mark.{Mark}
+use Rattle.step_laws.specs.declared.step.Step.{Step}
+use Rattle.step_laws.specs.Steps.{first_item, last_item}
+
+-- what is told of the rule of this number is so
+pub record AreTrueOf (items : List Item) (n : ℕ) (facts : Facts) : Type 0 where
+  pub no_cut : facts.no_cut ≡ true → HasNoCut items n
+  pub own_selectors : facts.own_selectors ≡ true → HasOwnSelectors items n
+  pub own_decls : facts.own_decls ≡ true → HasOwnDecls items n
+
+-- nothing is known; what is known by both; what is known by either
+abbrev pub nothing : Facts
+nothing = record { no_cut = false; own_selectors = false; own_decls = false }
+
+abbrev pub by_both : Facts → Facts → Facts
+by_both f g = record { no_cut = f.no_cut && g.no_cut; own_selectors = f.own_selectors && g.own_selectors; own_decls = f.own_decls && g.own_decls }
+
+abbrev pub by_either : Facts → Facts → Facts
+by_either f g = record { no_cut = f.no_cut || g.no_cut; own_selectors = f.own_selectors || g.own_selectors; own_decls = f.own_decls || g.own_decls }
+
+-- what is known of the rule of a birth
+abbrev pub facts_under : List Facts → ℕ → Facts
+facts_under known birth = get_or known birth nothing
+
+-- What is known of the rules of a board is so, and nothing is known of a rule that is not born.
+pub record AreKnown (board : BoardParts) (known : List Facts) : Type 0 where
+  pub are_true : (n : ℕ) (m : Mark) → slice_get board.marks n ≡ Some m → AreTrueOf board.items n (facts_under known m.birth)
+  pub few : length known ≤ board.next
+
+-- the step is a join, and this is so of both of its rules
+pub record AreTrueOfBoth (items : List Item) (k : Step) (facts : Facts) : Type 0 where
+  pub way : Way
+  pub move : IsMove way k
+  pub upper : AreTrueOf items (first_item k) facts
+  pub lower : AreTrueOf items (last_item k) facts
+
+-- Once something is known of a rule that is made, which has the next birth, the same is known of all others.
+pub record AreLearnt (old new : List Facts) (birth : ℕ) (made : Option Facts) : Type 0 where
+  pub each : (b : ℕ) → (facts_under new b ≡ facts_under old b) ⊎ ((b ≡ birth) × (made ≡ Some (facts_under new b)))
+  pub few : (n : ℕ) → length old ≤ n → IfSome made (λ _. birth < n) → length new ≤ n

@@ -1,0 +1,134 @@
+//! A sheet with the marks and the masks of its items.
+
+ghost use Rattle.std.specs.Prelude.{◌≡◌, ◌≤◌, ◌<◌, IfOk, IfSome, IfNone, OnErr, Some, length, map, slice_get};
+ghost use Rattle.css_model.specs.Sheets.Limits.{max_items};
+ghost use Rattle.plan_board.specs.MarkList.{AreMarks, Ascends, IsLabelAt, LacksLabel};
+ghost use Rattle.css_model.specs.declared.sheet.Item.{Item};
+ghost use Rattle.item_masks.specs.Masks.{item_mask};
+
+use crate::marks::{Mark, Marks};
+use css_model::Sheet;
+use item_masks::{ItemMask, item_masks};
+use std::alloc::{AllocError, Global};
+use std::marker::Model;
+
+/// A sheet with a mark and the mask of each item.
+#[derive(Debug, Drop)]
+pub(crate) struct MarkedSheet {
+    pub(crate) sheet: Sheet,
+    pub(crate) marks: Marks,
+    pub(crate) masks: Vec<ItemMask>,
+}
+
+impl Model for MarkedSheet {
+    ghost use Rattle.std.specs.Prelude.{◌≡◌, length, map};
+    ghost use Rattle.plan_board.specs.BoardParts.{BoardParts};
+    ghost use Rattle.item_masks.specs.Masks.{item_mask};
+
+    ghost Value = { BoardParts };
+
+    ghost view = { λ b. record { items = b.sheet.items; marks = b.marks.list; next = b.marks.next } };
+
+    ghost invariant = { λ b. (length b.marks.list ≡ length b.sheet.items) × (b.masks.items ≡ map item_mask b.sheet.items) };
+}
+
+/// The number of the mark with this label, if there is one.
+fn find_label(marks: &[Mark], label: u64) -> Result<usize, usize>
+    requires { Ascends marks.now }
+    ensures within { IfOk result (λ n. n < length marks.now) }
+    ensures found { IfOk result (IsLabelAt marks.now label) }
+    ensures absent { OnErr result (LacksLabel marks.now label) }
+{
+    marks.binary_search_by_key(&label, |mark| mark.label)
+}
+
+impl MarkedSheet {
+    /// The sheet with new marks, born in the order of the items.
+    pub(crate) fn new(alloc: Global, sheet: Sheet) -> Result<MarkedSheet, AllocError>
+        requires { length sheet.items ≤ max_items }
+        ensures items { IfOk result (λ b. b.items ≡ sheet.items) }
+        ensures next { IfOk result (λ b. b.next ≡ length sheet.items) }
+    {
+        let marks = Marks::new(alloc, sheet.items.len() as u32)?;
+        let masks = item_masks(alloc, &sheet.items)?;
+        Ok(MarkedSheet {
+            sheet,
+            marks,
+            masks,
+        })
+    }
+
+    /// The sheet.
+    pub(crate) fn sheet(&self) -> &Sheet
+        ensures { result.now.items ≡ self.now.items }
+    {
+        &self.sheet
+    }
+
+    /// The masks of its items, in their order.
+    pub(crate) fn masks(&self) -> &[ItemMask]
+        ensures { result.now ≡ map item_mask self.now.items }
+    {
+        &self.masks
+    }
+
+    /// The sheet, without its marks.
+    pub(crate) fn into_sheet(self) -> Sheet
+        ensures { result.items ≡ self.items }
+    {
+        let MarkedSheet {
+            sheet,
+            marks,
+            masks,
+        } = self;
+        drop(marks);
+        drop(masks);
+        sheet
+    }
+
+    /// The marks of its items, in their order: labels ascend, and births differ and are past.
+    pub(crate) fn marks(&self) -> &[Mark]
+        ensures marks { result.now ≡ self.now.marks }
+        ensures are_marks { AreMarks self.now.marks self.now.next }
+        ensures as_many { length self.now.marks ≡ length self.now.items }
+    {
+        self.marks.list()
+    }
+
+    /// The birth of the next item that is put in. All births are below it.
+    pub(crate) fn next(&self) -> u32
+        ensures next { result ≡ self.now.next }
+        ensures are_marks { AreMarks self.now.marks self.now.next }
+        ensures as_many { length self.now.marks ≡ length self.now.items }
+    {
+        self.marks.next()
+    }
+
+    /// The mark of the item of this number.
+    pub(crate) fn mark(&self, number: u32) -> Mark
+        requires { number < length self.now.items }
+        ensures { slice_get self.now.marks number ≡ Some result }
+    {
+        self.marks.list()[number as usize]
+    }
+
+    /// The mask of the item of this number.
+    pub(crate) fn mask(&self, number: u32) -> ItemMask
+        requires { number < length self.now.items }
+        ensures { (item : Item) → slice_get self.now.items number ≡ Some item → result ≡ item_mask item }
+    {
+        self.masks[number as usize]
+    }
+
+    /// The number of the item with this label, if there is one.
+    pub(crate) fn number_of(&self, label: u64) -> Option<u32>
+        requires { length self.now.items ≤ max_items }
+        ensures some { IfSome result (IsLabelAt self.now.marks label) }
+        ensures none { IfNone result (LacksLabel self.now.marks label) }
+    {
+        match find_label(self.marks(), label) {
+            Ok(number) => Some(number as u32),
+            Err(_) => None,
+        }
+    }
+}
