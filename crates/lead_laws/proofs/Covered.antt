@@ -27,7 +27,7 @@ use Rattle.wall_laws.specs.Renumbering.{new_number, ItemsStay}
 -- ---- Covered rules, one by one
 
 -- what one element brings
-of_one : {X Y : Type 0} (f : X → List Y) (x : X) (y : Y) → Contains (flat_map f (x ∷ [])) y → Contains (f x) y
+pub of_one : {X Y : Type 0} (f : X → List Y) (x : X) (y : Y) → Contains (flat_map f (x ∷ [])) y → Contains (f x) y
 of_one {X} {Y} f x y h = which (flat_map_from f (x ∷ []) y h)
   where
     which : (z : X) × Contains (x ∷ []) z × Contains (f z) y → Contains (f x) y
@@ -37,10 +37,10 @@ of_one {X} {Y} f x y h = which (flat_map_from f (x ∷ []) y h)
         same (inl e) = subst (λ (w : X). Contains (f w) y) (sym e) brings
         same (inr none) = absurd (Contains-nil z none)
 
-to_one : {X Y : Type 0} (f : X → List Y) (x : X) (y : Y) → Contains (f x) y → Contains (flat_map f (x ∷ [])) y
+pub to_one : {X Y : Type 0} (f : X → List Y) (x : X) (y : Y) → Contains (f x) y → Contains (flat_map f (x ∷ [])) y
 to_one f x y h = flat_map_has f (x ∷ []) x y (Contains-here x []) h
 
-one_covered : (tables : TableParts) (rules : List Labelled) (x : Labelled) → Cover tables rules → Contains rules x → Cover tables (x ∷ [])
+pub one_covered : (tables : TableParts) (rules : List Labelled) (x : Labelled) → Cover tables rules → Contains rules x → Cover tables (x ∷ [])
 one_covered tables rules x cover among = record {
   selectors = λ e h. cover.selectors e (flat_map_has entries_by_selector rules x e among (of_one entries_by_selector x e h));
   decls = λ e h. cover.decls e (flat_map_has entries_by_decl rules x e among (of_one entries_by_decl x e h));
@@ -98,7 +98,7 @@ labels_differ marks ascend i j a b a_at b_at less =
     (subst (λ (x : Mark). (get_or marks i a).label < x.label) (get_or_from_slice_get marks j b a b_at) (ascend i j a less (slice_get_within marks j b b_at)))
 
 -- items of different numbers have different labels
-other_label : (marks : List Mark) → Ascends marks → (i j : ℕ) (a b : Mark) → slice_get marks i ≡ Some a → slice_get marks j ≡ Some b → i ≢ j → a.label ≢ b.label
+pub other_label : (marks : List Mark) → Ascends marks → (i j : ℕ) (a b : Mark) → slice_get marks i ≡ Some a → slice_get marks j ≡ Some b → i ≢ j → a.label ≢ b.label
 other_label marks ascend i j a b a_at b_at apart same = elim (cases_lt i j) [
   | inl l ↦ (let less : a.label < b.label = labels_differ marks ascend i j a b a_at b_at l in absurd (omega (arith, less, same)))
   | inr l ↦ elim (cases_lt j i) [

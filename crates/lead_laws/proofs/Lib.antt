@@ -1,6 +1,7 @@
 mod BoardWalls
 mod Covered
 pub mod ForCallers
+mod Joined
 mod Kept
 mod Mending
 mod Moves

@@ -1,14 +1,17 @@
 -- What code keeps beside a board: tables that cover its rules, and the label of each birth (own).
 use Rattle.std.specs.Prelude.{◌≡◌, ℕ, ◌<◌, ◌≤◌, List, [], ◌∷◌, Some, slice_get}
+use Rattle.std.specs.List.{remove}
 use Rattle.css_model.specs.declared.sheet.Item.TheVariants.{Rule}
 use Rattle.css_model.specs.Sheets.RuleParts.{RuleParts}
+use Rattle.hold_laws.specs.declared.way.Way.{Way}
+use Rattle.hold_laws.specs.Ways.{mover, partner, IsMove}
 use Rattle.lead_laws.specs.MarkNames.{IsMarked}
 use Rattle.order_laws.specs.Edits.{Edit, edited}
 use Rattle.plan_board.specs.declared.marks.Mark.{Mark}
 use Rattle.plan_board.specs.BoardParts.{BoardParts}
 use Rattle.plan_board.specs.MarkList.{labels_of}
 use Rattle.plan_board.specs.Marking.{AreKept}
-use Rattle.rule_tables.specs.Tables.{TableParts, Labelled, Cover, HaveOtherLabels, labelled, with_label}
+use Rattle.rule_tables.specs.Tables.{TableParts, Labelled, Cover, HaveOtherLabels, PutsRule, TakesRule, labelled, with_label}
 use Rattle.step_laws.specs.declared.step.Step.{Step}
 use Rattle.step_laws.specs.Steps.{IsStep, first_item, last_item}
 use Rattle.wall_laws.specs.Renumbering.{Leaves}
@@ -34,6 +37,18 @@ abbrev pub OthersStayCovered : Type 0
 OthersStayCovered = (b : BoardParts) (k : Step) (e : Edit) (tables later : TableParts) → IsMarked b → IsStep b.items k e →
     ((rules : List Labelled) → HaveOtherLabelsThan b.marks (first_item k) rules → HaveOtherLabelsThan b.marks (last_item k) rules → Cover tables rules → Cover later rules) →
     StayCovered b e tables later
+
+-- Where tables cover the rules of a board, later ones cover those of the one behind a join, if its items keep their labels but
+-- the one that moves.
+abbrev pub CoverFollows : Way → BoardParts → Step → Edit → (tables later : TableParts) → Type 0
+CoverFollows way b k e tables later = (new : BoardParts) → new.items ≡ edited e b.items → labels_of new.marks ≡ remove (labels_of b.marks) (mover way k) → Cover tables (labelled b.items (labels_of b.marks)) →
+    Cover later (labelled new.items (labels_of new.marks))
+
+-- So it is where the rule that moves in a join is put in under the label of the one that it moves into, and taken out under its own.
+abbrev pub CoverFollowsJoins : Type 0
+CoverFollowsJoins = (way : Way) (b : BoardParts) (k : Step) (e : Edit) (r : RuleParts) (own label : ℕ) (tables put later : TableParts) → IsMarked b → IsMove way k → IsStep b.items k e →
+    slice_get b.items (mover way k) ≡ Some (Rule r) → slice_get (labels_of b.marks) (mover way k) ≡ Some own → slice_get (labels_of b.marks) (partner way k) ≡ Some label →
+    PutsRule tables r label put → TakesRule put r own later → CoverFollows way b k e tables later
 
 -- They cover the rules of any board where they cover each.
 abbrev pub CoverIsOfEach : Type 0

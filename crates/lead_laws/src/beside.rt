@@ -1,6 +1,6 @@
 //! What code keeps beside a board.
 
-ghost use Rattle.lead_laws.specs.Beside.{CoverGoesOn, CoverIsOfEach, HomesGoOn, OthersStayCovered};
+ghost use Rattle.lead_laws.specs.Beside.{CoverFollowsJoins, CoverGoesOn, CoverIsOfEach, HomesGoOn, OthersStayCovered};
 
 use rule_tables::{labelled_rules_stand, rules_are_labelled};
 use wall_laws::items_stay;
@@ -27,6 +27,15 @@ pub fn cover_goes_on()
 pub fn others_stay_covered()
     ensures { OthersStayCovered }
 {}
+
+/// They are covered behind a join where the rule that moves is put in under the label of the one that it moves into, and taken
+/// out under its own.
+pub fn cover_follows_joins()
+    ensures { CoverFollowsJoins }
+{
+    cover_is_of_each();
+    rules_are_labelled();
+}
 
 /// Under the birth of each item stands its label, also behind an edit.
 pub fn homes_go_on()

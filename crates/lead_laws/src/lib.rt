@@ -10,7 +10,9 @@ mod passed;
 mod remembering;
 mod walls;
 
-pub use beside::{cover_goes_on, cover_is_of_each, homes_go_on, others_stay_covered};
+pub use beside::{
+    cover_follows_joins, cover_goes_on, cover_is_of_each, homes_go_on, others_stay_covered,
+};
 pub use known::{
     answers_may_come, aside_is_known, blocked_is_known, more_is_known, none_is_known,
     start_is_known, taken_is_known,

@@ -1,4 +1,5 @@
 pub mod Asides
+pub mod Heaviest
 pub mod Told
 pub mod WallParts
 pub mod Weights

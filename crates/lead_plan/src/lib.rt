@@ -2,11 +2,13 @@
 #![tactic(auto)]
 
 mod aside;
+mod heaviest;
 mod lead;
 mod waiting;
 mod walls;
 
 pub use aside::{Aside, Entry};
+pub use heaviest::Heaviest;
 pub use lead::{Kind, Lead, ROOM, Scope, later_weighs_less};
 pub use waiting::Waiting;
 pub use walls::Walls;

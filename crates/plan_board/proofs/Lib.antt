@@ -1,4 +1,5 @@
 pub mod EditPuts
+pub mod ForCallers
 pub mod JoinedMasks
 pub mod Learnt
 pub mod MarkLists
