@@ -1,7 +1,7 @@
 -- What tables cover behind a join.
 use Rattle.std.proofs.Common.{◌≡◌, ◌≢◌, ◌⊎◌, ℕ, zero, suc, ◌<◌, Bool, not, List, [], ◌∷◌, ◌++◌, map, Some, None, refl, sym, ap, ◌∙◌, subst, inl, inr, arith}
 use Rattle.std.specs.Prelude.{slice_get}
-use Rattle.std.specs.List.{Contains, filter, remove}
+use Rattle.std.specs.List.{Contains, filter, flat_map, remove}
 use Rattle.std.proofs.lemmas.List.Elements.{Contains-append_cases}
 use Rattle.cascade_laws.proofs.ForCallers.{some-same}
 use Rattle.css_model.specs.declared.sheet.DeclItem.{DeclItem}
@@ -209,7 +209,7 @@ module _ (tables put later : TableParts) (r : RuleParts) (own label : ℕ) (puts
   made_covered : (q made : RuleParts) → label ≢ own → IsOfBoth made r q → Cover tables (with_label q label ∷ []) → Cover later (with_label made label ∷ [])
   made_covered q made other both cover = record { selectors = selectors; decls = decls }
     where
-      selectors : (e : Entry) → Contains _ e → Contains later.selectors e
+      selectors : (e : Entry) → Contains (flat_map entries_by_selector (with_label made label ∷ [])) e → Contains later.selectors e
       selectors e h = (let w = map_from (λ (s : SelItem). entry (selector_digest s.selector) label) made.selectors e (of_one entries_by_selector (with_label made label) e h) in
           selector_stays e (subst (λ (n : ℕ). n ≢ own) (ap (λ (x : Entry). x.label) w.2) other) ((puts.selectors e).1 (which w.0 w.2 (both.selectors w.0 w.1))))
         where
@@ -218,7 +218,7 @@ module _ (tables put later : TableParts) (r : RuleParts) (own label : ℕ) (puts
           which s is (inr theirs) = inl (cover.selectors e (to_one entries_by_selector (with_label q label) e
               (subst (λ (x : Entry). Contains (selector_entries label q.selectors) x) is (map_has (λ (s : SelItem). entry (selector_digest s.selector) label) q.selectors s theirs))))
 
-      decls : (e : Entry) → Contains _ e → Contains later.decls e
+      decls : (e : Entry) → Contains (flat_map entries_by_decl (with_label made label ∷ [])) e → Contains later.decls e
       decls e h = (let w = map_from (λ (d : DeclItem). entry (decl_digest d.decl) label) made.decls e (of_one entries_by_decl (with_label made label) e h) in
           decl_stays e (subst (λ (n : ℕ). n ≢ own) (ap (λ (x : Entry). x.label) w.2) other) ((puts.decls e).1 (which w.0 w.2 (both.decls w.0 w.1))))
         where

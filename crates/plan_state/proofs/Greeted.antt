@@ -1,5 +1,5 @@
 -- Items that are greeted one after the other.
-use Rattle.std.proofs.Common.{◌≡◌, ◌≢◌, ◌⊎◌, ℕ, ◌+◌, ◌<◌, ◌≤◌, List, Some, length, get_or, sym, ◌∙◌, subst, inl, inr, arith}
+use Rattle.std.proofs.Common.{◌≡◌, ◌≢◌, ◌⊎◌, ℕ, ◌+◌, ◌<◌, ◌≤◌, Bool, List, Some, length, get_or, sym, ◌∙◌, subst, inl, inr, arith}
 use Rattle.std.specs.Prelude.{slice_get}
 use Rattle.std.specs.List.{AllPairs}
 use Rattle.std.proofs.lemmas.Bool.{cases_lt}
@@ -11,11 +11,11 @@ use Rattle.rule_tables.specs.Tables.{TableParts}
 use Rattle.plan_state.specs.Greeting.{AreGreeted, IsGreeted, StayBut, StayBefore}
 
 -- so are those of the first items
-pub record SoFar (next count : ℕ) (marks : List Mark) (items : List Item) (tables : TableParts) (leads : List held.Lead) (homes : List ℕ) : Type 0 where
-  pub each : (n : ℕ) (m : Mark) (x : Item) → n < count → slice_get marks n ≡ Some m → slice_get items n ≡ Some x → next ≤ m.birth → IsGreeted tables leads homes m x
+pub record SoFar (put : Bool) (next count : ℕ) (marks : List Mark) (items : List Item) (tables : TableParts) (leads : List held.Lead) (homes : List ℕ) : Type 0 where
+  pub each : (n : ℕ) (m : Mark) (x : Item) → n < count → slice_get marks n ≡ Some m → slice_get items n ≡ Some x → next ≤ m.birth → IsGreeted put tables leads homes m x
 
-pub none_yet : (next : ℕ) (marks : List Mark) (items : List Item) (tables : TableParts) (leads : List held.Lead) (homes : List ℕ) → SoFar next 0 marks items tables leads homes
-none_yet next marks items tables leads homes = record { each = λ n m x less at item_at later. absurd (omega (arith, less)) }
+pub none_yet : (put : Bool) (next : ℕ) (marks : List Mark) (items : List Item) (tables : TableParts) (leads : List held.Lead) (homes : List ℕ) → SoFar put next 0 marks items tables leads homes
+none_yet put next marks items tables leads homes = record { each = λ n m x less at item_at later. absurd (omega (arith, less)) }
 
 pub stay_all : (next : ℕ) (tables : TableParts) (leads : List held.Lead) (homes : List ℕ) → StayBefore next tables leads homes tables leads homes
 stay_all next tables leads homes = record { covered = λ rules c. c; led = λ l c. c; kept = λ b l less at. at }
@@ -33,28 +33,28 @@ one_differs marks differ n k m m' less at at' =
     subst (λ (x : Mark). x.birth ≢ m'.birth) (get_or_from_slice_get marks n m m at)
     (subst (λ (x : Mark). (get_or marks n m).birth ≢ x.birth) (get_or_from_slice_get marks k m' m at') (differ n k m less (slice_get_within marks k m' at')))
 
-still : (t t' : TableParts) (l l' : List held.Lead) (h h' : List ℕ) (birth : ℕ) (m : Mark) (x : Item) → m.birth ≢ birth → StayBut birth t l h t' l' h' → IsGreeted t l h m x → IsGreeted t' l' h' m x
-still t t' l l' h h' birth m x differs s g = record {
+still : (put : Bool) (t t' : TableParts) (l l' : List held.Lead) (h h' : List ℕ) (birth : ℕ) (m : Mark) (x : Item) → m.birth ≢ birth → StayBut birth t l h t' l' h' → IsGreeted put t l h m x → IsGreeted put t' l' h' m x
+still put t t' l l' h h' birth m x differs s g = record {
   lead = s.led _ g.lead;
   home = s.kept m.birth m.label differs g.home;
-  covered = λ r is. s.covered _ (g.covered r is);
+  covered = λ asked r is. s.covered _ (g.covered asked r is);
 }
 
-pub one_more : (next count : ℕ) (marks : List Mark) (items : List Item) (t t' : TableParts) (l l' : List held.Lead) (h h' : List ℕ) (m : Mark) (x : Item) →
-    AllPairs (λ m n. m.birth ≢ n.birth) marks → slice_get marks count ≡ Some m → slice_get items count ≡ Some x → (next ≤ m.birth → IsGreeted t' l' h' m x) → StayBut m.birth t l h t' l' h' →
-    SoFar next count marks items t l h → SoFar next (count + 1) marks items t' l' h'
-one_more next count marks items t t' l l' h h' m x differ at item_at now stay old = record { each = each }
+pub one_more : (put : Bool) (next count : ℕ) (marks : List Mark) (items : List Item) (t t' : TableParts) (l l' : List held.Lead) (h h' : List ℕ) (m : Mark) (x : Item) →
+    AllPairs (λ m n. m.birth ≢ n.birth) marks → slice_get marks count ≡ Some m → slice_get items count ≡ Some x → (next ≤ m.birth → IsGreeted put t' l' h' m x) → StayBut m.birth t l h t' l' h' →
+    SoFar put next count marks items t l h → SoFar put next (count + 1) marks items t' l' h'
+one_more put next count marks items t t' l l' h h' m x differ at item_at now stay old = record { each = each }
   where
-    each : (n : ℕ) (o : Mark) (y : Item) → n < count + 1 → slice_get marks n ≡ Some o → slice_get items n ≡ Some y → next ≤ o.birth → IsGreeted t' l' h' o y
+    each : (n : ℕ) (o : Mark) (y : Item) → n < count + 1 → slice_get marks n ≡ Some o → slice_get items n ≡ Some y → next ≤ o.birth → IsGreeted put t' l' h' o y
     each n o y less o_at y_at later = which (cases_lt n count)
       where
-        which : (n < count) ⊎ (count ≤ n) → IsGreeted t' l' h' o y
-        which (inl before) = still t t' l l' h h' m.birth o y (one_differs marks differ n count o m before o_at at) stay (old.each n o y before o_at y_at later)
+        which : (n < count) ⊎ (count ≤ n) → IsGreeted put t' l' h' o y
+        which (inl before) = still put t t' l l' h h' m.birth o y (one_differs marks differ n count o m before o_at at) stay (old.each n o y before o_at y_at later)
         which (inr behind) =
             let here : n ≡ count = omega (arith, less, behind) in
             let same : o ≡ m = same_Some o m (sym o_at ∙ subst (λ (k : ℕ). slice_get marks k ≡ Some m) (sym here) at) in
             let same_item : y ≡ x = same_Some y x (sym y_at ∙ subst (λ (k : ℕ). slice_get items k ≡ Some x) (sym here) item_at) in
-            subst (λ (z : Mark). IsGreeted t' l' h' z y) (sym same) (subst (λ (z : Item). IsGreeted t' l' h' m z) (sym same_item) (now (subst (λ (z : Mark). next ≤ z.birth) same later)))
+            subst (λ (z : Mark). IsGreeted put t' l' h' z y) (sym same) (subst (λ (z : Item). IsGreeted put t' l' h' m z) (sym same_item) (now (subst (λ (z : Mark). next ≤ z.birth) same later)))
 
-pub all_greeted : (next count : ℕ) (marks : List Mark) (items : List Item) (t : TableParts) (l : List held.Lead) (h : List ℕ) → length marks ≤ count → SoFar next count marks items t l h → AreGreeted next marks items t l h
-all_greeted next count marks items t l h whole done n m x at item_at later = done.each n m x (let w = slice_get_within marks n m at in omega (arith, w, whole)) at item_at later
+pub all_greeted : (put : Bool) (next count : ℕ) (marks : List Mark) (items : List Item) (t : TableParts) (l : List held.Lead) (h : List ℕ) → length marks ≤ count → SoFar put next count marks items t l h → AreGreeted put next marks items t l h
+all_greeted put next count marks items t l h whole done n m x at item_at later = done.each n m x (let w = slice_get_within marks n m at in omega (arith, w, whole)) at item_at later

@@ -1,8 +1,11 @@
 mod Greeted
+mod Heavier
 mod Members
+mod Mended
 mod Moving
 mod Plannable
 mod Results
 mod Starting
 mod Taken
 mod TakenDown
+mod Weighed

@@ -1,5 +1,5 @@
 -- What a plan does for the items that are born.
-use Rattle.std.specs.Prelude.{◌≡◌, ◌≢◌, ℕ, ◌+◌, ◌<◌, ◌≤◌, List, [], ◌∷◌, Some, slice_get}
+use Rattle.std.specs.Prelude.{◌≡◌, ◌≢◌, ℕ, ◌+◌, ◌<◌, ◌≤◌, Bool, true, List, [], ◌∷◌, Some, slice_get}
 use Rattle.std.specs.List.{Contains}
 use Rattle.css_model.specs.declared.sheet.Item.{Item}
 use Rattle.css_model.specs.declared.sheet.Item.TheVariants.{Rule}
@@ -15,15 +15,16 @@ use Rattle.rule_tables.specs.Tables.{TableParts, Labelled, Cover, with_label}
 abbrev pub first_lead : ℕ → held.Lead
 first_lead birth = record { turn = first_turn (max_bytes + 1); owner = birth; scope = Owned }
 
--- The steps of an item are led, its label stands under its birth, and the tables cover it, if it is a rule.
-pub record IsGreeted (tables : TableParts) (leads : List held.Lead) (homes : List ℕ) (m : Mark) (x : Item) : Type 0 where
+-- The steps of an item are led, its label stands under its birth, and the tables cover it, if it is a rule and `put` says that it
+-- is put in.
+pub record IsGreeted (put : Bool) (tables : TableParts) (leads : List held.Lead) (homes : List ℕ) (m : Mark) (x : Item) : Type 0 where
   pub lead : Contains leads (first_lead m.birth)
   pub home : slice_get homes m.birth ≡ Some m.label
-  pub covered : (r : RuleParts) → x ≡ Rule r → Cover tables (with_label r m.label ∷ [])
+  pub covered : put ≡ true → (r : RuleParts) → x ≡ Rule r → Cover tables (with_label r m.label ∷ [])
 
 -- each of these items is greeted that was born at `next` or later
-abbrev pub AreGreeted : ℕ → List Mark → List Item → TableParts → List held.Lead → List ℕ → Type 0
-AreGreeted next marks items tables leads homes = (n : ℕ) (m : Mark) (x : Item) → slice_get marks n ≡ Some m → slice_get items n ≡ Some x → next ≤ m.birth → IsGreeted tables leads homes m x
+abbrev pub AreGreeted : Bool → ℕ → List Mark → List Item → TableParts → List held.Lead → List ℕ → Type 0
+AreGreeted put next marks items tables leads homes = (n : ℕ) (m : Mark) (x : Item) → slice_get marks n ≡ Some m → slice_get items n ≡ Some x → next ≤ m.birth → IsGreeted put tables leads homes m x
 
 -- What the tables cover and the turns that lead stay, and the labels but that under one birth.
 pub record StayBut (birth : ℕ) (tables : TableParts) (leads : List held.Lead) (homes : List ℕ) (tables' : TableParts) (leads' : List held.Lead) (homes' : List ℕ) : Type 0 where

@@ -1,5 +1,7 @@
 pub mod Greeting
+pub mod Mending
 pub mod PlanParts
 pub mod State
 pub mod Waking
 pub mod Walls
+pub mod Weighing

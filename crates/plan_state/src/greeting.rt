@@ -1,6 +1,6 @@
 //! What a plan does for the items that are born.
 
-ghost use Rattle.std.specs.Prelude.{◌≡◌, ◌≢◌, ◌<◌, ◌≤◌, ◌∷◌, [], ℕ, List, OnOk, Some, length, slice_get};
+ghost use Rattle.std.specs.Prelude.{◌≡◌, ◌≢◌, ◌<◌, ◌≤◌, ◌∷◌, [], ℕ, List, OnOk, Some, length, slice_get, true};
 ghost use Rattle.std.specs.List.{AllPairs};
 ghost use Rattle.css_model.specs.declared.sheet.Item.TheVariants as kinds;
 ghost use Rattle.css_model.specs.Sheets.RuleParts.{RuleParts};
@@ -43,8 +43,8 @@ fn put_home(homes: &mut Vec<u64>, mark: &Mark) -> Result<(), AllocError>
     Ok(())
 }
 
-/// Has the tables cover an item, if it is a rule.
-fn cover(tables: &mut Tables, item: &Item, label: u64) -> Result<(), AllocError>
+/// Puts an item into the tables, if it is a rule.
+fn put_in(tables: &mut Tables, item: &Item, label: u64) -> Result<(), AllocError>
     ensures stay { OnOk result ((rules : List covering.Labelled) → covering.Cover tables.old rules → covering.Cover tables.new rules) }
     ensures covered { OnOk result ((r : RuleParts) → item.now ≡ kinds.Rule r → covering.Cover tables.new (covering.with_label r label ∷ [])) }
 {
@@ -52,6 +52,17 @@ fn cover(tables: &mut Tables, item: &Item, label: u64) -> Result<(), AllocError>
         Item::Rule(rule) => tables.insert(rule, label),
         _ => Ok(()),
     }
+}
+
+/// Has the tables cover an item, if it is a rule and is to be put in.
+fn cover(tables: &mut Tables, put: bool, item: &Item, label: u64) -> Result<(), AllocError>
+    ensures stay { OnOk result ((rules : List covering.Labelled) → covering.Cover tables.old rules → covering.Cover tables.new rules) }
+    ensures covered { OnOk result (put ≡ true → (r : RuleParts) → item.now ≡ kinds.Rule r → covering.Cover tables.new (covering.with_label r label ∷ [])) }
+{
+    if !put {
+        return Ok(());
+    }
+    put_in(tables, item, label)
 }
 
 /// The mark of this number.
@@ -70,24 +81,27 @@ fn item_at(items: &[Item], number: usize) -> &Item
     &items[number]
 }
 
-/// Lets a turn before all steps of an item lead them, with its label under its birth, and has the tables cover it.
+/// Lets a turn before all steps of an item lead them, with its label under its birth, and has the tables cover it, if it is to be
+/// put in.
 fn greet_item(
+    put: bool,
     mark: &Mark,
     item: &Item,
     tables: &mut Tables,
     waiting: &mut Waiting,
     homes: &mut Vec<u64>,
 ) -> Result<(), AllocError>
-    ensures greeted { OnOk result (spec.IsGreeted tables.new waiting.new homes.new.items mark.now item.now) }
+    ensures greeted { OnOk result (spec.IsGreeted put tables.new waiting.new homes.new.items mark.now item.now) }
     ensures stay { OnOk result (spec.StayBut mark.now.birth tables.old waiting.old homes.old.items tables.new waiting.new homes.new.items) }
 {
     put_home(homes, mark)?;
-    cover(tables, item, mark.label)?;
+    cover(tables, put, item, mark.label)?;
     waiting.add(first_lead(mark.birth))
 }
 
 /// The same, if the item was born at `next` or later.
 fn greet_if_new(
+    put: bool,
     next: u32,
     mark: &Mark,
     item: &Item,
@@ -95,18 +109,19 @@ fn greet_if_new(
     waiting: &mut Waiting,
     homes: &mut Vec<u64>,
 ) -> Result<(), AllocError>
-    ensures greeted { OnOk result (next ≤ mark.now.birth → spec.IsGreeted tables.new waiting.new homes.new.items mark.now item.now) }
+    ensures greeted { OnOk result (next ≤ mark.now.birth → spec.IsGreeted put tables.new waiting.new homes.new.items mark.now item.now) }
     ensures stay { OnOk result (spec.StayBut mark.now.birth tables.old waiting.old homes.old.items tables.new waiting.new homes.new.items) }
     ensures early { OnOk result (spec.StayBefore next tables.old waiting.old homes.old.items tables.new waiting.new homes.new.items) }
 {
     if mark.birth < next {
         return Ok(());
     }
-    greet_item(mark, item, tables, waiting, homes)
+    greet_item(put, mark, item, tables, waiting, homes)
 }
 
 /// Does so for each item, with the mark of the same number.
 fn greet_each(
+    put: bool,
     next: u32,
     marks: &[Mark],
     items: &[Item],
@@ -116,19 +131,20 @@ fn greet_each(
 ) -> Result<(), AllocError>
     requires as_many { length marks.now ≡ length items.now }
     requires differ { AllPairs (λ m n. m.birth ≢ n.birth) marks.now }
-    ensures greeted { OnOk result (spec.AreGreeted next marks.now items.now tables.new waiting.new homes.new.items) }
+    ensures greeted { OnOk result (spec.AreGreeted put next marks.now items.now tables.new waiting.new homes.new.items) }
     ensures stay { OnOk result (spec.StayBefore next tables.old waiting.old homes.old.items tables.new waiting.new homes.new.items) }
 {
     'numbers: for number in 0..marks.len() {
         let mark = mark_at(marks, number);
         let item = item_at(items, number);
-        greet_if_new(next, mark, item, tables, waiting, homes)?;
+        greet_if_new(put, next, mark, item, tables, waiting, homes)?;
     }
     Ok(())
 }
 
 /// Does so for all items of a board that were born at `next` or later.
 pub(crate) fn greet(
+    put: bool,
     board: &Board,
     next: u32,
     tables: &mut Tables,
@@ -136,11 +152,11 @@ pub(crate) fn greet(
     homes: &mut Vec<u64>,
 ) -> Result<(), AllocError>
     ensures marked { OnOk result (IsMarked board.now) }
-    ensures greeted { OnOk result (spec.AreGreeted next board.now.marks board.now.items tables.new waiting.new homes.new.items) }
+    ensures greeted { OnOk result (spec.AreGreeted put next board.now.marks board.now.items tables.new waiting.new homes.new.items) }
     ensures stay { OnOk result (spec.StayBefore next tables.old waiting.old homes.old.items tables.new waiting.new homes.new.items) }
 {
     let marks = board.marks();
     let sheet = board.sheet();
-    greet_each(next, marks, &sheet.items, tables, waiting, homes)?;
+    greet_each(put, next, marks, &sheet.items, tables, waiting, homes)?;
     Ok(())
 }

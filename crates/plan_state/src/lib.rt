@@ -5,9 +5,11 @@
 mod greeting;
 mod leading;
 mod leaving;
+mod mending;
 mod plan;
 mod taking;
 mod waking;
 mod walls;
+mod weighing;
 
 pub use plan::Plan;

@@ -1,15 +1,18 @@
 //! A plan while it works.
 
-ghost use Rattle.std.specs.Prelude.{◌≡◌, ◌≤◌, IfOk, List, ℕ, length};
+ghost use Rattle.std.specs.Prelude.{◌≡◌, ◌≤◌, IfOk, List, ℕ, length, true};
 ghost use Rattle.css_model.specs.Sheets.Limits.{max_items};
+ghost use Rattle.lead_plan.specs.Heaviest.{AreNotHeavier};
 ghost use Rattle.plan_state.specs.State.{IsState};
 ghost use Rattle.plan_laws.specs.Plannable.{IsPlannable};
 ghost use Rattle.step_laws.specs.Free.{Answered};
 
 use crate::greeting::greet;
+use crate::weighing::weigh;
 use css_model::Sheet;
 use lead_laws::{cover_is_of_each, start_is_known};
-use lead_plan::{Aside, Waiting, Walls};
+use lead_plan::{Aside, Heaviest, Waiting, Walls};
+use merge_plan::KnownLengths;
 use plan_board::Board;
 use rule_tables::Tables;
 use std::alloc::{AllocError, Global};
@@ -30,6 +33,8 @@ pub struct Plan {
     pub homes: Vec<u64>,
     /// What joins of its items are known to be hindered past.
     pub walls: Walls,
+    /// No rule of the sheet weighs more.
+    pub heaviest: Heaviest,
 }
 
 impl Model for Plan {
@@ -44,16 +49,35 @@ impl Model for Plan {
       entries = p.aside;
       homes = p.homes.items;
       walls = p.walls;
+      heaviest = p.heaviest;
     } };
 }
 
 impl Plan {
     /// A plan of a sheet of which nothing is known.
-    pub fn new(alloc: Global, sheet: Sheet) -> Result<Plan, AllocError>
+    pub fn new(
+        alloc: Global,
+        source: &KnownLengths<'_>,
+        sheet: Sheet,
+    ) -> Result<Plan, AllocError>
+        requires plannable { IsPlannable source.now sheet.items }
+        ensures items { IfOk result (λ p. p.board.items ≡ sheet.items) }
+        ensures state { IfOk result (λ p. (answers : List Answered) → IsState answers source.now p) }
+    {
+        let heaviest = weigh(source, &sheet);
+        Plan::begin(alloc, sheet, heaviest)
+    }
+
+    /// The same, where it is known how much its rules weigh at most.
+    pub(crate) fn begin(
+        alloc: Global,
+        sheet: Sheet,
+        heaviest: Heaviest,
+    ) -> Result<Plan, AllocError>
         requires few_items { length sheet.items ≤ max_items }
         ensures items { IfOk result (λ p. p.board.items ≡ sheet.items) }
         ensures state { IfOk result (λ p. (answers : List Answered) (source : List ℕ) → IsPlannable source sheet.items
-            → IsState answers source p) }
+            → AreNotHeavier source sheet.items heaviest → IsState answers source p) }
     {
         start_is_known();
         cover_is_of_each();
@@ -61,7 +85,7 @@ impl Plan {
         let mut tables = Tables::new(alloc, &[], &[])?;
         let mut waiting = Waiting::new(alloc);
         let mut homes = Vec::new(alloc);
-        greet(&board, 0, &mut tables, &mut waiting, &mut homes)?;
+        greet(true, &board, 0, &mut tables, &mut waiting, &mut homes)?;
         let aside = Aside::new(alloc);
         let walls = Walls::new(alloc);
         Ok(Plan {
@@ -71,6 +95,7 @@ impl Plan {
             aside,
             homes,
             walls,
+            heaviest,
         })
     }
 }

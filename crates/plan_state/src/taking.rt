@@ -2,22 +2,23 @@
 
 ghost use Rattle.std.specs.Prelude.{◌≡◌, ◌<◌, ◌+◌, ◌^◌, IfOk, IsTrue, List, ℕ, length};
 ghost use Rattle.css_model.specs.Sheets.Limits.{max_items};
-ghost use Rattle.plan_state.specs.State.{IsState};
+ghost use Rattle.plan_state.specs.State.{IsBoard, IsState};
 ghost use Rattle.order_laws.specs.Edits.{Edit, edited};
 ghost use Rattle.plan_board.specs.Marking.{HasLabelFor};
-ghost use Rattle.plan_laws.specs.Plannable.{IsPlannable};
 ghost use Rattle.step_laws.specs.Free.{Answered};
 ghost use Rattle.step_laws.specs.Leading.{Takes};
 ghost use Rattle.step_laws.specs.Steps.{HasStep, IsStep};
 
 use crate::greeting::greet;
-use crate::leaving::uncover;
+use crate::mending::mend;
 use crate::plan::Plan;
 use crate::waking::wake_moved;
 use crate::walls::take_down_for;
+use crate::weighing::with_step;
 use css_model::MAX_ITEMS;
 use hold_laws::sheets_have_room;
 use lead_laws::{cover_goes_on, homes_go_on, taken_is_known, walls_go_over};
+use merge_plan::KnownLengths;
 use merge_steps::apply;
 use plan_board::Board;
 use std::alloc::{AllocError, Global};
@@ -37,15 +38,21 @@ fn has_room(board: &Board, step: &Step) -> bool
 
 impl Plan {
     /// The plan after a step that is taken in place.
-    fn take_in_place(self, alloc: Global, step: &Step) -> Result<Plan, AllocError>
+    fn take_in_place(
+        self,
+        alloc: Global,
+        source: &KnownLengths<'_>,
+        step: &Step,
+    ) -> Result<Plan, AllocError>
+        requires board { IsBoard source.now self }
         requires is_step { HasStep self.board.items step.now }
         requires items { length self.board.items + 1 < max_items }
         requires label { HasLabelFor self.board.marks step.now }
         requires births { self.board.next + 4 < 2 ^ 32 }
         ensures items { IfOk result (λ p. (e : Edit) → IsStep self.board.items step.now e → p.board.items ≡ edited e self.board.items) }
-        ensures state { IfOk result (λ p. (answers : List Answered) (source : List ℕ) → IsState answers source self
-            → ((e : Edit) → IsStep self.board.items step.now e → Takes answers source self.board.items (edited e self.board.items))
-            → IsState answers source p) }
+        ensures state { IfOk result (λ p. (answers : List Answered) → IsState answers source.now self
+            → ((e : Edit) → IsStep self.board.items step.now e → Takes answers source.now self.board.items (edited e self.board.items))
+            → IsState answers source.now p) }
     {
         sheets_have_room();
         taken_is_known();
@@ -61,13 +68,15 @@ impl Plan {
             aside,
             mut homes,
             mut walls,
+            heaviest,
         } = self;
+        let heaviest = with_step(source, heaviest, board.sheet(), step);
         wake_moved(alloc, &aside, &mut waiting, board.sheet(), step)?;
         take_down_for(&mut walls, &board, step);
-        uncover(&mut tables, &board, step);
+        let put = mend(&mut tables, &board, step)?;
         let next = board.next();
         let board = board.take(alloc, step)?;
-        greet(&board, next, &mut tables, &mut waiting, &mut homes)?;
+        greet(put, &board, next, &mut tables, &mut waiting, &mut homes)?;
         Ok(Plan {
             board,
             tables,
@@ -75,24 +84,31 @@ impl Plan {
             aside,
             homes,
             walls,
+            heaviest,
         })
     }
 
     /// The plan after its next step. Where the step cannot be taken in place, it begins anew.
-    pub fn take(self, alloc: Global, step: &Step) -> Result<Plan, AllocError>
+    pub fn take(
+        self,
+        alloc: Global,
+        source: &KnownLengths<'_>,
+        step: &Step,
+    ) -> Result<Plan, AllocError>
         requires is_step { HasStep self.board.items step.now }
-        requires plannable { (source : List ℕ) × IsPlannable source self.board.items }
+        requires board { IsBoard source.now self }
         ensures items { IfOk result (λ p. (e : Edit) → IsStep self.board.items step.now e → p.board.items ≡ edited e self.board.items) }
-        ensures state { IfOk result (λ p. (answers : List Answered) (source : List ℕ) → IsState answers source self
-            → ((e : Edit) → IsStep self.board.items step.now e → Takes answers source self.board.items (edited e self.board.items))
-            → IsState answers source p) }
+        ensures state { IfOk result (λ p. (answers : List Answered) → IsState answers source.now self
+            → ((e : Edit) → IsStep self.board.items step.now e → Takes answers source.now self.board.items (edited e self.board.items))
+            → IsState answers source.now p) }
     {
         if has_room(&self.board, step) {
-            return self.take_in_place(alloc, step);
+            return self.take_in_place(alloc, source, step);
         }
         each_is_made_of_itself();
         steps_make_of();
+        let heaviest = with_step(source, self.heaviest, self.board.sheet(), step);
         let sheet = apply(alloc, self.board.sheet(), step)?;
-        Plan::new(alloc, sheet)
+        Plan::begin(alloc, sheet, heaviest)
     }
 }

@@ -1,15 +1,13 @@
-use Rattle.std.proofs.Common.{◌≡◌, List, [], sym, subst}
-use Rattle.css_model.specs.declared.sheet.Item.{Item}
-use Rattle.hold_laws.specs.declared.way.Way.{Way}
-use Rattle.lead_plan.specs.WallParts.{walls_on}
+use Rattle.std.proofs.Common.{List, ℕ}
+use Rattle.lead_plan.specs.Heaviest.{AreNotHeavier}
 use Rattle.plan_laws.specs.Plannable.{IsPlannable}
-use Rattle.plan_state.specs.PlanParts.{PlanParts}
-use Rattle.plan_state.proofs.Starting.{none_on, start_state}
+use Rattle.plan_state.specs.State.{IsState}
+use Rattle.plan_state.proofs.Results.{ok_on}
 use Rattle.plan_state.proofs.plan.Plan.new.Goals as goal
+use Rattle.step_laws.specs.Free.{Answered}
 
 pub returns-clause-state : goal.returns-clause-state
 returns-clause-state c =
-    let made : PlanParts = record { board = c.in_ok-board.board; tables = c.greet.new.tables; leads = c.greet.new.waiting; entries = c.new-aside.result; homes = c.greet.new.homes.items; walls = c.new-walls.result } in
-    let no_walls : (way : Way) → walls_on way c.new-walls.result ≡ [] = none_on c.new-walls.result c.new-walls.ensures.ups c.new-walls.ensures.downs in
-    λ answers source plannable. start_state c.start_is_known.ensures c.cover_is_of_each.ensures answers source made (subst (λ (xs : List Item). IsPlannable source xs) (sym c.in_ok-board.ensures.items) plannable)
-    c.in_ok-greet.ensures.marked c.new-aside.ensures no_walls c.in_ok-greet.ensures.greeted
+    ok_on c.begin.result (λ p. (answers : List Answered) (source : List ℕ) → IsPlannable source c.args.sheet.items → AreNotHeavier source c.args.sheet.items c.weigh-heaviest.result → IsState answers source p)
+    (λ p. (answers : List Answered) → IsState answers c.args.source.now p)
+    (λ p begins answers. begins answers c.args.source.now c.requires.plannable c.weigh-heaviest.ensures) c.begin.ensures.state

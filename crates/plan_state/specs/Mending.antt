@@ -1,0 +1,16 @@
+-- Tables that are mended for a step, before it is taken (own).
+use Rattle.std.specs.Prelude.{Bool, true, false}
+use Rattle.hold_laws.specs.declared.way.Way.{Way}
+use Rattle.hold_laws.specs.Ways.{IsMove}
+use Rattle.lead_laws.specs.Beside.{CoverFollows, StayCovered}
+use Rattle.order_laws.specs.Edits.{Edit}
+use Rattle.plan_board.specs.BoardParts.{BoardParts}
+use Rattle.rule_tables.specs.Tables.{TableParts}
+use Rattle.step_laws.specs.declared.step.Step.{Step}
+use Rattle.step_laws.specs.Steps.{IsStep}
+
+-- Rules that are born by the step are to be put in, and those that it leaves stay covered; or it is a join, and all rules behind
+-- it will be covered.
+abbrev pub AreMended : (put : Bool) → BoardParts → Step → (tables later : TableParts) → Type 0
+AreMended true b k tables later = (e : Edit) → IsStep b.items k e → StayCovered b e tables later
+AreMended false b k tables later = (way : Way) × IsMove way k × ((e : Edit) → IsStep b.items k e → CoverFollows way b k e tables later)
