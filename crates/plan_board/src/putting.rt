@@ -1,4 +1,4 @@
-//! An item taken out of a board, and what is put in its place.
+//! An item taken out of a marked sheet, and what is put in its place.
 
 ghost use Rattle.std.specs.Prelude.{◌≡◌, ◌<◌, ◌+◌, ◌^◌, IfOk, IfSome, Some, length, map, slice_get, slice_set};
 ghost use Rattle.css_model.specs.declared.sheet.Item.TheVariants as item;
@@ -104,7 +104,7 @@ fn put_items(mut items: Vec<Item>, number: u32, left: Left) -> Result<Vec<Item>,
 }
 
 impl MarkedSheet {
-    /// The rule of this number, and the board with an empty piece in its place.
+    /// The rule of this number, and the sheet with an empty piece in its place.
     pub(crate) fn lift(self, number: u32) -> (MarkedSheet, Rule)
         requires { (r : RuleParts) × (slice_get self.items number ≡ Some (item.Rule r)) }
         ensures rule { slice_get self.items number ≡ Some (item.Rule result.1) }
@@ -130,7 +130,7 @@ impl MarkedSheet {
         (board, rule)
     }
 
-    /// The board with what a step leaves in the place of the item of this number. Where it is one rule, its mask may
+    /// The sheet with what a step leaves in the place of the item of this number. Where it is one rule, its mask may
     /// be known.
     pub(crate) fn put(
         self,

@@ -137,7 +137,7 @@ impl MarkedSheet {
         }
     }
 
-    /// The board after a cut.
+    /// The sheet after a cut.
     fn take_cut(self, step: &Step, number: u32) -> Result<MarkedSheet, AllocError>
         requires is_step { HasStep self.items step.now }
         requires cut { IsCutKind step.now }
@@ -154,7 +154,7 @@ impl MarkedSheet {
         Ok(after)
     }
 
-    /// The board after a step of two rules.
+    /// The sheet after a step of two rules.
     fn take_two(
         self,
         alloc: Global,
@@ -185,8 +185,8 @@ impl MarkedSheet {
         Ok(after)
     }
 
-    /// The board after one of its steps, which is taken in place: the items that it does not take keep their
-    /// marks, and the others are born later than all before. After an error nothing is left.
+    /// The sheet after one of its steps, which is taken in place: the items that it does not take keep their marks, and the
+    /// others are born later than all before. After an error nothing is left.
     pub(crate) fn take(self, alloc: Global, step: &Step) -> Result<MarkedSheet, AllocError>
         requires is_step { HasStep self.items step.now }
         requires label { HasLabelFor self.marks step.now }
