@@ -24,31 +24,22 @@ IsRaised old new = (old.selectors ≤ new.selectors) × (old.decls ≤ new.decls
 abbrev pub AreWeighable : List ℕ → List Item → Type 0
 AreWeighable source items = (r : RuleParts) → Contains items (Rule r) → IsWeighable source r
 
--- the selectors of both rules of a step weigh so much together, and so their declarations
-abbrev pub SelectorsWeigh : List ℕ → List Item → Step → ℕ → Type 0
-SelectorsWeigh source items k n = (u l : RuleParts) → slice_get items (first_item k) ≡ Some (Rule u) → slice_get items (last_item k) ≡ Some (Rule l) →
-    n ≡ weight (printed_selector source) u.selectors + weight (printed_selector source) l.selectors
+-- the selectors of both rules of a step weigh no more than this together, and so their declarations
+abbrev pub SelectorsFit : List ℕ → List Item → Step → ℕ → Type 0
+SelectorsFit source items k n = (u l : RuleParts) → slice_get items (first_item k) ≡ Some (Rule u) → slice_get items (last_item k) ≡ Some (Rule l) →
+    weight (printed_selector source) u.selectors + weight (printed_selector source) l.selectors ≤ n
 
-abbrev pub DeclsWeigh : List ℕ → List Item → Step → ℕ → Type 0
-DeclsWeigh source items k n = (u l : RuleParts) → slice_get items (first_item k) ≡ Some (Rule u) → slice_get items (last_item k) ≡ Some (Rule l) →
-    n ≡ weight (printed_declaration source) u.decls + weight (printed_declaration source) l.decls
-
--- no more than this weigh the selectors of both rules of a step together, and so their declarations
-abbrev pub SelectorsFit : List ℕ → List Item → Step → Heaviest → Type 0
-SelectorsFit source items k h = (u l : RuleParts) → slice_get items (first_item k) ≡ Some (Rule u) → slice_get items (last_item k) ≡ Some (Rule l) →
-    weight (printed_selector source) u.selectors + weight (printed_selector source) l.selectors ≤ h.selectors
-
-abbrev pub DeclsFit : List ℕ → List Item → Step → Heaviest → Type 0
-DeclsFit source items k h = (u l : RuleParts) → slice_get items (first_item k) ≡ Some (Rule u) → slice_get items (last_item k) ≡ Some (Rule l) →
-    weight (printed_declaration source) u.decls + weight (printed_declaration source) l.decls ≤ h.decls
+abbrev pub DeclsFit : List ℕ → List Item → Step → ℕ → Type 0
+DeclsFit source items k n = (u l : RuleParts) → slice_get items (first_item k) ≡ Some (Rule u) → slice_get items (last_item k) ≡ Some (Rule l) →
+    weight (printed_declaration source) u.decls + weight (printed_declaration source) l.decls ≤ n
 
 -- what a step puts together weighs no more than this: of joins by selectors the declarations, of joins by declarations and of
 -- shares the selectors
 abbrev pub FitsTogether : List ℕ → List Item → Step → Heaviest → Type 0
 FitsTogether source items (CutDecl n i) h = Unit {0}
 FitsTogether source items (CutSel n i) h = Unit {0}
-FitsTogether source items (JoinSelUp x y) h = DeclsFit source items (JoinSelUp x y) h
-FitsTogether source items (JoinSelDown x y) h = DeclsFit source items (JoinSelDown x y) h
-FitsTogether source items (JoinDeclUp x y) h = SelectorsFit source items (JoinDeclUp x y) h
-FitsTogether source items (JoinDeclDown x y) h = SelectorsFit source items (JoinDeclDown x y) h
-FitsTogether source items (Share x y) h = SelectorsFit source items (Share x y) h
+FitsTogether source items (JoinSelUp x y) h = DeclsFit source items (JoinSelUp x y) h.decls
+FitsTogether source items (JoinSelDown x y) h = DeclsFit source items (JoinSelDown x y) h.decls
+FitsTogether source items (JoinDeclUp x y) h = SelectorsFit source items (JoinDeclUp x y) h.selectors
+FitsTogether source items (JoinDeclDown x y) h = SelectorsFit source items (JoinDeclDown x y) h.selectors
+FitsTogether source items (Share x y) h = SelectorsFit source items (Share x y) h.selectors

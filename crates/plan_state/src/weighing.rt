@@ -1,6 +1,6 @@
 //! What the rules of a plan weigh at most.
 
-ghost use Rattle.std.specs.Prelude.{◌≡◌, ◌≤◌, max};
+ghost use Rattle.std.specs.Prelude.{◌≡◌, ◌+◌, ◌≤◌, max};
 ghost use Rattle.std.specs.List.{Contains};
 ghost use Rattle.css_model.specs.declared.sheet.Item.TheVariants as kinds;
 ghost use Rattle.css_model.specs.Sheets.Limits.{max_bytes};
@@ -13,11 +13,14 @@ ghost use Rattle.step_laws.specs.Sizes.{weight};
 ghost use Rattle.step_laws.specs.Steps.{HasStep};
 ghost use Rattle.step_savings.specs.Weighing.{IsWeighable};
 
-use css_model::{Item, Rule, Sheet};
+use css_model::{Item, MAX_BYTES, Rule, Sheet};
 use lead_plan::Heaviest;
 use merge_plan::KnownLengths;
 use step_laws::Step;
 use step_savings::{decls_weight, items_of, rule_at, selectors_weight};
+
+/// A rule with more selectors or declarations has many. They are not weighed again at each step that puts more to them.
+const MANY: usize = 1024;
 
 /// What the selectors of a rule weigh.
 fn selectors_of(source: &KnownLengths<'_>, rule: &Rule) -> u64
@@ -82,31 +85,105 @@ pub(crate) fn weigh(source: &KnownLengths<'_>, sheet: &Sheet) -> Heaviest
     heaviest_of(source, &sheet.items)
 }
 
-/// What the selectors of both rules of a step weigh together.
-fn selectors_together(source: &KnownLengths<'_>, sheet: &Sheet, step: &Step) -> u64
+/// No less than the selectors of a rule weigh: where it has many it is told by what is heaviest.
+fn most_of_selectors(source: &KnownLengths<'_>, heaviest: &Heaviest, rule: &Rule) -> u64
+    requires weighable { IsWeighable source.now rule.now }
+    requires light { spec.IsNotHeavier source.now heaviest.now rule.now }
+    ensures most { weight (printed_selector source.now) rule.now.selectors ≤ result }
+    ensures small { result ≤ max_bytes }
+{
+    if rule.selectors.len() > MANY {
+        return heaviest.selectors.min(u64::from(MAX_BYTES));
+    }
+    selectors_of(source, rule)
+}
+
+/// No less than its declarations weigh, in the same way.
+fn most_of_decls(source: &KnownLengths<'_>, heaviest: &Heaviest, rule: &Rule) -> u64
+    requires weighable { IsWeighable source.now rule.now }
+    requires light { spec.IsNotHeavier source.now heaviest.now rule.now }
+    ensures most { weight (printed_declaration source.now) rule.now.decls ≤ result }
+    ensures small { result ≤ max_bytes }
+{
+    if rule.decls.len() > MANY {
+        return heaviest.decls.min(u64::from(MAX_BYTES));
+    }
+    decls_of(source, rule)
+}
+
+/// No less than the selectors of two rules weigh together. Of the one that has fewer all are weighed.
+fn selectors_together(
+    source: &KnownLengths<'_>,
+    heaviest: &Heaviest,
+    upper: &Rule,
+    lower: &Rule,
+) -> u64
+    requires weighable_upper { IsWeighable source.now upper.now }
+    requires weighable_lower { IsWeighable source.now lower.now }
+    requires light_upper { spec.IsNotHeavier source.now heaviest.now upper.now }
+    requires light_lower { spec.IsNotHeavier source.now heaviest.now lower.now }
+    ensures { weight (printed_selector source.now) upper.now.selectors + weight (printed_selector source.now) lower.now.selectors ≤ result }
+{
+    if upper.selectors.len() < lower.selectors.len() {
+        return selectors_of(source, upper) + most_of_selectors(source, heaviest, lower);
+    }
+    most_of_selectors(source, heaviest, upper) + selectors_of(source, lower)
+}
+
+/// No less than their declarations weigh together, in the same way.
+fn decls_together(
+    source: &KnownLengths<'_>,
+    heaviest: &Heaviest,
+    upper: &Rule,
+    lower: &Rule,
+) -> u64
+    requires weighable_upper { IsWeighable source.now upper.now }
+    requires weighable_lower { IsWeighable source.now lower.now }
+    requires light_upper { spec.IsNotHeavier source.now heaviest.now upper.now }
+    requires light_lower { spec.IsNotHeavier source.now heaviest.now lower.now }
+    ensures { weight (printed_declaration source.now) upper.now.decls + weight (printed_declaration source.now) lower.now.decls ≤ result }
+{
+    if upper.decls.len() < lower.decls.len() {
+        return decls_of(source, upper) + most_of_decls(source, heaviest, lower);
+    }
+    most_of_decls(source, heaviest, upper) + decls_of(source, lower)
+}
+
+/// What is heaviest, and what a join by selectors puts together.
+fn with_decls(source: &KnownLengths<'_>, heaviest: Heaviest, sheet: &Sheet, step: &Step) -> Heaviest
     requires plannable { IsPlannable source.now sheet.now.items }
     requires is_step { HasStep sheet.now.items step.now }
-    ensures { spec.SelectorsWeigh source.now sheet.now.items step.now result }
+    requires light { AreNotHeavier source.now sheet.now.items heaviest }
+    ensures raised { spec.IsRaised heaviest result }
+    ensures fits { spec.DeclsFit source.now sheet.now.items step.now result.decls }
 {
     let (first, last) = items_of(step);
     let upper = rule_at(sheet, first);
     let lower = rule_at(sheet, last);
-    selectors_of(source, upper) + selectors_of(source, lower)
+    heaviest.with(0, decls_together(source, &heaviest, upper, lower))
 }
 
-/// What their declarations weigh together.
-fn decls_together(source: &KnownLengths<'_>, sheet: &Sheet, step: &Step) -> u64
+/// What is heaviest, and what a join by declarations or a share puts together.
+fn with_selectors(
+    source: &KnownLengths<'_>,
+    heaviest: Heaviest,
+    sheet: &Sheet,
+    step: &Step,
+) -> Heaviest
     requires plannable { IsPlannable source.now sheet.now.items }
     requires is_step { HasStep sheet.now.items step.now }
-    ensures { spec.DeclsWeigh source.now sheet.now.items step.now result }
+    requires light { AreNotHeavier source.now sheet.now.items heaviest }
+    ensures raised { spec.IsRaised heaviest result }
+    ensures fits { spec.SelectorsFit source.now sheet.now.items step.now result.selectors }
 {
     let (first, last) = items_of(step);
     let upper = rule_at(sheet, first);
     let lower = rule_at(sheet, last);
-    decls_of(source, upper) + decls_of(source, lower)
+    heaviest.with(selectors_together(source, &heaviest, upper, lower), 0)
 }
 
-/// What is heaviest when a step is taken: what it puts together counts as one more. The time is that of the parts of its rules.
+/// What is heaviest when a step is taken: what it puts together counts as one more. The time is that of the parts of the rule
+/// that has fewer.
 pub(crate) fn with_step(
     source: &KnownLengths<'_>,
     heaviest: Heaviest,
@@ -115,16 +192,17 @@ pub(crate) fn with_step(
 ) -> Heaviest
     requires plannable { IsPlannable source.now sheet.now.items }
     requires is_step { HasStep sheet.now.items step.now }
+    requires light { AreNotHeavier source.now sheet.now.items heaviest }
     ensures raised { spec.IsRaised heaviest result }
     ensures fits { spec.FitsTogether source.now sheet.now.items step.now result }
 {
     match step {
         Step::CutDecl { .. } | Step::CutSel { .. } => heaviest,
         Step::JoinSelUp { .. } | Step::JoinSelDown { .. } => {
-            heaviest.with(0, decls_together(source, sheet, step))
+            with_decls(source, heaviest, sheet, step)
         }
         Step::JoinDeclUp { .. } | Step::JoinDeclDown { .. } | Step::Share { .. } => {
-            heaviest.with(selectors_together(source, sheet, step), 0)
+            with_selectors(source, heaviest, sheet, step)
         }
     }
 }

@@ -26,6 +26,11 @@ begin-requires c =
           (few_after c.steps_make_of.ensures c.each_is_made_of_itself.ensures c.args.source.now items plannable c.args.step.now has.0 has.1);
     }
 
+pub with_step-heaviest-requires-clause-light : goal.with_step-heaviest-requires-clause-light
+with_step-heaviest-requires-clause-light c =
+    subst (λ (xs : List Item). AreNotHeavier c.args.source.now xs c.self.inside.heaviest) (sym c.sheet.ensures)
+    (subst (λ (p : PlanParts). AreNotHeavier c.args.source.now p.board.items p.heaviest) (sym c.self.view_is) c.requires.board.heaviest)
+
 pub returns-clause-state : goal.returns-clause-state
 returns-clause-state c =
     let items = c.args.self.board.items in

@@ -17,6 +17,11 @@ use Rattle.plan_state.proofs.Mended.{covered_behind}
 use Rattle.plan_state.proofs.Taken.{taken_state}
 use Rattle.plan_state.proofs.plan.Plan.take_in_place.Goals as goal
 
+pub with_step-heaviest-requires-clause-light : goal.with_step-heaviest-requires-clause-light
+with_step-heaviest-requires-clause-light c =
+    subst (λ (xs : List Item). AreNotHeavier c.args.source.now xs c.self.inside.heaviest) (sym c.sheet.ensures)
+    (subst (λ (p : PlanParts). AreNotHeavier c.args.source.now p.board.items p.heaviest) (sym c.self.view_is) c.requires.board.heaviest)
+
 pub returns-clause-state : goal.returns-clause-state
 returns-clause-state c =
     let old : PlanParts = record { board = c.self.inside.board; tables = c.self.inside.tables; leads = c.self.inside.waiting; entries = c.self.inside.aside; homes = c.self.inside.homes.items; walls = c.self.inside.walls; heaviest = c.self.inside.heaviest } in
