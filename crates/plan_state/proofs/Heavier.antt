@@ -1,6 +1,5 @@
 -- What the rules behind a step weigh at most.
 use Rattle.std.proofs.Common.{◌≡◌, ℕ, zero, suc, ◌+◌, ◌≤◌, ◌==◌, not, List, [], ◌∷◌, ◌++◌, length, Some, None, refl, sym, subst, arith}
-use Rattle.std.specs.Prelude.{slice_get}
 use Rattle.std.specs.List.{AllByRecursion, filter, remove}
 use Rattle.std.proofs.lemmas.Bool.{cond_both}
 use Rattle.cascade_laws.proofs.ForCallers.{some-same}
@@ -143,10 +142,16 @@ module _ (source : List ℕ) (h : Heaviest) where
       let below : weight (printed_declaration source) is.lower.decls ≤ h.decls = (light y is.lower is.rules.lower_at).1 in
       let part : weight (printed_declaration source) (common_decls is.upper is.lower) ≤ weight (printed_declaration source) is.lower.decls = weight_common source is.upper is.lower in
       let common : weight (printed_declaration source) (common_decls is.upper is.lower) ≤ h.decls = omega (arith, below, part) in
-      subst (λ (d : Edit). BringsLight source h d.changes) (sym is.is)
-      (less_decls (common_decls is.upper is.lower) is.upper (light x is.upper is.rules.upper_at),
-      ((with_both is.upper is.lower (common_decls is.upper is.lower) common (fits is.upper is.lower is.rules.upper_at is.rules.lower_at),
-      less_decls (common_decls is.upper is.lower) is.lower (light y is.lower is.rules.lower_at)), tt))
+      subst (λ (d : Edit). BringsLight source h d.changes) (sym is.is) (
+        less_decls (common_decls is.upper is.lower) is.upper (light x is.upper is.rules.upper_at),
+        (
+          (
+            with_both is.upper is.lower (common_decls is.upper is.lower) common (fits is.upper is.lower is.rules.upper_at is.rules.lower_at),
+            less_decls (common_decls is.upper is.lower) is.lower (light y is.lower is.rules.lower_at),
+          ),
+          tt,
+        ),
+      )
 
   -- ---- Sheets
 

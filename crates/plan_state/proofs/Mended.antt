@@ -1,8 +1,7 @@
 -- What tables that were mended for a step cover behind it.
-use Rattle.std.proofs.Common.{◌≡◌, ℕ, ◌<◌, Bool, true, false, List, length, map, Some, refl, arith}
+use Rattle.std.proofs.Common.{◌≡◌, ℕ, Bool, true, false, List, Some, refl}
 use Rattle.std.specs.Prelude.{slice_get}
 use Rattle.std.specs.List.{remove}
-use Rattle.std.proofs.lemmas.Option.{slice_get_within}
 use Rattle.css_model.specs.declared.sheet.Item.{Item}
 use Rattle.css_model.specs.declared.sheet.Item.TheVariants.{Rule}
 use Rattle.css_model.specs.Sheets.RuleParts.{RuleParts}
@@ -16,7 +15,7 @@ use Rattle.order_laws.specs.Edits.{Edit, edited}
 use Rattle.plan_board.specs.BoardParts.{BoardParts}
 use Rattle.plan_board.specs.Marking.{AreKept}
 use Rattle.plan_board.specs.MarkList.{labels_of}
-use Rattle.rule_tables.specs.Tables.{Cover, TableParts, labelled, with_label}
+use Rattle.rule_tables.specs.Tables.{Cover, TableParts, labelled}
 use Rattle.step_laws.specs.declared.step.Step.{Step}
 use Rattle.step_laws.specs.Steps.{HasStep, IsStep}
 use Rattle.step_savings.proofs.ForCallers.{first_rule, last_rule}

@@ -49,12 +49,7 @@ fn label_at(marks: &[Mark], number: u32) -> u64
 
 /// Puts the rule that moves in a join in under the label of the one that it moves into, and takes it out under its own: so the
 /// tables will cover what the join makes. The time is that of its parts.
-fn move_over(
-    tables: &mut Tables,
-    board: &Board,
-    way: Way,
-    step: &Step,
-) -> Result<(), AllocError>
+fn move_over(tables: &mut Tables, board: &Board, way: Way, step: &Step) -> Result<(), AllocError>
     requires is_step { HasStep board.now.items step.now }
     requires moves { IsMove way step.now }
     ensures { OnOk result ((e : Edit) → IsStep board.now.items step.now e → CoverFollows way board.now step.now e tables.old tables.new) }

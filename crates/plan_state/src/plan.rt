@@ -55,11 +55,7 @@ impl Model for Plan {
 
 impl Plan {
     /// A plan of a sheet of which nothing is known.
-    pub fn new(
-        alloc: Global,
-        source: &KnownLengths<'_>,
-        sheet: Sheet,
-    ) -> Result<Plan, AllocError>
+    pub fn new(alloc: Global, source: &KnownLengths<'_>, sheet: Sheet) -> Result<Plan, AllocError>
         requires plannable { IsPlannable source.now sheet.items }
         ensures items { IfOk result (λ p. p.board.items ≡ sheet.items) }
         ensures state { IfOk result (λ p. (answers : List Answered) → IsState answers source.now p) }
@@ -69,11 +65,7 @@ impl Plan {
     }
 
     /// The same, where it is known how much its rules weigh at most.
-    pub(crate) fn begin(
-        alloc: Global,
-        sheet: Sheet,
-        heaviest: Heaviest,
-    ) -> Result<Plan, AllocError>
+    pub(crate) fn begin(alloc: Global, sheet: Sheet, heaviest: Heaviest) -> Result<Plan, AllocError>
         requires few_items { length sheet.items ≤ max_items }
         ensures items { IfOk result (λ p. p.board.items ≡ sheet.items) }
         ensures state { IfOk result (λ p. (answers : List Answered) (source : List ℕ) → IsPlannable source sheet.items

@@ -131,12 +131,7 @@ fn selectors_together(
 }
 
 /// No less than their declarations weigh together, in the same way.
-fn decls_together(
-    source: &KnownLengths<'_>,
-    heaviest: &Heaviest,
-    upper: &Rule,
-    lower: &Rule,
-) -> u64
+fn decls_together(source: &KnownLengths<'_>, heaviest: &Heaviest, upper: &Rule, lower: &Rule) -> u64
     requires weighable_upper { IsWeighable source.now upper.now }
     requires weighable_lower { IsWeighable source.now lower.now }
     requires light_upper { spec.IsNotHeavier source.now heaviest.now upper.now }

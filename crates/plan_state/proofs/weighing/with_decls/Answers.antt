@@ -1,5 +1,5 @@
-use Rattle.std.proofs.Common.{◌≡◌, ℕ, ◌+◌, ◌≤◌, ap, max, sym, subst, arith}
-use Rattle.std.proofs.Math.Nat.{le-max_left, le-max_right}
+use Rattle.std.proofs.Common.{◌≡◌, ℕ, ◌+◌, ◌≤◌, ap, max, subst, arith}
+use Rattle.std.proofs.Math.Nat.{le-max_right}
 use Rattle.css_model.specs.Sheets.Printed.{printed_declaration}
 use Rattle.css_model.specs.Sheets.RuleParts.{RuleParts}
 use Rattle.lead_plan.specs.declared.heaviest.Heaviest.{Heaviest}
