@@ -32,7 +32,7 @@ use Rattle.step_obstacles.proofs.WindowFacts.{WindowFacts, window_facts}
 use Rattle.step_obstacles.specs.Blocked.{AllPass, AreAnswered, IsFound, IsTold}
 use Rattle.step_obstacles.specs.declared.facing.Source.{Source}
 use Rattle.step_obstacles.specs.StepWindow.{AreMoving, IsOfSource, IsToldBy, IsWindowFor}
-use Rattle.step_obstacles.specs.Turns.{OfItem, OfSelectors, OfWindow, is_common, pair_of, with_kept}
+use Rattle.step_obstacles.specs.Turns.{OfItem, OfNumber, OfSelectors, OfWindow, is_common, pair_of, with_kept}
 use Rattle.wall_laws.specs.Holding.{Hindrance, OfPair, OfKept, Hinders}
 use Rattle.window_laws.specs.StepWindows.{StepsHaveWindows, window_start, middle_start, first_left, last_left, first_part, middle_part, last_part}
 use Rattle.window_laws.specs.Windows.{IsWindow, WindowsTellPairs, WindowsTellKept}
@@ -93,12 +93,16 @@ module _ (w : Window) (sources : List Source) (p : Pair) (one : (s : Source) × 
   parts : Parts
   parts = in_source one.0 p one.2
 
-  -- with another pair of the window
+  -- with another pair of an item
+  pub pair_of_number : (q : Pair) (n k : ℕ) (r : RuleParts) (g : DeclItem) → slice_get w.items.now n ≡ Some (Rule r) →
+      Contains (map (λ (z : SelItem). z.selector) r.selectors) q.selector → slice_get r.decls k ≡ Some g → g.decl ≡ q.decl → OfNumber w.items.now sources n (OfPair p q)
+  pair_of_number q n k r g at has g_at g_is =
+      let t = in_rule r q g k has g_at g_is in
+      (Rule r, at, (one.0, one.1, (parts.0, parts.1, (parts.5, (g, member_at r.decls k g g_at, (t.0, t.1, (parts.2, parts.3, ap₂ (λ (a b : Pair). OfPair a b) parts.4 t.2)))))))
+
   pub looked_at_pair : (q : Pair) (n k : ℕ) (r : RuleParts) (g : DeclItem) → w.start ≤ n → n ≤ w.last → slice_get w.items.now n ≡ Some (Rule r) →
       Contains (map (λ (z : SelItem). z.selector) r.selectors) q.selector → slice_get r.decls k ≡ Some g → g.decl ≡ q.decl → OfWindow w sources (OfPair p q)
-  looked_at_pair q n k r g above below at has g_at g_is =
-      let t = in_rule r q g k has g_at g_is in
-      (n, above, below, (Rule r, at, (one.0, one.1, (parts.0, parts.1, (parts.5, (g, member_at r.decls k g g_at, (t.0, t.1, (parts.2, parts.3, ap₂ (λ (a b : Pair). OfPair a b) parts.4 t.2))))))))
+  looked_at_pair q n k r g above below at has g_at g_is = (n, above, below, pair_of_number q n k r g at has g_at g_is)
 
   -- with a kept item of it
   pub looked_at_kept : (n number : ℕ) (item : Item) → w.start ≤ n → n ≤ w.last → slice_get w.items.now n ≡ Some item → is_kept item ≡ true → number ≡ kept_before n w.items.now → OfWindow w sources (OfKept p number)

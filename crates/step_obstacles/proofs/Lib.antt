@@ -13,6 +13,7 @@ mod Named
 mod Noted
 mod PairAnswers
 mod Sources
+mod Spans
 mod SpentRules
 mod Turning
 mod Unlike

@@ -2,5 +2,6 @@ pub mod Known
 pub mod Among
 pub mod Blocked
 pub mod Hinted
+pub mod Spans
 pub mod StepWindow
 pub mod Turns

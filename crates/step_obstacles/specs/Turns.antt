@@ -27,6 +27,7 @@ use Rattle.step_obstacles.specs.declared.facing.Facing.TheVariants as facing
 use Rattle.step_obstacles.specs.declared.facing.Met.{Met}
 use Rattle.step_obstacles.specs.declared.facing.MovedDecl.{MovedDecl}
 use Rattle.step_obstacles.specs.declared.facing.Source.{Source}
+use Rattle.step_obstacles.specs.declared.window_search.Span.{Span}
 use Rattle.wall_laws.specs.Holding.{Hindrance, OfPair, OfKept}
 use Rattle.window_order.specs.declared.window.Window.{Window}
 use Rattle.window_order.specs.Weighing.{DeclsWeigh}
@@ -195,10 +196,10 @@ OfWindow w sources by = (n : ℕ) × (w.start ≤ n) × (n ≤ w.last) × OfNumb
 
 -- ---- In which order
 
--- the item whose turn it is: upwards from the last one, or downwards from the first one
-abbrev pub number_of : Window → Bool → ℕ → ℕ
-number_of w upwards turn = if upwards then w.last - turn else w.start + turn
+-- the item whose turn it is: upwards from the last one of a span, or downwards from the first one
+abbrev pub number_of : Span → Bool → ℕ → ℕ
+number_of s upwards turn = if upwards then s.end - 1 - turn else s.first + turn
 
 -- with the items that had their turn
-abbrev pub OfTurns : Window → Bool → ℕ → List Source → Hindrance → Type 0
-OfTurns w upwards turns sources by = (n : ℕ) × (n < turns) × OfNumber w.items.now sources (number_of w upwards n) by
+abbrev pub OfTurns : Window → Span → Bool → ℕ → List Source → Hindrance → Type 0
+OfTurns w s upwards turns sources by = (n : ℕ) × (n < turns) × OfNumber w.items.now sources (number_of s upwards n) by

@@ -15,8 +15,10 @@ ghost use Rattle.sheet_order.specs.Taking as taking;
 ghost use Rattle.step_laws.specs.Free.{IsFree};
 ghost use Rattle.step_laws.specs.Steps.{HasStep, IsStep};
 ghost use Rattle.step_obstacles.specs.Hinted.{IsFirstOf};
+ghost use Rattle.step_obstacles.specs.Spans.{IsEnoughFor, IsWithin};
 ghost use Rattle.step_obstacles.specs.StepWindow.{AreThere, IsToldBy, IsWindowFor};
 ghost use Rattle.step_obstacles.specs.Turns as turns;
+ghost use Rattle.window_laws.specs.Beside as beside;
 ghost use Rattle.window_laws.specs.StepWindows as windows;
 
 use crate::behind::{rule_is_behind, takes_rule};
@@ -27,7 +29,7 @@ use crate::hints::{Hints, Way, hint_of, mover_of, note_found, way_of};
 use crate::left_parts::left_by;
 use crate::selector_masks::selector_masks_of;
 use crate::specificities::specificities_of;
-use crate::window_search::in_window;
+use crate::window_search::{Span, in_window};
 use css_model::{Rule, Sheet};
 use item_masks::ItemMask;
 use obstacles::Obstacle;
@@ -37,7 +39,9 @@ use sheet_order::Moved;
 use std::alloc::{AllocError, Global};
 use step_laws::{Step, parts_are_few, steps_are_one_edit};
 use step_savings::{items_of, rule_at};
-use window_laws::{steps_have_windows, windows_tell_kept, windows_tell_pairs};
+use window_laws::{
+    reversed_stand_beside, steps_have_windows, windows_tell_kept, windows_tell_pairs,
+};
 use window_order::Window;
 
 /// Where the window of a step begins, and its middle part.
@@ -91,6 +95,33 @@ pub fn window_of<'a>(sheet: &'a Sheet, masks: &'a [ItemMask], step: &Step) -> Wi
         first_left,
         last_left,
         left_mask,
+    }
+}
+
+/// Which items of the window of a step are looked at: all but the receiver of a join by selectors.
+fn span_of(step: &Step) -> Span
+    ensures first { result.first ≡ beside.beside_first step.now }
+    ensures end { result.end ≡ beside.beside_end step.now }
+{
+    match *step {
+        Step::CutDecl { item, .. } | Step::CutSel { item, .. } => Span {
+            first: 0,
+            end: item as usize + 1,
+        },
+        Step::JoinSelUp { upper, lower } => Span {
+            first: upper as usize + 1,
+            end: lower as usize + 1,
+        },
+        Step::JoinSelDown { upper, lower } => Span {
+            first: upper as usize,
+            end: lower as usize,
+        },
+        Step::JoinDeclUp { upper, lower }
+        | Step::JoinDeclDown { upper, lower }
+        | Step::Share { upper, lower } => Span {
+            first: upper as usize,
+            end: lower as usize + 1,
+        },
     }
 }
 
@@ -172,12 +203,15 @@ fn by_whole(
     alloc: Global,
     pairs: &mut Pairs,
     window: &Window<'_>,
+    span: Span,
     sheet: &Sheet,
     item: u32,
     upwards: bool,
 ) -> Result<Option<Obstacle>, AllocError>
     requires askable { turns.IsAskable sheet.now.items }
     requires items { window.now.items.now ≡ sheet.now.items }
+    requires within { IsWithin window.now span }
+    requires enough { IsEnoughFor sheet.now.items (moved.Rule item) window.now span }
     requires rule { (r : RuleParts) × (slice_get sheet.now.items item ≡ Some (kinds.Rule r)) }
     ensures stays { Stays pairs.old pairs.new }
     ensures told { IfOk result (λ found. IsToldBy pairs.new.answers sheet.now.items (moved.Rule item) window.now found) }
@@ -186,7 +220,7 @@ fn by_whole(
     if takes_rule(window, source.rule) && rule_is_behind(window, source.rule) {
         return Ok(None);
     }
-    in_window(alloc, pairs, window, &[source], upwards)
+    in_window(alloc, pairs, window, span, &[source], upwards)
 }
 
 /// What blocks of the common pairs of the rules of these numbers.
@@ -194,6 +228,7 @@ fn by_common(
     alloc: Global,
     pairs: &mut Pairs,
     window: &Window<'_>,
+    span: Span,
     sheet: &Sheet,
     upper: u32,
     lower: u32,
@@ -201,6 +236,8 @@ fn by_common(
 ) -> Result<Option<Obstacle>, AllocError>
     requires askable { turns.IsAskable sheet.now.items }
     requires items { window.now.items.now ≡ sheet.now.items }
+    requires within { IsWithin window.now span }
+    requires enough { IsEnoughFor sheet.now.items (moved.Common upper lower) window.now span }
     requires upper { (r : RuleParts) × (slice_get sheet.now.items upper ≡ Some (kinds.Rule r)) }
     requires lower { (r : RuleParts) × (slice_get sheet.now.items lower ≡ Some (kinds.Rule r)) }
     ensures stays { Stays pairs.old pairs.new }
@@ -208,28 +245,31 @@ fn by_common(
 {
     let above = common(alloc, sheet, upper, lower)?;
     let below = common(alloc, sheet, lower, upper)?;
-    in_window(alloc, pairs, window, &[above, below], upwards)
+    in_window(alloc, pairs, window, span, &[above, below], upwards)
 }
 
-/// What blocks of the pairs that are moved, looked for among all items of the window.
+/// What blocks of the pairs that are moved, looked for among the items of the window.
 fn by_search(
     alloc: Global,
     pairs: &mut Pairs,
     window: &Window<'_>,
+    span: Span,
     sheet: &Sheet,
     moved: &Moved,
     upwards: bool,
 ) -> Result<Option<Obstacle>, AllocError>
     requires askable { turns.IsAskable sheet.now.items }
     requires items { window.now.items.now ≡ sheet.now.items }
+    requires within { IsWithin window.now span }
+    requires enough { IsEnoughFor sheet.now.items moved.now window.now span }
     requires there { AreThere sheet.now.items moved.now }
     ensures stays { Stays pairs.old pairs.new }
     ensures told { IfOk result (λ found. IsToldBy pairs.new.answers sheet.now.items moved.now window.now found) }
 {
     match *moved {
-        Moved::Rule(item) => by_whole(alloc, pairs, window, sheet, item, upwards),
+        Moved::Rule(item) => by_whole(alloc, pairs, window, span, sheet, item, upwards),
         Moved::Common { upper, lower } => by_common(
-            alloc, pairs, window, sheet, upper, lower, upwards,
+            alloc, pairs, window, span, sheet, upper, lower, upwards,
         ),
     }
 }
@@ -270,12 +310,15 @@ fn by_moved(
     pairs: &mut Pairs,
     hints: &mut Hints,
     window: &Window<'_>,
+    span: Span,
     sheet: &Sheet,
     moved: &Moved,
     way: Way,
 ) -> Result<Option<Obstacle>, AllocError>
     requires askable { turns.IsAskable sheet.now.items }
     requires items { window.now.items.now ≡ sheet.now.items }
+    requires within { IsWithin window.now span }
+    requires enough { IsEnoughFor sheet.now.items moved.now window.now span }
     requires there { AreThere sheet.now.items moved.now }
     ensures stays { Stays pairs.old pairs.new }
     ensures told { IfOk result (λ found. IsToldBy pairs.new.answers sheet.now.items moved.now window.now found) }
@@ -285,16 +328,16 @@ fn by_moved(
     if let Some(found) = by_hint(pairs, window, &first, hint_of(hints, mover))? {
         return Ok(Some(found));
     }
-    let found = by_search(alloc, pairs, window, sheet, moved, is_from_below(way))?;
+    let found = by_search(alloc, pairs, window, span, sheet, moved, is_from_below(way))?;
     note_found(alloc, hints, &sheet.items, mover, found)?;
     Ok(found)
 }
 
 /// What blocks a step of a sheet, and `None` where it is free, by the answers for pairs of selectors, which are
 /// asked for. All that was answered stays, and the budget, also after `AllocError`. The time is that of a look at
-/// each moved pair with each pair of the items from the step's first to its last one, of a cut of all items above, and
-/// less where what blocked before does still. The memory is that of the masks of what is moved, besides that of answers
-/// and of hints: no part of a rule is copied.
+/// each moved pair with each pair of the items from the step's first to its last one, but for the receiver of a join by
+/// selectors, and of a cut with those of all items above; it is less where what blocked before does still. The memory is
+/// that of the masks of what is moved, besides that of answers and of hints: no part of a rule is copied.
 pub(crate) fn step_obstacle(
     alloc: Global,
     pairs: &mut Pairs,
@@ -316,7 +359,18 @@ pub(crate) fn step_obstacle(
     steps_have_windows();
     windows_tell_pairs();
     windows_tell_kept();
+    reversed_stand_beside();
     let window = window_of(sheet, masks, step);
+    let span = span_of(step);
     let moved = moved_of(step);
-    by_moved(alloc, pairs, hints, &window, sheet, &moved, way_of(step))
+    by_moved(
+        alloc,
+        pairs,
+        hints,
+        &window,
+        span,
+        sheet,
+        &moved,
+        way_of(step),
+    )
 }

@@ -6,6 +6,7 @@ ghost use Rattle.related_props.specs.Masks.{item_mask};
 ghost use Rattle.sheet_order.specs.Allowing.{Stays};
 ghost use Rattle.step_obstacles.specs.Blocked.{IsToldOf};
 ghost use Rattle.step_obstacles.specs.Known.{IsKnown};
+ghost use Rattle.step_obstacles.specs.Spans.{IsEnough, IsWithin};
 ghost use Rattle.step_obstacles.specs.Turns as turns;
 
 use crate::facing::Source;
@@ -88,44 +89,57 @@ fn of_number(
     )
 }
 
-/// How many items a window has.
-fn count_of(window: &Window<'_>) -> usize
-    ensures exact { result ≡ window.now.last - window.now.start + 1 }
-    ensures order { window.now.start ≤ window.now.last }
+/// Which items of a window are looked at, by their numbers.
+#[derive(Clone, Copy)]
+pub(crate) struct Span {
+    /// The first one.
+    pub(crate) first: usize,
+    /// The number behind the last one.
+    pub(crate) end: usize,
+}
+
+/// How many items these are.
+fn count_of(span: Span) -> usize
+    requires { span.first ≤ span.end }
+    ensures { result ≡ span.end - span.first }
 {
-    window.last - window.start + 1
+    span.end - span.first
 }
 
 /// The number of the item whose turn it is: upwards from the last one, or downwards from the first one.
-fn number_of(window: &Window<'_>, upwards: bool, turn: usize) -> usize
-    requires { window.now.start + turn ≤ window.now.last }
-    ensures { result ≡ turns.number_of window.now upwards turn }
+fn number_of(span: Span, upwards: bool, turn: usize) -> usize
+    requires { span.first + turn < span.end }
+    ensures { result ≡ turns.number_of span upwards turn }
 {
     if upwards {
-        window.last - turn
+        span.end - 1 - turn
     } else {
-        window.start + turn
+        span.first + turn
     }
 }
 
-/// Of some rules with all items of a window, upwards or downwards.
+/// Of some rules with all items of a window, of which those of a span are looked at, upwards or downwards: they are
+/// enough.
 pub(crate) fn in_window(
     alloc: Global,
     pairs: &mut Pairs,
     window: &Window<'_>,
+    span: Span,
     sources: &[Source<'_>],
     upwards: bool,
 ) -> Result<Option<Obstacle>, AllocError>
     requires askable { turns.IsAskable window.now.items.now }
+    requires within { IsWithin window.now span }
+    requires enough { IsEnough window.now span sources.now }
     requires sources { turns.AreSources window.now.items.now sources.now }
     requires masked { turns.AreMasked sources.now }
     ensures stays { Stays pairs.old pairs.new }
     ensures told { IfOk result (λ found. IsToldOf pairs.new.answers window.now (turns.OfWindow window.now sources.now) found) }
 {
-    let count = count_of(window);
+    let count = count_of(span);
     let mut known = nothing_known(alloc);
     for turn in 0..count {
-        let number = number_of(window, upwards, turn);
+        let number = number_of(span, upwards, turn);
         if let Some(found) = of_number(alloc, pairs, &mut known, window, sources, number)? {
             return Ok(Some(found));
         }

@@ -5,7 +5,9 @@ use Rattle.sheet_order.specs.Taking.{moved_of}
 use Rattle.step_obstacles.proofs.Askable.{askable}
 use Rattle.step_obstacles.proofs.Deciding.{told_blocked, told_free}
 use Rattle.step_obstacles.proofs.Moving.{are_there}
+use Rattle.step_obstacles.proofs.Spans.{span_is_enough, span_within}
 use Rattle.step_obstacles.proofs.step_search.step_obstacle.Goals as goal
+use Rattle.step_obstacles.specs.Spans.{IsEnoughFor}
 use Rattle.step_obstacles.specs.StepWindow.{AreThere, IsToldBy}
 
 pub by_moved-requires-clause-askable : goal.by_moved-requires-clause-askable
@@ -13,6 +15,13 @@ by_moved-requires-clause-askable c = askable c.parts_are_few.ensures c.selectors
 
 pub by_moved-requires-clause-there : goal.by_moved-requires-clause-there
 by_moved-requires-clause-there c = subst (AreThere c.args.sheet.now.items) (sym c.moved_of-moved.ensures) (are_there c.args.sheet.now.items c.args.step.now c.requires.is_step)
+
+pub by_moved-requires-clause-within : goal.by_moved-requires-clause-within
+by_moved-requires-clause-within c = span_within c.args.sheet.now.items c.args.step.now c.requires.is_step c.window_of-window.result c.window_of-window.ensures.window c.span_of-span.result c.span_of-span.ensures.first c.span_of-span.ensures.end
+
+pub by_moved-requires-clause-enough : goal.by_moved-requires-clause-enough
+by_moved-requires-clause-enough c = subst (λ (m : Moved). IsEnoughFor c.args.sheet.now.items m c.window_of-window.result c.span_of-span.result) (sym c.moved_of-moved.ensures)
+    (span_is_enough c.args.sheet.now.items c.args.step.now c.requires.is_step c.window_of-window.result c.window_of-window.ensures.window c.span_of-span.result c.span_of-span.ensures.first c.span_of-span.ensures.end c.reversed_stand_beside.ensures)
 
 pub returns-clause-free : goal.returns-clause-free
 returns-clause-free c =

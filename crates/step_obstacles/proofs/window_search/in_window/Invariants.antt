@@ -9,5 +9,5 @@ abbrev pub invariant-loop-turn : goal.invariant-loop-turn
 invariant-loop-turn l = record {
   stays : Stays l.fn.pairs l.pairs;
   known : IsKnown l.window l.known;
-  pass : AllPass l.pairs.answers l.window (OfTurns l.window l.upwards l.turn l.sources);
+  pass : AllPass l.pairs.answers l.window (OfTurns l.window l.span l.upwards l.turn l.sources);
 }
