@@ -1,13 +1,11 @@
 -- The steps in the scope of a lead: cuts of its item, and steps with partners.
-use Rattle.std.proofs.Common.{◌≡◌, ◌≢◌, ◌⊎◌, ℕ, ◌<◌, ◌≤◌, List, [], ◌∷◌, Option, Some, length, refl, sym, ap, subst, inl, inr, ◌∙◌, arith}
+use Rattle.std.proofs.Common.{◌≡◌, ◌⊎◌, ℕ, ◌<◌, ◌≤◌, List, Option, Some, length, sym, ap, subst, inl, inr, ◌∙◌, arith}
 use Rattle.std.specs.Prelude.{nat_lt, slice_get, slice_index}
-use Rattle.std.specs.List.{Contains}
-use Rattle.std.proofs.lemmas.Bool.{cases_lt, cond_both, ltb-false, ltb-true}
+use Rattle.std.proofs.lemmas.Bool.{cond_both, ltb-false, ltb-true}
 use Rattle.std.proofs.lemmas.Option.{slice_get_within}
 use Rattle.css_model.specs.declared.sheet.Item.{Item}
 use Rattle.css_model.specs.declared.sheet.Item.TheVariants.{Rule}
 use Rattle.css_model.specs.Sheets.RuleParts.{RuleParts}
-use Rattle.css_model.specs.Sheets.Sound.{IsSoundRule}
 use Rattle.hold_laws.specs.Births.{later_born, owner}
 use Rattle.hold_laws.specs.Scopes.{Scope, Alone, Owned, Ups, Downs, IsInScope}
 use Rattle.hold_laws.specs.Turns.{named}
@@ -20,19 +18,14 @@ use Rattle.order_laws.specs.Edits.{Edit}
 use Rattle.plan_board.specs.BoardParts.{BoardParts}
 use Rattle.plan_board.specs.declared.marks.Mark.{Mark}
 use Rattle.plan_board.specs.MarkList.{AreMarks, IsLabelAt, LacksLabel}
-use Rattle.plan_laws.specs.Plannable.{IsPlannable}
-use Rattle.rule_tables.specs.StepPartners.{HasParts, RulesAreLabelled, StepsHavePartners}
-use Rattle.rule_tables.specs.Tables.{CanBePartners, Cover, Labelled, TableParts, with_label}
-use Rattle.step_laws.proofs.ForCallers.{rule_sound}
 use Rattle.step_laws.specs.declared.step.Step.{Step}
 use Rattle.step_laws.specs.declared.step.Step.TheVariants.{CutDecl, CutSel, JoinSelUp, JoinSelDown, JoinDeclUp, JoinDeclDown, Share}
 use Rattle.step_laws.specs.Steps.{IsStep, first_item, last_item}
 use Rattle.step_savings.proofs.ForCallers.{first_rule, last_rule}
+use Rattle.step_turns.specs.Kinds.{IsByDecls, IsSelectorJoin}
 use Rattle.step_turns.specs.Looking.{Covers, FoundParts, IsWith, Reaches}
 use Rattle.plan_board.specs.MarkList.{births_of, labels_of}
-use Rattle.step_turns.specs.Marked.{rules_of}
 use Rattle.step_turns.specs.Named.{IsLedBeside}
-use Rattle.step_turns.proofs.Looking.{AllWith}
 use Rattle.step_turns.proofs.Telling.{birth_at, mark_of, mark_there, same_birth, same_label, there_of}
 use Rattle.wall_laws.specs.Renumbering.{IsOfTwo}
 
@@ -53,7 +46,7 @@ later_most xs x y = cond_both (nat_lt (slice_index xs x) (slice_index xs y)) y x
 
 -- ---- The items of a step
 
-order_of : (items : List Item) (k : Step) (e : Edit) → IsOfTwo k → IsStep items k e → first_item k < last_item k
+pub order_of : (items : List Item) (k : Step) (e : Edit) → IsOfTwo k → IsStep items k e → first_item k < last_item k
 order_of items (CutDecl n i) e two is = absurd two
 order_of items (CutSel n i) e two is = absurd two
 order_of items (JoinSelUp x y) e two is = is.rules.in_order
@@ -61,27 +54,6 @@ order_of items (JoinSelDown x y) e two is = is.rules.in_order
 order_of items (JoinDeclUp x y) e two is = is.rules.in_order
 order_of items (JoinDeclDown x y) e two is = is.rules.in_order
 order_of items (Share x y) e two is = is.rules.in_order
-
-cut_or_two : (k : Step) → ((IsOfTwo k → ⊥) × (last_item k ≡ first_item k)) ⊎ IsOfTwo k
-cut_or_two (CutDecl n i) = inl ((λ t. t), refl)
-cut_or_two (CutSel n i) = inl ((λ t. t), refl)
-cut_or_two (JoinSelUp x y) = inr tt
-cut_or_two (JoinSelDown x y) = inr tt
-cut_or_two (JoinDeclUp x y) = inr tt
-cut_or_two (JoinDeclDown x y) = inr tt
-cut_or_two (Share x y) = inr tt
-
-nonempty : {X : Type 0} (xs : List X) → xs ≢ [] → 0 < length xs
-nonempty xs some = elim (cases_lt 0 (length xs)) [ inl l ↦ l | inr l ↦ absurd (some (none xs l)) ]
-  where
-    none : {X : Type 0} (ys : List X) → length ys ≤ 0 → ys ≡ []
-    none [] l = refl
-    none (y ∷ ys) l = absurd (omega (arith, l))
-
-has_parts : (source : List ℕ) (items : List Item) (n : ℕ) (r : RuleParts) → IsPlannable source items → slice_get items n ≡ Some (Rule r) → HasParts r
-has_parts source items n r plannable at =
-    let sound : IsSoundRule source r = rule_sound source items n r plannable.sound at in
-    (nonempty r.selectors sound.has_selectors, nonempty r.decls sound.has_declarations)
 
 -- a step in a scope has the item of the scope
 one_of_two : (xs : List ℕ) (scope : Scope) (birth : ℕ) (k : Step) → IsInScope xs scope birth k → (slice_index xs (first_item k) ≡ birth) ⊎ (slice_index xs (last_item k) ≡ birth)
@@ -93,7 +65,7 @@ one_of_two xs Downs birth k (down, first) = inl (sym first)
 -- ---- All steps in the scope of a lead
 
 module _ (source : List ℕ) (board : BoardParts) (walls : WallParts) (after : Lead) (are : AreMarks board.marks board.next) (beside : length board.marks ≡ length board.items)
-    (plannable : IsPlannable source board.items) (number : ℕ) (own : Mark) (own_at : slice_get board.marks number ≡ Some own) (own_is : own.birth ≡ after.owner) where
+    (number : ℕ) (own : Mark) (own_at : slice_get board.marks number ≡ Some own) (own_is : own.birth ≡ after.owner) where
   mark_at : (n : ℕ) → n < length board.items → (m : Mark) × (slice_get board.marks n ≡ Some m)
   mark_at n less = mark_there board.marks n (subst (λ (c : ℕ). n < c) (sym beside) less)
 
@@ -103,42 +75,23 @@ module _ (source : List ℕ) (board : BoardParts) (walls : WallParts) (after : L
       let m : (m : Mark) × (slice_get board.marks n ≡ Some m) = mark_at n less in
       same_birth board.marks board.next are n number m.0 own m.1 own_at (sym (birth_at board.marks n m.0 m.1) ∙ is ∙ sym own_is)
 
-  module _ (best : FoundParts) (rule : RuleParts) (rule_at : slice_get board.items number ≡ Some (Rule rule)) (tables : TableParts) (cover : Cover tables (rules_of board)) (found : List ℕ)
-      (partners : StepsHavePartners) (labelled_are : RulesAreLabelled)
-      (all : (rules : List Labelled) (x : Labelled) → Cover tables rules → Contains rules x → CanBePartners rule x.rule → Contains found x.label)
-      (cuts : (k : Step) → (IsOfTwo k → ⊥) → first_item k ≡ number → Covers source board walls after best k) (withs : AllWith source board walls after best number found) where
-    -- a partner stands under its label
-    label_found : (n : ℕ) (m : Mark) (q : RuleParts) → slice_get board.marks n ≡ Some m → slice_get board.items n ≡ Some (Rule q) → CanBePartners rule q → Contains found m.label
-    label_found n m q at rule_there can =
-        all (rules_of board) (with_label q m.label) cover (labelled_are board.items (labels_of board.marks) n q m.label rule_there (there_of (λ x. x.label) board.marks n m at)) can
-
-    of_upper : (k : Step) (e : Edit) → IsOfTwo k → IsStep board.items k e → first_item k ≡ number → Covers source board walls after best k
-    of_upper k e two is first =
-        let lower : (r : RuleParts) × (slice_get board.items (last_item k) ≡ Some (Rule r)) = last_rule board.items k (e, is) in
-        let m : (m : Mark) × (slice_get board.marks (last_item k) ≡ Some m) = mark_at (last_item k) (slice_get_within board.items (last_item k) (Rule lower.0) lower.1) in
-        let at : slice_get board.items (first_item k) ≡ Some (Rule rule) = ap (slice_get board.items) first ∙ rule_at in
-        let can : CanBePartners rule lower.0 = (partners board.items k e rule lower.0 is (order_of board.items k e two is) at lower.1 (has_parts source board.items (first_item k) rule plannable at)).0 in
-        withs m.0.label k (label_found (last_item k) m.0 lower.0 m.1 lower.1 can) (record { other = last_item k; mark = m.0; own = own; mark_at = m.1; own_at = own_at; label_is = refl; of_two = two; items_are = inr (first, refl) })
-
-    of_lower : (k : Step) (e : Edit) → IsOfTwo k → IsStep board.items k e → last_item k ≡ number → Covers source board walls after best k
-    of_lower k e two is last =
-        let upper : (r : RuleParts) × (slice_get board.items (first_item k) ≡ Some (Rule r)) = first_rule board.items k (e, is) in
-        let m : (m : Mark) × (slice_get board.marks (first_item k) ≡ Some m) = mark_at (first_item k) (slice_get_within board.items (first_item k) (Rule upper.0) upper.1) in
-        let at : slice_get board.items (last_item k) ≡ Some (Rule rule) = ap (slice_get board.items) last ∙ rule_at in
-        let can : CanBePartners rule upper.0 = (partners board.items k e upper.0 rule is (order_of board.items k e two is) upper.1 at (has_parts source board.items (first_item k) upper.0 plannable upper.1)).1 in
-        withs m.0.label k (label_found (first_item k) m.0 upper.0 m.1 upper.1 can) (record { other = first_item k; mark = m.0; own = own; mark_at = m.1; own_at = own_at; label_is = refl; of_two = two; items_are = inl (refl, last) })
-
-    of_one : (k : Step) (e : Edit) → IsStep board.items k e → (first_item k ≡ number) ⊎ (last_item k ≡ number) → Covers source board walls after best k
-    of_one k e is here = which (cut_or_two k) here
-      where
-        which : ((IsOfTwo k → ⊥) × (last_item k ≡ first_item k)) ⊎ IsOfTwo k → (first_item k ≡ number) ⊎ (last_item k ≡ number) → Covers source board walls after best k
-        which (inl (cut, same)) (inl first) = cuts k cut first
-        which (inl (cut, same)) (inr last) = cuts k cut (sym same ∙ last)
-        which (inr two) (inl first) = of_upper k e two is first
-        which (inr two) (inr last) = of_lower k e two is last
+  -- the steps of each kind
+  module _ (best : FoundParts) (cuts : (k : Step) → (IsOfTwo k → ⊥) → first_item k ≡ number → Covers source board walls after best k)
+      (by_decls : (k : Step) → IsByDecls k → (first_item k ≡ number) ⊎ (last_item k ≡ number) → Covers source board walls after best k)
+      (by_selectors : (k : Step) → IsSelectorJoin k → (first_item k ≡ number) ⊎ (last_item k ≡ number) → Covers source board walls after best k) where
+    of_one : (k : Step) → (first_item k ≡ number) ⊎ (last_item k ≡ number) → Covers source board walls after best k
+    of_one (CutDecl n i) (inl h) = cuts (CutDecl n i) (λ t. t) h
+    of_one (CutDecl n i) (inr h) = cuts (CutDecl n i) (λ t. t) h
+    of_one (CutSel n i) (inl h) = cuts (CutSel n i) (λ t. t) h
+    of_one (CutSel n i) (inr h) = cuts (CutSel n i) (λ t. t) h
+    of_one (JoinSelUp x y) h = by_selectors (JoinSelUp x y) tt h
+    of_one (JoinSelDown x y) h = by_selectors (JoinSelDown x y) tt h
+    of_one (JoinDeclUp x y) h = by_decls (JoinDeclUp x y) tt h
+    of_one (JoinDeclDown x y) h = by_decls (JoinDeclDown x y) tt h
+    of_one (Share x y) h = by_decls (Share x y) tt h
 
     pub all_covered : (k : Step) → Covers source board walls after best k
-    all_covered k e n is saves some looked later = of_one k e is (which (one_of_two (births board) (lead_told after).scope after.owner k looked.0)) e n is saves some looked later
+    all_covered k e n is saves some looked later = of_one k (which (one_of_two (births board) (lead_told after).scope after.owner k looked.0)) e n is saves some looked later
       where
         which : (slice_index (births board) (first_item k) ≡ after.owner) ⊎ (slice_index (births board) (last_item k) ≡ after.owner) → (first_item k ≡ number) ⊎ (last_item k ≡ number)
         which (inl h) = let upper = first_rule board.items k (e, is) in inl (is_number (first_item k) (slice_get_within board.items (first_item k) (Rule upper.0) upper.1) h)
@@ -190,19 +143,27 @@ module _ (source : List ℕ) (board : BoardParts) (walls : WallParts) (after : L
         neither (inl (first, last)) ordered is_other same = omega (arith, first, last, ordered, is_other, same)
         neither (inr (first, last)) ordered is_other same = omega (arith, first, last, ordered, is_other, same)
 
-    pub partner_above : other < number → ((k : Step) → IsOfTwo k → first_item k ≡ other → last_item k ≡ number → Covers source board walls after best k) → (k : Step) → IsWith board number label k → Covers source board walls after best k
-    partner_above less joins k w e n is saves some in_it later = which w.items_are
+    pub partner_above : other < number → (k : Step) → (first_item k ≡ other → last_item k ≡ number → Covers source board walls after best k) → IsWith board number label k → Covers source board walls after best k
+    partner_above less k joins w e n is saves some in_it later = which w.items_are
       where
         which : ((first_item k ≡ w.other) × (last_item k ≡ number)) ⊎ ((first_item k ≡ number) × (last_item k ≡ w.other)) → Reaches best (named (labels_of board.marks) n k)
-        which (inl (first, last)) = joins k w.of_two (first ∙ same_other k w) last e n is saves some in_it later
+        which (inl (first, last)) = joins (first ∙ same_other k w) last e n is saves some in_it later
         which (inr (first, last)) = absurd (let o : first_item k < last_item k = order_of board.items k e w.of_two is in let s : w.other ≡ other = same_other k w in omega (arith, o, s, first, last, less))
 
-    pub partner_below : number ≤ other → ((k : Step) → IsOfTwo k → first_item k ≡ number → last_item k ≡ other → Covers source board walls after best k) → (k : Step) → IsWith board number label k → Covers source board walls after best k
-    partner_below more joins k w e n is saves some in_it later = which w.items_are
+    pub partner_below : number ≤ other → (k : Step) → (first_item k ≡ number → last_item k ≡ other → Covers source board walls after best k) → IsWith board number label k → Covers source board walls after best k
+    partner_below more k joins w e n is saves some in_it later = which w.items_are
       where
         which : ((first_item k ≡ w.other) × (last_item k ≡ number)) ⊎ ((first_item k ≡ number) × (last_item k ≡ w.other)) → Reaches best (named (labels_of board.marks) n k)
         which (inl (first, last)) = absurd (let o : first_item k < last_item k = order_of board.items k e w.of_two is in let s : w.other ≡ other = same_other k w in omega (arith, o, s, first, last, more))
-        which (inr (first, last)) = joins k w.of_two first (last ∙ same_other k w) e n is saves some in_it later
+        which (inr (first, last)) = joins first (last ∙ same_other k w) e n is saves some in_it later
+
+    -- no step is of an item and itself
+    pub partner_itself : number ≤ other → other ≤ number → (k : Step) → IsWith board number label k → Covers source board walls after best k
+    partner_itself least most k w e n is saves some in_it later = absurd (which w.items_are)
+      where
+        which : ((first_item k ≡ w.other) × (last_item k ≡ number)) ⊎ ((first_item k ≡ number) × (last_item k ≡ w.other)) → ⊥
+        which (inl (first, last)) = let o : first_item k < last_item k = order_of board.items k e w.of_two is in let s : w.other ≡ other = same_other k w in omega (arith, o, s, first, last, least, most)
+        which (inr (first, last)) = let o : first_item k < last_item k = order_of board.items k e w.of_two is in let s : w.other ≡ other = same_other k w in omega (arith, o, s, first, last, least, most)
 
 -- ---- Where the item of a scope is not there
 

@@ -204,7 +204,7 @@ common_once u l once =
 
 module _ (source : List ℕ) (items : List Item) (x y : ℕ) (u l : RuleParts) (sound : IsSound source items) (at : slice_get items x ≡ Some (Rule u)) (at' : slice_get items y ≡ Some (Rule l))
     (once : StandOnce (λ (d : DeclItem). d.decl) l.decls) (kx ky : ℕ) (upper_kept : IsKept source u l kx) (lower_kept : IsKept source l u ky) where
-  share_weighs : (e : Edit) → IsStep items (Share x y) e →
+  pub share_weighs : (e : Edit) → IsStep items (Share x y) e →
       size source (edited e items) + (among_weight source u.decls l.decls + weight (printed_selector source) l.selectors) ≡ size source items + (kx + ky + weight (printed_selector source) (new_selectors u l))
   share_weighs e is =
       let law : size source (edited e items) + (rule_weight source u + rule_weight source l) ≡ size source items + brought_weight source e.changes = steps_weigh source items (Share x y) e is sound u l at at' in

@@ -1,5 +1,5 @@
 -- Steps whose turns come too late (own).
-use Rattle.std.specs.Prelude.{◌≡◌, ◌⊎◌, ◌+◌, ◌≤◌, ℕ, List, Some, length, slice_get}
+use Rattle.std.specs.Prelude.{◌≡◌, ◌⊎◌, ◌+◌, ◌≤◌, ℕ, List, Some, slice_get}
 use Rattle.std.specs.List.{filter}
 use Rattle.css_model.specs.declared.sheet.Item.{Item}
 use Rattle.css_model.specs.declared.sheet.Item.TheVariants.{Rule}
@@ -12,8 +12,10 @@ use Rattle.plan_board.specs.BoardParts.{BoardParts}
 use Rattle.plan_board.specs.MarkList.{labels_of}
 use Rattle.step_laws.specs.declared.step.Step.{Step}
 use Rattle.step_laws.specs.Sizes.{Saves, weight}
-use Rattle.step_laws.specs.Steps.{IsStep, StandsBefore}
+use Rattle.step_laws.specs.Steps.{IsStep, StandsBefore, first_item, last_item}
+use Rattle.step_turns.specs.Kinds.{IsByDecls}
 use Rattle.step_turns.specs.Looking.{FoundParts, ReachesLast}
+use Rattle.step_turns.specs.Once.{DeclsStandOnce}
 
 -- a step of a board's sheet does not come before the first of the others that were found
 abbrev pub IsLate : List ℕ → BoardParts → FoundParts → Step → Type 0
@@ -40,6 +42,8 @@ abbrev pub CommonWeighsAtMost : List ℕ → List Item → (upper lower left mos
 CommonWeighsAtMost source items upper lower left most = (u l : RuleParts) → slice_get items upper ≡ Some (Rule u) → slice_get items lower ≡ Some (Rule l) →
     left + weight (printed_selector source) (filter (λ s. has_selector u.selectors s.selector) l.selectors) ≤ most
 
--- the rule of this number has one declaration
-abbrev pub HasOneDecl : List Item → ℕ → Type 0
-HasOneDecl items n = (r : RuleParts) → slice_get items n ≡ Some (Rule r) → length r.decls ≡ 1
+-- The joins by declarations and the share of these two rules save no more than this, if each declaration of the lower one
+-- stands in it once.
+abbrev pub ByDeclsSaveAtMost : List ℕ → List Item → (upper lower most : ℕ) → Type 0
+ByDeclsSaveAtMost source items upper lower most = DeclsStandOnce items lower → (k : Step) (e : Edit) (n : ℕ) → IsByDecls k → first_item k ≡ upper → last_item k ≡ lower →
+    IsStep items k e → Saves source items e n → n ≤ most

@@ -1,5 +1,8 @@
 pub mod Digested
+pub mod Halves
+pub mod Kinds
 pub mod Late
+pub mod LaterLabels
 pub mod Looking
 pub mod Marked
 pub mod Named

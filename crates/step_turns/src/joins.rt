@@ -10,10 +10,10 @@ ghost use Rattle.step_laws.specs.declared.step.Step as declared;
 ghost use Rattle.step_laws.specs.declared.step.Step.TheVariants as kinds;
 ghost use Rattle.step_laws.specs.Steps.{first_item, last_item};
 ghost use Rattle.step_savings.specs.Apart.{RulesApart};
+ghost use Rattle.step_turns.specs.Kinds.{IsByDecls};
 ghost use Rattle.step_turns.specs.Looking.{AreLater, Covers, Keeps};
 ghost use Rattle.step_turns.specs.Marked.{rules_of};
 ghost use Rattle.step_turns.specs.Once.{DeclsStandOnce};
-ghost use Rattle.wall_laws.specs.Renumbering.{IsOfTwo};
 
 use crate::found::Found;
 use crate::late::{decl_joins_are_late, selector_joins_are_late, share_is_late};
@@ -29,7 +29,7 @@ use std::alloc::AllocError;
 use step_laws::Step;
 
 /// Puts the turns of the joins of two rules by their selectors. `past` says which of them are known to go past walls.
-fn try_selector_joins(
+pub(crate) fn try_selector_joins(
     board: &Board,
     tables: &Tables,
     source: &KnownLengths<'_>,
@@ -38,7 +38,6 @@ fn try_selector_joins(
     upper: u32,
     lower: u32,
     past: Past,
-    apart: bool,
     found: &mut Found,
 ) -> Result<(), AllocError>
     requires plannable { IsPlannable source.now board.now.items }
@@ -47,7 +46,6 @@ fn try_selector_joins(
     requires lower { lower < length board.now.items }
     requires past_up { past.up ≡ true → IsPastWall board.now walls.now ways.Up lower upper }
     requires past_down { past.down ≡ true → IsPastWall board.now walls.now ways.Down upper lower }
-    requires apart { apart ≡ true → RulesApart board.now.items upper lower }
     requires later { AreLater source.now board.now after.now found.old }
     requires few { length found.old.leads ≤ room }
     ensures keeps { OnOk result (Keeps found.old found.new) }
@@ -65,7 +63,7 @@ fn try_selector_joins(
     let up = Step::JoinSelUp { upper, lower };
     let down = Step::JoinSelDown { upper, lower };
     try_both(
-        board, tables, source, walls, after, &up, &down, past, apart, found,
+        board, tables, source, walls, after, &up, &down, past, false, found,
     )
 }
 
@@ -139,7 +137,7 @@ fn try_share(
     if share_no_decl(board, upper, lower) {
         return Ok(());
     }
-    if share_is_late(board, source, upper, lower, apart, found) {
+    if share_is_late(board, source, upper, lower, apart, once, found) {
         return Ok(());
     }
     let step = Step::Share { upper, lower };
@@ -153,9 +151,9 @@ fn try_share(
     )
 }
 
-/// Puts the turns of the steps of two items. Of a kind of which their masks tell that there is none, none is tried. `once`
-/// says that each declaration of the lower one is known to stand in it once.
-pub(crate) fn try_joins(
+/// Puts the turns of the joins of two items by their declarations, and of their share. Of a kind of which their masks tell that
+/// there is none, none is tried. `once` says that each declaration of the lower one is known to stand in it once.
+pub(crate) fn try_by_decls(
     board: &Board,
     tables: &Tables,
     source: &KnownLengths<'_>,
@@ -176,16 +174,13 @@ pub(crate) fn try_joins(
     requires later { AreLater source.now board.now after.now found.old }
     requires few { length found.old.leads ≤ room }
     ensures keeps { OnOk result (Keeps found.old found.new) }
-    ensures covers { OnOk result ((k : declared.Step) → IsOfTwo k → first_item k ≡ upper → last_item k ≡ lower → Covers source.now board.now walls.now after.now found.new k) }
+    ensures covers { OnOk result ((k : declared.Step) → IsByDecls k → first_item k ≡ upper → last_item k ≡ lower → Covers source.now board.now walls.now after.now found.new k) }
     ensures later { OnOk result (AreLater source.now board.now after.now found.new) }
     ensures few { length found.new.leads ≤ room }
 {
     let up = is_up_past(board, walls, upper, lower);
     let down = is_down_past(board, walls, upper, lower);
     let past = Past { up, down };
-    try_selector_joins(
-        board, tables, source, walls, after, upper, lower, past, apart, found,
-    )?;
     try_decl_joins(
         board, tables, source, walls, after, upper, lower, past, apart, found,
     )?;

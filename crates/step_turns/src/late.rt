@@ -13,19 +13,20 @@ ghost use Rattle.step_laws.specs.declared.step.Step as declared;
 ghost use Rattle.step_laws.specs.declared.step.Step.TheVariants as kinds;
 ghost use Rattle.step_laws.specs.Sizes as sizes;
 ghost use Rattle.step_savings.specs.Apart.{RulesApart};
-ghost use Rattle.step_turns.specs.Late.{CommonWeighsAtMost, DeclsWeighAtMost, HasOneDecl, IsFrom, IsLate, LeavesOfSelectors, SelectorsWeighAtMost};
+ghost use Rattle.step_turns.specs.Late.{CommonWeighsAtMost, DeclsWeighAtMost, IsFrom, IsLate, LeavesOfSelectors, SelectorsWeighAtMost};
 ghost use Rattle.step_turns.specs.Looking.{ReachesLast};
+ghost use Rattle.step_turns.specs.Once.{DeclsStandOnce};
 ghost use Rattle.wall_laws.specs.Holding.{turn_of};
 
 use crate::cuts::find_rule;
 use crate::found::Found;
-use crate::order::{is_sooner, label_of};
+use crate::later_labels::most_behind;
+use crate::order::label_of;
+use crate::uncut::is_known_uncut;
 use css_model::{DeclItem, SelItem};
-use hold_laws::turns_are_ordered;
 use lead_plan::{Kind, Lead};
 use merge_plan::KnownLengths;
 use plan_board::Board;
-use std::cmp::Reverse;
 use step_savings::Lengths;
 
 /// What is left of so much without the weight of selectors, if they weigh no more.
@@ -119,14 +120,21 @@ fn without_common(
     left_of_selectors(board, source, lower, most)
 }
 
-/// Whether a rule is known to have one declaration.
+/// Whether a rule is known to have each of its declarations once, since it has but one.
 fn has_one_decl(board: &Board, number: u32) -> bool
-    ensures { result ≡ true → HasOneDecl board.now.items number }
+    ensures { result ≡ true → DeclsStandOnce board.now.items number }
 {
     match find_rule(board.sheet(), number) {
         Some(rule) => rule.decls.len() == 1,
         None => false,
     }
+}
+
+/// Whether a rule is known to have each of its declarations once.
+pub(crate) fn has_decls_once(board: &Board, number: u32) -> bool
+    ensures { result ≡ true → DeclsStandOnce board.now.items number }
+{
+    has_one_decl(board, number) || is_known_uncut(board, number)
 }
 
 /// How much a step of two items may save, at most, and not come before the first of the others, if its kind is this one or a
@@ -143,26 +151,7 @@ fn late_saving(
     ensures { IfSome result (λ most. (n : ℕ) (k : declared.Step) → n ≤ most → IsFrom (step_of_kind kind (slice_index (labels_of board.now.marks) upper) (slice_index (labels_of board.now.marks) lower)) k
         → ReachesLast others.now (turn_of n k)) }
 {
-    turns_are_ordered();
-    let Some(other) = others else {
-        return None;
-    };
-    let saving = other.saving.0;
-    let soonest = Lead {
-        saving: Reverse(saving),
-        kind,
-        first: label_of(board, upper),
-        second: label_of(board, lower),
-        owner: other.owner,
-        scope: other.scope,
-    };
-    if !is_sooner(&soonest, other) {
-        return Some(u64::from(saving));
-    }
-    if saving == 0 {
-        return None;
-    }
-    Some(u64::from(saving - 1))
+    most_behind(others, kind, label_of(board, upper), label_of(board, lower))
 }
 
 /// Whether the joins of two rules by their selectors are known not to come before the first of the others.
@@ -212,27 +201,29 @@ pub(crate) fn decl_joins_are_late(
 }
 
 /// Whether the share of two rules is known not to come before the first of the others. `apart` says that no selector is one
-/// of both. It is not known where the lower rule has more than one declaration.
+/// of both, `once` that each declaration of the lower one is known to stand in it once; else nothing is known.
 pub(crate) fn share_is_late(
     board: &Board,
     source: &KnownLengths<'_>,
     upper: u32,
     lower: u32,
     apart: bool,
+    once: bool,
     found: &Found,
 ) -> bool
     requires plannable { IsPlannable source.now board.now.items }
     requires upper { upper < length board.now.items }
     requires lower { lower < length board.now.items }
     requires apart { apart ≡ true → RulesApart board.now.items upper lower }
+    requires once { once ≡ true → DeclsStandOnce board.now.items lower }
     ensures { result ≡ true → IsLate source.now board.now found.now (kinds.Share upper lower) }
 {
+    if !once {
+        return false;
+    }
     let Some(most) = late_saving(board, &found.others, Kind::Sharing, upper, lower) else {
         return false;
     };
-    if !has_one_decl(board, lower) {
-        return false;
-    }
     let Some(left) = without_common(board, source, upper, lower, apart, most) else {
         return false;
     };

@@ -3,23 +3,31 @@
 
 mod apart;
 mod cuts;
+mod decl_partners;
 mod doubles;
 mod found;
 mod joins;
+mod label_halves;
 mod late;
+mod later_labels;
 mod masks;
 mod naming;
 mod near;
 mod next;
 mod order;
+mod others;
+mod passes;
 mod past_walls;
+mod rule_cuts;
 mod scopes;
+mod selector_partners;
 mod shares;
 mod standing;
 mod trying;
+mod uncut;
 
 pub use found::Found;
 pub use naming::step_of_lead;
-pub use next::next_leads;
+pub use next::{Looked, Seen, next_leads};
 pub use past_walls::is_walled;
 pub use standing::stands_from;

@@ -1,0 +1,420 @@
+//! The joins by declarations and the shares of an item and others.
+
+ghost use Rattle.std.specs.Prelude.{◌≡◌, ◌≢◌, ℕ, ◌<◌, ◌≤◌, IfSome, OnOk, Some, length, slice_get, slice_index, true};
+ghost use Rattle.std.specs.List.{Contains};
+ghost use Rattle.std.specs.List.Sorted.{IsStrictlyIncreasing};
+ghost use Rattle.css_model.specs.declared.sheet.Item.TheVariants as item;
+ghost use Rattle.css_model.specs.Sheets.Printed.{printed_selector};
+ghost use Rattle.css_model.specs.Sheets.RuleParts.{RuleParts};
+ghost use Rattle.lead_plan.specs.declared.lead.Kind.TheVariants as lead_kinds;
+ghost use Rattle.lead_plan.specs.Heaviest.{AreNotHeavier};
+ghost use Rattle.lead_plan.specs.Weights.{room};
+ghost use Rattle.plan_board.specs.Facts.{HasOwnSelectors};
+ghost use Rattle.plan_board.specs.MarkList.{IsLabelAt, births_of, labels_of};
+ghost use Rattle.plan_laws.specs.Plannable.{IsPlannable};
+ghost use Rattle.rule_tables.specs.Tables.{Cover};
+ghost use Rattle.step_laws.specs.declared.step.Step as declared;
+ghost use Rattle.step_laws.specs.Sizes as sizes;
+ghost use Rattle.step_laws.specs.Steps.{first_item, last_item};
+ghost use Rattle.step_savings.specs.Apart.{RulesApart};
+ghost use Rattle.step_savings.specs.Weighing.{IsWeighable};
+ghost use Rattle.step_turns.specs.Digested.{Tells};
+ghost use Rattle.step_turns.specs.Kinds.{IsByDecls};
+ghost use Rattle.step_turns.specs.Late.{ByDeclsSaveAtMost};
+ghost use Rattle.step_turns.specs.LaterLabels.{AreLateFrom};
+ghost use Rattle.step_turns.specs.Looking.{AreLater, Covers, IsWith, Keeps};
+ghost use Rattle.step_turns.specs.Marked.{rules_of};
+ghost use Rattle.step_turns.specs.Once.{DeclsStandOnce};
+
+use crate::apart::are_apart;
+use crate::found::Found;
+use crate::joins::try_by_decls;
+use crate::label_halves::halves;
+use crate::late::has_decls_once;
+use crate::later_labels::most_beside;
+use crate::order::label_of;
+use crate::others::other_number;
+use css_model::Rule;
+use lead_plan::{Heaviest, Kind, Lead, Walls};
+use merge_plan::KnownLengths;
+use plan_board::Board;
+use rule_tables::Tables;
+use std::alloc::AllocError;
+use std::collections::BTreeSet;
+use step_savings::selectors_weight;
+
+/// The weight of the selectors of the rule of this number.
+fn selectors_weight_at(board: &Board, source: &KnownLengths<'_>, number: u32, rule: &Rule) -> u64
+    requires plannable { IsPlannable source.now board.now.items }
+    requires rule { slice_get board.now.items number ≡ Some (item.Rule rule.now) }
+    ensures { result ≡ sizes.weight (printed_selector source.now) rule.now.selectors }
+{
+    weight_of_selectors(source, rule)
+}
+
+/// The weight of the selectors of a rule.
+fn weight_of_selectors(source: &KnownLengths<'_>, rule: &Rule) -> u64
+    requires { IsWeighable source.now rule.now }
+    ensures { result ≡ sizes.weight (printed_selector source.now) rule.now.selectors }
+{
+    selectors_weight(source, &rule.selectors)
+}
+
+/// What the steps by declarations of a rule and one above it save at most, if each declaration of the rule stands in it once.
+/// `own` says that no other rule has one of its selectors. Nothing is told where it is too much to be counted.
+fn most_above(
+    board: &Board,
+    source: &KnownLengths<'_>,
+    heaviest: Heaviest,
+    number: u32,
+    rule: &Rule,
+    own: bool,
+) -> Option<u64>
+    requires plannable { IsPlannable source.now board.now.items }
+    requires heaviest { AreNotHeavier source.now board.now.items heaviest }
+    requires rule { slice_get board.now.items number ≡ Some (item.Rule rule.now) }
+    requires own { own ≡ true → HasOwnSelectors board.now.items number }
+    ensures { IfSome result (λ most. (upper : ℕ) → ByDeclsSaveAtMost source.now board.now.items upper number most) }
+{
+    if own {
+        return Some(heaviest.decls);
+    }
+    heaviest
+        .decls
+        .checked_add(selectors_weight_at(board, source, number, rule))
+}
+
+/// And so of a rule and one below it, if each declaration of that one stands in it once.
+fn most_below(
+    board: &Board,
+    source: &KnownLengths<'_>,
+    heaviest: Heaviest,
+    number: u32,
+    own: bool,
+) -> Option<u64>
+    requires plannable { IsPlannable source.now board.now.items }
+    requires heaviest { AreNotHeavier source.now board.now.items heaviest }
+    requires own { own ≡ true → HasOwnSelectors board.now.items number }
+    ensures { IfSome result (λ most. (lower : ℕ) → ByDeclsSaveAtMost source.now board.now.items number lower most) }
+{
+    if own {
+        return Some(heaviest.decls);
+    }
+    heaviest.decls.checked_add(heaviest.selectors)
+}
+
+/// Whether it is known of the steps by declarations of the item with the label `at` and others, which save no more than `most`
+/// if `once` holds, that they do not come before the first of the others that were found, if the labels of the other items
+/// are this one or later ones on the same side of `at`.
+fn are_late_from(found: &Found, most: Option<u64>, once: bool, at: u64, label: u64) -> bool
+    ensures once { result ≡ true → once ≡ true }
+    ensures late { result ≡ true → (limit : ℕ) × (most ≡ Some limit) × AreLateFrom found.now.others lead_kinds.DeclJoinUp at label limit }
+{
+    if !once {
+        return false;
+    }
+    let Some(most) = most else {
+        return false;
+    };
+    let Some(limit) = most_beside(&found.others, Kind::DeclJoinUp, at, label) else {
+        return false;
+    };
+    if limit < most {
+        return false;
+    }
+    true
+}
+
+/// Whether the rules of two numbers are known to have no selector in common. `own` says that no other rule has one of the first
+/// one's; the digests that are told are of its selectors.
+fn are_known_apart(
+    board: &Board,
+    told: &Option<BTreeSet<u32>>,
+    own: bool,
+    number: u32,
+    other: u32,
+) -> bool
+    requires number { number < length board.now.items }
+    requires other { other < length board.now.items }
+    requires differ { other ≢ number }
+    requires told { (r : RuleParts) → slice_get board.now.items number ≡ Some (item.Rule r) → Tells told.now r }
+    requires own { own ≡ true → HasOwnSelectors board.now.items number }
+    ensures forth { result ≡ true → RulesApart board.now.items number other }
+    ensures back { result ≡ true → RulesApart board.now.items other number }
+{
+    own || are_apart(board, told, number, other)
+}
+
+/// Puts the turns of the steps by declarations of an item and one below it. `most` is what they save at most, if each
+/// declaration of the lower one stands in it once.
+fn try_lower(
+    board: &Board,
+    tables: &Tables,
+    source: &KnownLengths<'_>,
+    walls: &Walls,
+    after: &Lead,
+    number: u32,
+    other: u32,
+    at: u64,
+    label: u64,
+    told: &Option<BTreeSet<u32>>,
+    own: bool,
+    most: Option<u64>,
+    found: &mut Found,
+) -> Result<(), AllocError>
+    requires plannable { IsPlannable source.now board.now.items }
+    requires cover { Cover tables.now (rules_of board.now) }
+    requires other { other < length board.now.items }
+    requires in_order { number < other }
+    requires at { slice_index (labels_of board.now.marks) number ≡ at }
+    requires label { IsLabelAt board.now.marks label other }
+    requires told { (r : RuleParts) → slice_get board.now.items number ≡ Some (item.Rule r) → Tells told.now r }
+    requires own { own ≡ true → HasOwnSelectors board.now.items number }
+    requires most { IfSome most (ByDeclsSaveAtMost source.now board.now.items number other) }
+    requires later { AreLater source.now board.now after.now found.old }
+    requires few { length found.old.leads ≤ room }
+    ensures keeps { OnOk result (Keeps found.old found.new) }
+    ensures covers { OnOk result ((k : declared.Step) → IsByDecls k → first_item k ≡ number → last_item k ≡ other → Covers source.now board.now walls.now after.now found.new k) }
+    ensures later { OnOk result (AreLater source.now board.now after.now found.new) }
+    ensures few { length found.new.leads ≤ room }
+{
+    let _marks = board.marks();
+    let once = has_decls_once(board, other);
+    if are_late_from(found, most, once, at, label) {
+        return Ok(());
+    }
+    let apart = are_known_apart(board, told, own, number, other);
+    try_by_decls(
+        board, tables, source, walls, after, number, other, apart, once, found,
+    )
+}
+
+/// And of an item and one above it. `once` says that each declaration of the item is known to stand in it once.
+fn try_upper(
+    board: &Board,
+    tables: &Tables,
+    source: &KnownLengths<'_>,
+    walls: &Walls,
+    after: &Lead,
+    number: u32,
+    other: u32,
+    told: &Option<BTreeSet<u32>>,
+    own: bool,
+    once: bool,
+    found: &mut Found,
+) -> Result<(), AllocError>
+    requires plannable { IsPlannable source.now board.now.items }
+    requires cover { Cover tables.now (rules_of board.now) }
+    requires there { number < length board.now.items }
+    requires in_order { other < number }
+    requires told { (r : RuleParts) → slice_get board.now.items number ≡ Some (item.Rule r) → Tells told.now r }
+    requires own { own ≡ true → HasOwnSelectors board.now.items number }
+    requires once { once ≡ true → DeclsStandOnce board.now.items number }
+    requires later { AreLater source.now board.now after.now found.old }
+    requires few { length found.old.leads ≤ room }
+    ensures keeps { OnOk result (Keeps found.old found.new) }
+    ensures covers { OnOk result ((k : declared.Step) → IsByDecls k → first_item k ≡ other → last_item k ≡ number → Covers source.now board.now walls.now after.now found.new k) }
+    ensures later { OnOk result (AreLater source.now board.now after.now found.new) }
+    ensures few { length found.new.leads ≤ room }
+{
+    let apart = are_known_apart(board, told, own, number, other);
+    try_by_decls(
+        board, tables, source, walls, after, other, number, apart, once, found,
+    )
+}
+
+/// Puts the turns of the steps by declarations of the item with the label `at` and another one with this label. `most` is what
+/// the steps with one below it save at most, if each declaration of that one stands in it once; `last` is the number of the
+/// last one that was found.
+fn try_partner(
+    board: &Board,
+    tables: &Tables,
+    source: &KnownLengths<'_>,
+    walls: &Walls,
+    after: &Lead,
+    number: u32,
+    at: u64,
+    label: u64,
+    told: &Option<BTreeSet<u32>>,
+    own: bool,
+    once: bool,
+    most: Option<u64>,
+    last: &mut u32,
+    found: &mut Found,
+) -> Result<(), AllocError>
+    requires plannable { IsPlannable source.now board.now.items }
+    requires cover { Cover tables.now (rules_of board.now) }
+    requires there { number < length board.now.items }
+    requires at { slice_index (labels_of board.now.marks) number ≡ at }
+    requires owned { slice_index (births_of board.now.marks) number ≡ after.now.owner }
+    requires told { (r : RuleParts) → slice_get board.now.items number ≡ Some (item.Rule r) → Tells told.now r }
+    requires own { own ≡ true → HasOwnSelectors board.now.items number }
+    requires once { once ≡ true → DeclsStandOnce board.now.items number }
+    requires most { IfSome most (λ limit. (lower : ℕ) → ByDeclsSaveAtMost source.now board.now.items number lower limit) }
+    requires later { AreLater source.now board.now after.now found.old }
+    requires few { length found.old.leads ≤ room }
+    ensures keeps { OnOk result (Keeps found.old found.new) }
+    ensures covers { OnOk result ((k : declared.Step) → IsWith board.now number label k → IsByDecls k → Covers source.now board.now walls.now after.now found.new k) }
+    ensures later { OnOk result (AreLater source.now board.now after.now found.new) }
+    ensures few { length found.new.leads ≤ room }
+{
+    let _marks = board.marks();
+    let Some(other) = other_number(board, after, number, label, last) else {
+        return Ok(());
+    };
+    if other < number {
+        return try_upper(
+            board, tables, source, walls, after, number, other, told, own, once, found,
+        );
+    }
+    if number < other {
+        return try_lower(
+            board, tables, source, walls, after, number, other, at, label, told, own, most, found,
+        );
+    }
+    Ok(())
+}
+
+/// Puts the turns of the steps by declarations of the item with the label `at` and others with these labels, which ascend below
+/// it. It ends where all that is left comes too late. `most_above` is what the steps with one above save at most, if each
+/// declaration of the item stands in it once.
+fn try_above(
+    board: &Board,
+    tables: &Tables,
+    source: &KnownLengths<'_>,
+    walls: &Walls,
+    after: &Lead,
+    number: u32,
+    at: u64,
+    labels: &[u64],
+    told: &Option<BTreeSet<u32>>,
+    own: bool,
+    once: bool,
+    most_above: Option<u64>,
+    found: &mut Found,
+) -> Result<(), AllocError>
+    requires plannable { IsPlannable source.now board.now.items }
+    requires cover { Cover tables.now (rules_of board.now) }
+    requires there { number < length board.now.items }
+    requires at { slice_index (labels_of board.now.marks) number ≡ at }
+    requires owned { slice_index (births_of board.now.marks) number ≡ after.now.owner }
+    requires ascends { IsStrictlyIncreasing labels.now }
+    requires above { (label : ℕ) → Contains labels.now label → label < at }
+    requires told { (r : RuleParts) → slice_get board.now.items number ≡ Some (item.Rule r) → Tells told.now r }
+    requires own { own ≡ true → HasOwnSelectors board.now.items number }
+    requires once { once ≡ true → DeclsStandOnce board.now.items number }
+    requires most { IfSome most_above (λ limit. (upper : ℕ) → ByDeclsSaveAtMost source.now board.now.items upper number limit) }
+    requires later { AreLater source.now board.now after.now found.old }
+    requires few { length found.old.leads ≤ room }
+    ensures keeps { OnOk result (Keeps found.old found.new) }
+    ensures covers { OnOk result ((label : ℕ) (k : declared.Step) → Contains labels.now label → IsWith board.now number label k → IsByDecls k → Covers source.now board.now walls.now after.now found.new k) }
+    ensures later { OnOk result (AreLater source.now board.now after.now found.new) }
+    ensures few { length found.new.leads ≤ room }
+{
+    let _marks = board.marks();
+    let mut last = 0;
+    let mut rest = labels;
+    'rest: while let Some((label, behind)) = rest.split_first() {
+        if are_late_from(found, most_above, once, at, *label) {
+            return Ok(());
+        }
+        try_partner(
+            board, tables, source, walls, after, number, at, *label, told, own, once, None,
+            &mut last, found,
+        )?;
+        rest = behind;
+    }
+    Ok(())
+}
+
+/// And others below it. `most_below` is what the steps with one below save at most, if each declaration of that one stands in
+/// it once.
+fn try_below(
+    board: &Board,
+    tables: &Tables,
+    source: &KnownLengths<'_>,
+    walls: &Walls,
+    after: &Lead,
+    number: u32,
+    at: u64,
+    labels: &[u64],
+    told: &Option<BTreeSet<u32>>,
+    own: bool,
+    once: bool,
+    most_below: Option<u64>,
+    found: &mut Found,
+) -> Result<(), AllocError>
+    requires plannable { IsPlannable source.now board.now.items }
+    requires cover { Cover tables.now (rules_of board.now) }
+    requires there { number < length board.now.items }
+    requires at { slice_index (labels_of board.now.marks) number ≡ at }
+    requires owned { slice_index (births_of board.now.marks) number ≡ after.now.owner }
+    requires told { (r : RuleParts) → slice_get board.now.items number ≡ Some (item.Rule r) → Tells told.now r }
+    requires own { own ≡ true → HasOwnSelectors board.now.items number }
+    requires once { once ≡ true → DeclsStandOnce board.now.items number }
+    requires most { IfSome most_below (λ limit. (lower : ℕ) → ByDeclsSaveAtMost source.now board.now.items number lower limit) }
+    requires later { AreLater source.now board.now after.now found.old }
+    requires few { length found.old.leads ≤ room }
+    ensures keeps { OnOk result (Keeps found.old found.new) }
+    ensures covers { OnOk result ((label : ℕ) (k : declared.Step) → Contains labels.now label → IsWith board.now number label k → IsByDecls k → Covers source.now board.now walls.now after.now found.new k) }
+    ensures later { OnOk result (AreLater source.now board.now after.now found.new) }
+    ensures few { length found.new.leads ≤ room }
+{
+    let mut last = number;
+    let mut rest = labels;
+    'rest: while let Some((label, behind)) = rest.split_first() {
+        try_partner(
+            board, tables, source, walls, after, number, at, *label, told, own, once, most_below,
+            &mut last, found,
+        )?;
+        rest = behind;
+    }
+    Ok(())
+}
+
+/// Puts the turns of the joins by declarations and of the shares of an item and others with these labels, which ascend. `own`
+/// says that no other rule has one of its selectors, `once` that each of its declarations stands in it once.
+pub(crate) fn try_decl_partners(
+    board: &Board,
+    tables: &Tables,
+    source: &KnownLengths<'_>,
+    walls: &Walls,
+    heaviest: Heaviest,
+    after: &Lead,
+    number: u32,
+    rule: &Rule,
+    labels: &[u64],
+    told: &Option<BTreeSet<u32>>,
+    own: bool,
+    once: bool,
+    found: &mut Found,
+) -> Result<(), AllocError>
+    requires plannable { IsPlannable source.now board.now.items }
+    requires cover { Cover tables.now (rules_of board.now) }
+    requires heaviest { AreNotHeavier source.now board.now.items heaviest }
+    requires rule { slice_get board.now.items number ≡ Some (item.Rule rule.now) }
+    requires there { number < length board.now.items }
+    requires owned { slice_index (births_of board.now.marks) number ≡ after.now.owner }
+    requires ascends { IsStrictlyIncreasing labels.now }
+    requires told { (r : RuleParts) → slice_get board.now.items number ≡ Some (item.Rule r) → Tells told.now r }
+    requires own { own ≡ true → HasOwnSelectors board.now.items number }
+    requires once { once ≡ true → DeclsStandOnce board.now.items number }
+    requires later { AreLater source.now board.now after.now found.old }
+    requires few { length found.old.leads ≤ room }
+    ensures keeps { OnOk result (Keeps found.old found.new) }
+    ensures covers { OnOk result ((label : ℕ) (k : declared.Step) → Contains labels.now label → IsWith board.now number label k → IsByDecls k → Covers source.now board.now walls.now after.now found.new k) }
+    ensures later { OnOk result (AreLater source.now board.now after.now found.new) }
+    ensures few { length found.new.leads ≤ room }
+{
+    let _marks = board.marks();
+    let at = label_of(board, number);
+    let (above, below) = halves(labels, at);
+    let most = most_above(board, source, heaviest, number, rule, own);
+    try_above(
+        board, tables, source, walls, after, number, at, above, told, own, once, most, found,
+    )?;
+    let most = most_below(board, source, heaviest, number, own);
+    try_below(
+        board, tables, source, walls, after, number, at, below, told, own, once, most, found,
+    )
+}
