@@ -1,5 +1,5 @@
 -- The items beside the receiver of a join by selectors are enough.
-use Rattle.std.proofs.Common.{◌≡◌, ℕ, ◌+◌, ◌<◌, ◌≤◌, true, List, [], ◌∷◌, Some, None, refl, sym, ap, ◌∙◌, subst, arith}
+use Rattle.std.proofs.Common.{◌≡◌, ℕ, ◌+◌, ◌≤◌, true, List, [], ◌∷◌, Some, None, refl, sym, ap, ◌∙◌, arith}
 use Rattle.std.specs.Prelude.{slice_get, slice_range}
 use Rattle.std.specs.Borrow.{Bor}
 use Rattle.css_model.specs.Cascade.Order.{Pair, HasPair, IsPairAt}
@@ -22,8 +22,8 @@ use Rattle.step_obstacles.specs.declared.facing.Source.{Source}
 use Rattle.step_obstacles.specs.declared.window_search.Span.{Span}
 use Rattle.step_obstacles.specs.Spans.{IsEnough, IsEnoughFor, IsWithin, OfSpan}
 use Rattle.step_obstacles.specs.StepWindow.{AreMoving, IsWindowFor}
-use Rattle.step_obstacles.specs.Turns.{OfNumber, OfSources, OfWindow}
-use Rattle.wall_laws.specs.Holding.{Hindrance, OfPair, OfKept}
+use Rattle.step_obstacles.specs.Turns.{OfSources, OfWindow}
+use Rattle.wall_laws.specs.Holding.{OfPair, OfKept}
 use Rattle.window_laws.specs.Beside.{ReversedStandBeside, beside_first, beside_end, beside_part}
 use Rattle.window_laws.specs.StepWindows.{window_start, middle_start}
 use Rattle.window_order.specs.declared.window.Window.{Window}

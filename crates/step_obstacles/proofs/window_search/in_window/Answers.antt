@@ -1,6 +1,6 @@
 use Rattle.std.proofs.Common.{arith}
 use Rattle.step_obstacles.proofs.HeldAnswers.{stays_on}
-use Rattle.step_obstacles.proofs.Turning.{turn_found, turn_more, turn_within, turns_done}
+use Rattle.step_obstacles.proofs.Turning.{turn_found, turn_more, turns_done}
 use Rattle.step_obstacles.proofs.window_search.in_window.Goals as goal
 
 pub returns-in-Some-clause-stays : goal.returns-in-Some-clause-stays
