@@ -1,15 +1,11 @@
 -- Steps of an item with others, as the labels of these ascend.
-use Rattle.std.proofs.Common.{◌≡◌, ◌⊎◌, ℕ, suc, ◌+◌, ◌<◌, ◌≤◌, Bool, true, cond, List, [], ◌∷◌, Option, length, refl, sym, ap, subst, inl, inr, ◌∙◌, ap₂, Some, arith}
+use Rattle.std.proofs.Common.{◌≡◌, ◌⊎◌, ℕ, suc, ◌+◌, ◌<◌, ◌≤◌, Bool, cond, List, [], ◌∷◌, length, refl, sym, ap, subst, inl, inr, ◌∙◌, ap₂, Some, arith}
 use Rattle.std.specs.Prelude.{slice_get, slice_index}
 use Rattle.std.specs.List.{Contains}
 use Rattle.std.specs.List.Sorted.{IsStrictlyIncreasing}
-use Rattle.std.proofs.lemmas.Bool.{cases_lt, le-ltb, lt-ltb}
-use Rattle.std.proofs.lemmas.Bool.Decides.{nat_tests}
-use Rattle.cascade_laws.proofs.ForCallers.{exceeds-transitive}
-use Rattle.css_model.specs.Cascade.Winner.{exceeds}
+use Rattle.std.proofs.lemmas.Bool.{le-ltb, lt-ltb}
 use Rattle.list_facts.proofs.Members.{Contains-cons_cases, Contains-nil}
 use Rattle.lead_plan.specs.declared.lead.Kind.{Kind}
-use Rattle.lead_plan.specs.declared.lead.Kind.TheVariants.{DeclCut, SelCut, SelJoinUp, SelJoinDown, DeclJoinUp, DeclJoinDown, Sharing}
 use Rattle.lead_plan.specs.declared.lead.Lead.{Lead}
 use Rattle.lead_plan.specs.Told.{step_of_kind}
 use Rattle.lead_plan.specs.WallParts.{WallParts}
@@ -20,15 +16,14 @@ use Rattle.plan_board.specs.MarkList.{AreMarks, labels_of}
 use Rattle.step_laws.specs.declared.step.Step.{Step}
 use Rattle.step_laws.specs.declared.step.Step.TheVariants.{CutDecl, CutSel, JoinSelUp, JoinSelDown, JoinDeclUp, JoinDeclDown, Share}
 use Rattle.step_laws.specs.Sizes.{Saves}
-use Rattle.step_laws.specs.Steps.{IsStep, first_item, last_item, rank}
+use Rattle.step_laws.specs.Steps.{IsStep, first_item, last_item}
 use Rattle.step_turns.specs.Late.{IsFrom, IsLate}
 use Rattle.step_turns.specs.LaterLabels.{AreLateFrom, AreOnOneSide, step_of_labels}
-use Rattle.step_turns.specs.Looking.{Covers, FoundParts, IsWith, Keeps, ReachesLast}
+use Rattle.step_turns.specs.Looking.{Covers, FoundParts, IsWith, Keeps}
 use Rattle.step_turns.proofs.Looking.{kept_covers}
 use Rattle.step_turns.proofs.Owned.{order_of}
 use Rattle.step_turns.proofs.StepParts.{kind_of, label_at}
 use Rattle.step_turns.proofs.Telling.{in_order}
-use Rattle.wall_laws.specs.Holding.{turn_of}
 use Rattle.wall_laws.specs.Renumbering.{IsOfTwo, renumbered}
 
 -- ---- Labels that ascend
@@ -48,50 +43,6 @@ first_is_least label (y ∷ labels) ascends x among = elim (Contains-cons_cases 
       omega (arith, less, rest))
 ]
 
--- ---- Steps that come later
-
-exceeds-less : (x y : ℕ) (xs ys : List ℕ) → y < x → exceeds (x ∷ xs) (y ∷ ys) ≡ true
-exceeds-less x y xs ys h = grind (arith, nat_tests)
-
-exceeds-same : (x y : ℕ) (xs ys : List ℕ) → x ≡ y → exceeds xs ys ≡ true → exceeds (x ∷ xs) (y ∷ ys) ≡ true
-exceeds-same x y xs ys e h = grind (arith, nat_tests)
-
-from_later : (i j k : Step) → IsFrom i j → IsFrom j k → IsFrom i k
-from_later i j k (inl e) after = subst (λ (s : Step). IsFrom s k) (sym e) after
-from_later i j k (inr before) (inl e) = subst (IsFrom i) e (inr before)
-from_later i j k (inr before) (inr after) = inr (exceeds-transitive (rank k) (rank j) (rank i) after before)
-
-abbrev number_of : Kind → ℕ
-number_of DeclCut = 0
-number_of SelCut = 1
-number_of SelJoinUp = 2
-number_of SelJoinDown = 3
-number_of DeclJoinUp = 4
-number_of DeclJoinDown = 5
-number_of Sharing = 6
-
-rank_is : (kind : Kind) (x y : ℕ) → rank (step_of_kind kind x y) ≡ number_of kind ∷ x ∷ y ∷ []
-rank_is DeclCut x y = refl
-rank_is SelCut x y = refl
-rank_is SelJoinUp x y = refl
-rank_is SelJoinDown x y = refl
-rank_is DeclJoinUp x y = refl
-rank_is DeclJoinDown x y = refl
-rank_is Sharing x y = refl
-
-later_first : (kind : Kind) (x x' y : ℕ) → x ≤ x' → IsFrom (step_of_kind kind x y) (step_of_kind kind x' y)
-later_first kind x x' y most = elim (cases_lt x x') [
-  | inl less ↦ inr (rw (rank_is kind x y, rank_is kind x' y) (exceeds-same (number_of kind) (number_of kind) (x' ∷ y ∷ []) (x ∷ y ∷ []) refl (exceeds-less x' x (y ∷ []) (y ∷ []) less)))
-  | inr more ↦ inl (let e : x ≡ x' = omega (arith, most, more) in ap (λ (z : ℕ). step_of_kind kind z y) e)
-]
-
-later_second : (kind : Kind) (x y y' : ℕ) → y ≤ y' → IsFrom (step_of_kind kind x y) (step_of_kind kind x y')
-later_second kind x y y' most = elim (cases_lt y y') [
-  | inl less ↦ inr (rw (rank_is kind x y, rank_is kind x y')
-      (exceeds-same (number_of kind) (number_of kind) (x ∷ y' ∷ []) (x ∷ y ∷ []) refl (exceeds-same x x (y' ∷ []) (y ∷ []) refl (exceeds-less y' y [] [] less))))
-  | inr more ↦ inl (let e : y ≡ y' = omega (arith, most, more) in ap (λ (z : ℕ). step_of_kind kind x z) e)
-]
-
 -- ---- Steps by the labels of their items
 
 step_above : (kind : Kind) (at label : ℕ) → label < at → step_of_labels kind at label ≡ step_of_kind kind label at
@@ -99,17 +50,6 @@ step_above kind at label less = ap (λ (b : Bool). cond b (step_of_kind kind lab
 
 step_below : (kind : Kind) (at label : ℕ) → at < label → step_of_labels kind at label ≡ step_of_kind kind at label
 step_below kind at label less = ap (λ (b : Bool). cond b (step_of_kind kind label at) (step_of_kind kind at label)) (le-ltb label at (omega (arith, less)))
-
-module _ (others : Option Lead) (kind : Kind) (at label most : ℕ) where
-  pub late_above : label < at → ((n : ℕ) (k : Step) → n ≤ most → IsFrom (step_of_kind kind label at) k → ReachesLast others (turn_of n k)) → AreLateFrom others kind at label most
-  late_above less reached n later k few least (inl (l, m)) from =
-      reached n k few (from_later (step_of_kind kind label at) (step_of_kind kind later at) k (later_first kind label later at least) (subst (λ (s : Step). IsFrom s k) (step_above kind at later m) from))
-  late_above less reached n later k few least (inr (l, m)) from = absurd (omega (arith, less, l))
-
-  pub late_below : at ≤ label → ((n : ℕ) (k : Step) → n ≤ most → IsFrom (step_of_kind kind at label) k → ReachesLast others (turn_of n k)) → AreLateFrom others kind at label most
-  late_below more reached n later k few least (inl (l, m)) from = absurd (omega (arith, more, l))
-  late_below more reached n later k few least (inr (l, m)) from =
-      reached n k few (from_later (step_of_kind kind at label) (step_of_kind kind at later) k (later_second kind at label later least) (subst (λ (s : Step). IsFrom s k) (step_below kind at later m) from))
 
 two_named : (names : List ℕ) (k : Step) → IsOfTwo k → renumbered (λ m. slice_index names m) k ≡ step_of_kind (kind_of k) (slice_index names (first_item k)) (slice_index names (last_item k))
 two_named names (CutDecl n i) two = absurd two

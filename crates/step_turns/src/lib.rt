@@ -7,6 +7,7 @@ mod decl_partners;
 mod doubles;
 mod found;
 mod joins;
+mod known_apart;
 mod label_halves;
 mod late;
 mod later_labels;
