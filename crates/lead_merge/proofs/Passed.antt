@@ -38,7 +38,7 @@ use Rattle.wall_laws.specs.Holding.{Aside, Hindrance}
 
 -- what goes with the board stays while leads and entries change
 pub same_board : (source : List ℕ) (p : PlanParts) (leads : List held.Lead) (entries : List Entry) → IsBoard source p → IsBoard source (record p { leads = leads; entries = entries })
-same_board source p leads entries b = record { plannable = b.plannable; marked = b.marked; covered = b.covered; homes = b.homes }
+same_board source p leads entries b = record { plannable = b.plannable; marked = b.marked; covered = b.covered; homes = b.homes; heaviest = b.heaviest }
 
 -- more may lead
 more_known : (answers : List Answered) (source : List ℕ) (b : BoardParts) (leads leads' : List held.Lead) (aside : List Aside) (entries : List Entry) → ((l : held.Lead) → Contains leads l → Contains leads' l) →

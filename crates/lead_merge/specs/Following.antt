@@ -7,12 +7,14 @@ use Rattle.lead_laws.specs.Known.{IsLedOrAside}
 use Rattle.lead_plan.specs.declared.lead.Lead.{Lead}
 use Rattle.lead_plan.specs.Weights.{room}
 use Rattle.order_laws.specs.Edits.{Edit, edited}
+use Rattle.plan_board.specs.Facts.{AreTrueOf}
 use Rattle.plan_state.specs.PlanParts.{PlanParts}
 use Rattle.step_laws.specs.declared.step.Step.{Step}
 use Rattle.step_laws.specs.Free.{Answered}
 use Rattle.step_laws.specs.Leading.{Takes}
 use Rattle.step_laws.specs.Sizes.{Saves}
 use Rattle.step_laws.specs.Steps.{HasStep, IsStep}
+use Rattle.step_turns.specs.declared.next.Seen.{Seen}
 use Rattle.step_turns.specs.Looking.{AreLater, Covers, FoundParts}
 use Rattle.wall_laws.specs.Holding.{Aside}
 
@@ -22,6 +24,10 @@ pub record Follows (source : List ℕ) (p : PlanParts) (lead : Lead) (found : Fo
   pub later : AreLater source p.board lead found
   pub covers : (k : Step) → Covers source p.board p.walls lead found k
   pub few : length found.leads ≤ room
+
+-- what was seen of an item is so
+abbrev pub IsSeen : List Item → Seen → Type 0
+IsSeen items s = AreTrueOf items s.number s.facts
 
 -- The joins past walls are led by some turns, or set aside.
 abbrev pub AreWalledOff : List ℕ → PlanParts → List held.Lead → List Aside → Type 0

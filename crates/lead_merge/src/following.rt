@@ -4,7 +4,7 @@ ghost use Rattle.std.specs.Prelude.{◌≡◌, ◌∷◌, ◌+◌, ◌<◌, ◌�
 ghost use Rattle.std.specs.List.{Contains};
 ghost use Rattle.hold_laws.specs.Leads as held;
 ghost use Rattle.lead_laws.specs.Known.{IsFollowed};
-ghost use Rattle.lead_merge.specs.Following.{AreWalledOff, Follows};
+ghost use Rattle.lead_merge.specs.Following.{AreWalledOff, Follows, IsSeen};
 ghost use Rattle.lead_plan.specs.Told.{alone, lead_told};
 ghost use Rattle.lead_plan.specs.declared.lead.Lead as declared;
 ghost use Rattle.lead_plan.specs.Weights.{is_alone, room, total, weight};
@@ -16,7 +16,7 @@ use lead_plan::{Lead, Scope, Waiting, later_weighs_less};
 use merge_plan::KnownLengths;
 use plan_state::Plan;
 use std::alloc::{AllocError, Global};
-use step_turns::{Found, next_leads};
+use step_turns::{Looked, Seen, next_leads};
 
 /// The label under a birth; where there is none, any.
 fn home_of(homes: &[u64], birth: u32) -> u64
@@ -28,15 +28,16 @@ fn home_of(homes: &[u64], birth: u32) -> u64
     }
 }
 
-/// The next turns in the scope of a lead.
+/// The next turns in the scope of a lead, and what was seen of its owner.
 fn next_of(
     alloc: Global,
     source: &KnownLengths<'_>,
     plan: &Plan,
     lead: &Lead,
-) -> Result<Found, AllocError>
+) -> Result<Looked, AllocError>
     requires { IsBoard source.now plan.now }
-    ensures { IfOk result (Follows source.now plan.now lead.now) }
+    ensures follows { IfOk result (λ l. Follows source.now plan.now lead.now l.found) }
+    ensures seen { IfOk result (λ l. IfSome l.seen (IsSeen plan.now.board.items)) }
 {
     let at = home_of(&plan.homes, lead.owner);
     next_leads(
@@ -45,9 +46,21 @@ fn next_of(
         &plan.tables,
         source,
         &plan.walls,
+        plan.heaviest,
         at,
         lead,
     )
+}
+
+/// Notes what was seen of an item. All of the plan stays.
+fn note_seen(plan: &mut Plan, seen: Option<Seen>) -> Result<(), AllocError>
+    requires { IfSome seen (IsSeen plan.old.board.items) }
+    ensures { plan.new ≡ plan.old }
+{
+    match seen {
+        Some(seen) => plan.board.note(seen.number, seen.facts),
+        None => Ok(()),
+    }
 }
 
 /// Lets a turn lead its step alone.
@@ -116,7 +129,8 @@ pub(crate) fn follow(
         later_weighs_less(lead, lead);
         return Ok(());
     }
-    let found = next_of(alloc, source, plan, lead)?;
+    let Looked { found, seen } = next_of(alloc, source, plan, lead)?;
+    note_seen(plan, seen)?;
     lead_all_alone(&mut plan.waiting, &found.leads)?;
     add_others(&mut plan.waiting, lead, found.others)
 }

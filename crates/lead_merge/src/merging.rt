@@ -54,12 +54,12 @@ fn merge_by<O: Obstacles>(
     ensures leads { IfOk result (λ m. Leads (O.answers obstacles.new) source.now m.taken sheet.items m.sheet.items) }
     ensures done { IfOk result (λ m. IsDone (O.answers obstacles.new) source.now m.sheet.items) }
 {
-    let mut plan = Plan::new(alloc, sheet)?;
+    let mut plan = Plan::new(alloc, source, sheet)?;
     let mut taken: u32 = 0;
     'steps: loop {
         match next_step(alloc, obstacles, source, &mut plan)? {
             Some(step) => {
-                plan = plan.take(alloc, &step)?;
+                plan = plan.take(alloc, source, &step)?;
                 taken += 1;
             }
             None => break,

@@ -14,8 +14,11 @@ pub next_leads-requires-clause-at : goal.next_leads-requires-clause-at
 next_leads-requires-clause-at c = label_of_owner _ c.args.source.now c.args.lead.now.owner c.home_of-at.result (subst (IsBoard c.args.source.now) (sym c.plan.view_is) c.requires)
     (λ label under. c.home_of-at.ensures label (subst (λ (xs : List ℕ). slice_get xs c.args.lead.now.owner ≡ Some label) (sym c.deref.ensures.value) under))
 
-pub returns : goal.returns
-returns c = subst (λ (p : PlanParts). IfOk c.next_leads.result (Follows c.args.source.now p c.args.lead.now)) c.plan.view_is
-    (ok_three c.next_leads.result (AreLater c.args.source.now c.plan.inside.board c.args.lead.now)
-    (λ found. (k : Step) → Covers c.args.source.now c.plan.inside.board c.plan.inside.walls c.args.lead.now found k) (λ found. length found.leads ≤ room) _
-    (λ found later covers few. record { later = later; covers = covers; few = few }) c.next_leads.ensures.later c.next_leads.ensures.covers c.next_leads.ensures.few)
+pub next_leads-requires-clause-heaviest : goal.next_leads-requires-clause-heaviest
+next_leads-requires-clause-heaviest c = (subst (IsBoard c.args.source.now) (sym c.plan.view_is) c.requires).heaviest
+
+pub returns-clause-follows : goal.returns-clause-follows
+returns-clause-follows c = subst (λ (p : PlanParts). IfOk c.next_leads.result (λ l. Follows c.args.source.now p c.args.lead.now l.found)) c.plan.view_is
+    (ok_three c.next_leads.result (λ l. AreLater c.args.source.now c.plan.inside.board c.args.lead.now l.found)
+    (λ l. (k : Step) → Covers c.args.source.now c.plan.inside.board c.plan.inside.walls c.args.lead.now l.found k) (λ l. length l.found.leads ≤ room) _
+    (λ l later covers few. record { later = later; covers = covers; few = few }) c.next_leads.ensures.later c.next_leads.ensures.covers c.next_leads.ensures.few)
