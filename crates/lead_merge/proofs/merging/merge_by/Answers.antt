@@ -12,7 +12,7 @@ pub steps-init : goal.steps-init
 steps-init g c = record {
   asked = λ a has. has;
   same_budget = refl;
-  state = c.in_ok-plan.ensures.state (g.O.Obstacles.answers c.args.obstacles.now) c.args.source.now c.requires.plannable;
+  state = c.in_ok-plan.ensures.state (g.O.Obstacles.answers c.args.obstacles.now);
   leads = sym c.in_ok-plan.ensures.items;
   room = (let same : size c.args.source.now c.in_ok-plan.plan.board.items ≡ size c.args.source.now c.args.sheet.items = ap (size c.args.source.now) c.in_ok-plan.ensures.items in omega (arith, same));
 }
@@ -30,7 +30,7 @@ steps-preserved g c =
     record {
       asked = λ a has. c.in_ok-step.ensures.asked a (c.steps.invariant.asked a has);
       same_budget = c.in_ok-step.ensures.same_budget ∙ c.steps.invariant.same_budget;
-      state = c.in_ok-plan-in-Some.ensures.state (g.O.Obstacles.answers c.next_step.new.obstacles) c.args.source.now c.in_ok-step.ensures.state found.takes;
+      state = c.in_ok-plan-in-Some.ensures.state (g.O.Obstacles.answers c.next_step.new.obstacles) c.in_ok-step.ensures.state found.takes;
       leads = leads_on (g.O.Obstacles.answers c.steps.obstacles) (g.O.Obstacles.answers c.next_step.new.obstacles) c.in_ok-step.ensures.asked c.args.source.now c.args.source.now refl c.steps.taken c.args.sheet.items
           c.next_step.new.plan.board.items c.in_ok-plan-in-Some.plan.board.items
           (subst (Leads (g.O.Obstacles.answers c.steps.obstacles) c.args.source.now c.steps.taken c.args.sheet.items) (sym items) c.steps.invariant.leads) took;

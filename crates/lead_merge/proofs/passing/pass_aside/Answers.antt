@@ -1,6 +1,12 @@
+use Rattle.std.proofs.Common.{sym, subst}
 use Rattle.lead_merge.proofs.Passed.{set_aside_state}
 use Rattle.lead_merge.proofs.Results.{on_three}
 use Rattle.lead_merge.proofs.passing.pass_aside.Goals as goal
+use Rattle.plan_state.specs.State.{IsBoard}
+
+pub follow-requires : goal.follow-requires
+follow-requires c = subst (IsBoard c.args.source.now) (sym c.in_ok-put_aside.ensures.same)
+    (record { plannable = c.requires.board.plannable; marked = c.requires.board.marked; covered = c.requires.board.covered; homes = c.requires.board.homes; heaviest = c.requires.board.heaviest })
 
 pub returns-clause-state : goal.returns-clause-state
 returns-clause-state c = on_three c.follow.result _ _ _ _
