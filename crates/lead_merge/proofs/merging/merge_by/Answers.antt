@@ -37,6 +37,18 @@ steps-preserved g c =
       room = omega (arith, shorter, same, c.steps.invariant.room);
     }
 
+pub steps-smaller : goal.steps-smaller
+steps-smaller g c =
+    let items : c.next_step.new.plan.board.items ≡ c.steps.plan.board.items = ap (λ (b : BoardParts). b.items) c.in_ok-step.ensures.board in
+    let found : IsNextFound (g.O.Obstacles.answers c.next_step.new.obstacles) c.args.source.now c.next_step.new.plan.board.items c.in-Some.step =
+    subst (λ (xs : List Item). IsNextFound (g.O.Obstacles.answers c.next_step.new.obstacles) c.args.source.now xs c.in-Some.step) (sym items) (rw c.in-Some.is at c.in_ok-step.ensures.found) in
+    let took : Takes (g.O.Obstacles.answers c.next_step.new.obstacles) c.args.source.now c.next_step.new.plan.board.items c.in_ok-plan-in-Some.plan.board.items =
+    subst (Takes (g.O.Obstacles.answers c.next_step.new.obstacles) c.args.source.now c.next_step.new.plan.board.items) (sym (c.in_ok-plan-in-Some.ensures.items found.has.0 found.has.1)) (found.takes found.has.0 found.has.1) in
+    let shorter : size c.args.source.now c.in_ok-plan-in-Some.plan.board.items < size c.args.source.now c.next_step.new.plan.board.items =
+    takes_shorter (g.O.Obstacles.answers c.next_step.new.obstacles) c.args.source.now c.args.source.now refl c.next_step.new.plan.board.items c.in_ok-plan-in-Some.plan.board.items took in
+    let same : size c.args.source.now c.next_step.new.plan.board.items ≡ size c.args.source.now c.steps.plan.board.items = ap (size c.args.source.now) items in
+    omega (arith, shorter, same)
+
 -- the sheet that is handed out is that of the board
 pub returns-clause-leads : goal.returns-clause-leads
 returns-clause-leads g c =
