@@ -1,3 +1,4 @@
+pub mod Apart
 pub mod EditPuts
 pub mod ForCallers
 pub mod JoinedMasks

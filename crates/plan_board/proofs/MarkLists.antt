@@ -4,9 +4,9 @@ use Rattle.std.specs.List.{All, AllPairs, insert, remove}
 use Rattle.std.proofs.lemmas.List.{length-set, get_or_default}
 use Rattle.std.proofs.lemmas.List.Edits.{length-insert, length-remove, get_or-insert_at, get_or-insert_below, get_or-insert_above, get_or-remove_below, get_or-remove_above}
 use Rattle.std.proofs.lemmas.List.Quantifiers.{all_pairs_remove}
-use Rattle.std.proofs.lemmas.Option.{slice_get-get_or}
+use Rattle.std.proofs.lemmas.Option.{slice_get-get_or, slice_get_within, get_or_from_slice_get}
 use Rattle.plan_board.specs.declared.marks.Mark.{Mark}
-use Rattle.plan_board.specs.MarkList.{MarkList, AreMarks, IsLabelAt}
+use Rattle.plan_board.specs.MarkList.{MarkList, AreFirst, AreMarks, IsLabelAt, IsOldestBelow}
 use Rattle.plan_board.specs.Marking.{AreRenewed}
 use Rattle.plan_board.proofs.Puts.{put_none, put_one, put_two}
 
@@ -223,6 +223,45 @@ marks_split ms next n above below label within behind is_above is_below high low
         which (same p) = subst (λ (i : ℕ). label < (get_or (set ms n (mark below next)) i d).label) (sym p) (omega (arith, at_n, low))
         which (more p) = let f : (get_or (set ms n (mark below next)) n d).label < (get_or (set ms n (mark below next)) k d).label = renewed.ascend n k d p in_set in omega (arith, f, at_n, low)
 
+-- ---- Marks that were born before all behind them
+
+abbrev Older : ℕ → Mark → Mark → Type 0
+Older first l m = l.birth < first → l.birth < m.birth
+
+first_set : (ms : List Mark) (first n label birth : ℕ) → n < length ms → first ≤ birth → All (λ (m : Mark). m.birth < birth) ms → AreFirst ms first → AreFirst (set ms n (mark label birth)) first
+first_set ms first n label birth within late past are =
+    all_pairs_set (Older first) ms n (mark label birth) within are
+    (λ k d h early. past k d (omega (arith, h, within)))
+    (λ k d h in_ms early. absurd (omega (arith, late, early)))
+
+first_insert : (ms : List Mark) (first n label birth : ℕ) → n ≤ length ms → first ≤ birth → All (λ (m : Mark). m.birth < birth) ms → AreFirst ms first → AreFirst (insert ms n (mark label birth)) first
+first_insert ms first n label birth within late past are =
+    all_pairs_insert (Older first) ms n (mark label birth) within are
+    (λ k d h early. past k d (omega (arith, h, within)))
+    (λ k d h in_ms early. absurd (omega (arith, late, early)))
+
+pub first_without : (ms : List Mark) (first n : ℕ) → n < length ms → AreFirst ms first → AreFirst (remove ms n) first
+first_without ms first n within are = all_pairs_remove (Older first) ms n within are
+
+pub first_renewed : (ms : List Mark) (next first n label : ℕ) → n < length ms → first ≤ next → AreMarks ms next → AreFirst ms first → AreFirst (set ms n (mark label next)) first
+first_renewed ms next first n label within late marks are = first_set ms first n label next within late marks.past are
+
+pub first_split : (ms : List Mark) (next first n below label : ℕ) → n < length ms → first ≤ next → AreMarks ms next → AreFirst ms first →
+    AreFirst (insert (set ms n (mark below next)) n (mark label (next + 1))) first
+first_split ms next first n below label within late marks are =
+    first_insert (set ms n (mark below next)) first n label (next + 1)
+    (let e : length (set ms n (mark below next)) ≡ length ms = length-set ms n (mark below next) in omega (arith, e, within)) (omega (arith, late))
+    (all_set (λ (m : Mark). m.birth < next + 1) ms n (mark below next) within (later ms next marks) (omega arith))
+    (first_renewed ms next first n below within late marks are)
+
+-- what is told of one of them
+oldest_below : (ms : List Mark) (first n : ℕ) (b : Mark) → AreFirst ms first → b ≡ get_or ms n b → b.birth < first → IsOldestBelow ms n
+oldest_below ms first n b are b_is early k own other n_k at at_k =
+    let own_is : b ≡ own = b_is ∙ get_or_from_slice_get ms n own b at in
+    let other_is : get_or ms k b ≡ other = get_or_from_slice_get ms k other b at_k in
+    let older : (get_or ms n b).birth < (get_or ms k b).birth = are n k b n_k (slice_get_within ms k other at_k) (subst (λ (m : Mark). m.birth < first) b_is early) in
+    subst (λ (m : Mark). m.birth < other.birth) own_is (subst (λ (m : Mark). b.birth < m.birth) other_is (subst (λ (m : Mark). m.birth < (get_or ms k b).birth) (sym b_is) older))
+
 -- ---- At first
 
 abbrev pub gap : ℕ
@@ -241,6 +280,12 @@ first_marks ms count many each = record {
       absurd (omega (arith, e, f, g, i_j)));
   past = (λ k d within. let e : (get_or ms k d).birth ≡ k = ap (λ (m : Mark). m.birth) (each k d within) in omega (arith, e, many, within));
 }
+
+pub first_are_first : (ms : List Mark) (count : ℕ) → ((k : ℕ) (d : Mark) → k < length ms → get_or ms k d ≡ mark (k * gap) k) → AreFirst ms count
+first_are_first ms count each i j d i_j within early =
+    let e : (get_or ms i d).birth ≡ i = ap (λ (m : Mark). m.birth) (each i d (omega (arith, i_j, within))) in
+    let f : (get_or ms j d).birth ≡ j = ap (λ (m : Mark). m.birth) (each j d within) in
+    omega (arith, e, f, i_j)
 
 -- ---- What becomes of marks, seen as the value of their type
 
@@ -283,6 +328,9 @@ pub split_is : (m : MarkList) (ms : List Mark) (next n below label : ℕ) → li
     AreRenewed m.list (insert (set ms n (mark below next)) n (mark label (next + 1))) m.next n 2
 split_is m ms next n below label e within = subst (λ (m : MarkList). n < length m.list → AreRenewed m.list (insert (set ms n (mark below next)) n (mark label (next + 1))) m.next n 2) e
     (λ at. record { made = mark label (next + 1) ∷ mark below next ∷ []; count_is = refl; later = both label below next; label = (λ m' f. absurd (two_are_one (mark label (next + 1)) (mark below next) m' f)); is = put_two n (mark below next) (mark label (next + 1)) ms at }) within
+
+pub oldest_is : (m : MarkList) (ms : List Mark) (next first n : ℕ) (b : Mark) → list_of ms next ≡ m → AreFirst ms first → b ≡ get_or ms n b → b.birth < first → IsOldestBelow m.list n
+oldest_is m ms next first n b e are b_is early = subst (λ (m : MarkList). IsOldestBelow m.list n) e (oldest_below ms first n b are b_is early)
 
 pub within_is : (m : MarkList) (ms : List Mark) (next n : ℕ) → list_of ms next ≡ m → n < length m.list → n < length ms
 within_is m ms next n e = subst (λ (m : MarkList). n < length m.list → n < length ms) e (λ h. h)

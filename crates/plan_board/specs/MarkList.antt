@@ -25,6 +25,14 @@ pub record AreMarks (list : List Mark) (next : ℕ) : Type 0 where
   pub differ : AllPairs (λ m n. m.birth ≢ n.birth) list
   pub past : All (λ m. m.birth < next) list
 
+-- A mark that was born before `first` was born before all behind it.
+abbrev pub AreFirst : List Mark → ℕ → Type 0
+AreFirst list first = AllPairs (λ m n. m.birth < first → m.birth < n.birth) list
+
+-- all marks behind that of this number were born later
+abbrev pub IsOldestBelow : List Mark → ℕ → Type 0
+IsOldestBelow list n = (k : ℕ) (own other : Mark) → n < k → slice_get list n ≡ Some own → slice_get list k ≡ Some other → own.birth < other.birth
+
 -- the mark of this number has the label
 abbrev pub IsLabelAt : List Mark → ℕ → ℕ → Type 0
 IsLabelAt list label n = (m : Mark) × (slice_get list n ≡ Some m) × (m.label ≡ label)

@@ -1,6 +1,9 @@
 -- What stands in the place of one item.
-use Rattle.std.specs.Prelude.{ℕ, zero, suc, List, [], ◌∷◌, ◌++◌}
+use Rattle.std.specs.Prelude.{ℕ, zero, suc, List, [], ◌∷◌, ◌++◌, map}
+use Rattle.std.specs.List.{Contains}
 use Rattle.css_model.specs.declared.sheet.Item.{Item}
+use Rattle.css_model.specs.declared.sheet.SelItem.{SelItem}
+use Rattle.css_model.specs.Documents.SelectorParts.{SelectorParts}
 use Rattle.css_model.specs.declared.sheet.Item.TheVariants.{Rule, KeptBlock}
 use Rattle.plan_board.specs.declared.parts.Left.{Left}
 use Rattle.plan_board.specs.declared.parts.Left.TheVariants.{Nothing, One, Two}
@@ -20,3 +23,7 @@ items_in (Two r q) = Rule r ∷ Rule q ∷ []
 -- what stands in the place of a rule while it is out of its board
 abbrev pub placeholder : Item
 placeholder = KeptBlock (record { start = 0; end = 0 })
+
+-- no selector is one of both lists
+abbrev pub HaveNoneInCommon : List SelItem → List SelItem → Type 0
+HaveNoneInCommon xs ys = (s : SelectorParts) → Contains (map (λ x. x.selector) xs) s → Contains (map (λ y. y.selector) ys) s → ⊥

@@ -1,6 +1,6 @@
 //! A sheet while it is planned.
 
-ghost use Rattle.std.specs.Prelude.{◌≡◌, ◌↔◌, ℕ, ◌≤◌, ◌<◌, ◌+◌, ◌^◌, IfOk, IfSome, IfNone, IsTrue, Some, length, map, slice_get};
+ghost use Rattle.std.specs.Prelude.{◌≡◌, ◌↔◌, ℕ, ◌≤◌, ◌<◌, ◌+◌, ◌^◌, IfOk, IfSome, IfNone, IsTrue, Some, length, map, slice_get, true};
 ghost use Rattle.std.specs.List.{remove};
 ghost use Rattle.css_model.specs.Sheets.Limits.{max_items};
 ghost use Rattle.hold_laws.specs.declared.way.Way.{Way};
@@ -8,9 +8,10 @@ ghost use Rattle.hold_laws.specs.Ways.{IsMove, mover};
 ghost use Rattle.item_masks.specs.Masks.{item_mask};
 ghost use Rattle.order_laws.specs.Edits.{Edit, edited};
 ghost use Rattle.plan_board.specs.Facts.{AreTrueOf, AreTrueOfBoth};
-ghost use Rattle.plan_board.specs.MarkList.{AreMarks, IsLabelAt, LacksLabel, labels_of};
+ghost use Rattle.plan_board.specs.MarkList.{AreMarks, IsLabelAt, IsOldestBelow, LacksLabel, labels_of};
 ghost use Rattle.plan_board.specs.Marking.{AreKept, HasLabelFor};
 ghost use Rattle.step_laws.specs.Steps.{HasStep, IsStep};
+ghost use Rattle.step_savings.specs.Apart.{StepApart};
 
 use crate::facts::{Facts, by_both, by_either, facts_under, learn, learn_made, nothing};
 use crate::marked::MarkedSheet;
@@ -114,6 +115,15 @@ impl Board {
         self.marked.mark(number)
     }
 
+    /// Whether it is known of the item of this number that all below it were born later. It is known of those that stood there
+    /// at first.
+    pub fn is_oldest_below(&self, number: u32) -> bool
+        requires { number < length self.now.items }
+        ensures { result ≡ true → IsOldestBelow self.now.marks number }
+    {
+        self.marked.is_oldest_below(number)
+    }
+
     /// The number of the item with this label, if there is one.
     pub fn number_of(&self, label: u64) -> Option<u32>
         requires { length self.now.items ≤ max_items }
@@ -165,6 +175,14 @@ impl Board {
         }
     }
 
+    /// Whether the rules of a step of two items are known to have no selector in common.
+    fn is_known_apart(&self, step: &Step) -> bool
+        ensures { result ≡ true → StepApart self.now.items step.now }
+    {
+        let (first, last) = items_of(step);
+        first != last && (self.facts(first).own_selectors || self.facts(last).own_selectors)
+    }
+
     /// The board after one of its steps, which is taken in place: the items that it does not take keep their
     /// marks, and the others are born later than all before. After an error nothing is left.
     pub fn take(self, alloc: Global, step: &Step) -> Result<Board, AllocError>
@@ -182,10 +200,11 @@ impl Board {
         joined_has_no_cut();
         joined_has_own_parts();
         let known = self.facts_of_join(step);
+        let apart = self.is_known_apart(step);
         let Board { marked, facts } = self;
         let birth = marked.next();
         let facts = learn_made(facts, birth, known)?;
-        let marked = marked.take(alloc, step)?;
+        let marked = marked.take(alloc, step, apart)?;
         Ok(Board { marked, facts })
     }
 }

@@ -1,8 +1,8 @@
 //! A sheet with the marks and the masks of its items.
 
-ghost use Rattle.std.specs.Prelude.{◌≡◌, ◌≤◌, ◌<◌, IfOk, IfSome, IfNone, OnErr, Some, length, map, slice_get};
+ghost use Rattle.std.specs.Prelude.{◌≡◌, ◌≤◌, ◌<◌, IfOk, IfSome, IfNone, OnErr, Some, length, map, slice_get, true};
 ghost use Rattle.css_model.specs.Sheets.Limits.{max_items};
-ghost use Rattle.plan_board.specs.MarkList.{AreMarks, Ascends, IsLabelAt, LacksLabel};
+ghost use Rattle.plan_board.specs.MarkList.{AreMarks, Ascends, IsLabelAt, IsOldestBelow, LacksLabel};
 ghost use Rattle.css_model.specs.declared.sheet.Item.{Item};
 ghost use Rattle.item_masks.specs.Masks.{item_mask};
 
@@ -110,6 +110,14 @@ impl MarkedSheet {
         ensures { slice_get self.now.marks number ≡ Some result }
     {
         self.marks.list()[number as usize]
+    }
+
+    /// Whether it is known of the item of this number that all below it were born later.
+    pub(crate) fn is_oldest_below(&self, number: u32) -> bool
+        requires { number < length self.now.items }
+        ensures { result ≡ true → IsOldestBelow self.now.marks number }
+    {
+        self.marks.is_oldest_below(number)
     }
 
     /// The mask of the item of this number.

@@ -1,8 +1,8 @@
 //! What tells the items of a board.
 
-ghost use Rattle.std.specs.Prelude.{◌≡◌, ◌≤◌, ◌<◌, ◌+◌, ◌^◌, ℕ, IfOk, Some, length, slice_get};
+ghost use Rattle.std.specs.Prelude.{◌≡◌, ◌≤◌, ◌<◌, ◌+◌, ◌^◌, ℕ, IfOk, Some, length, slice_get, true};
 ghost use Rattle.css_model.specs.Sheets.Limits.{max_items};
-ghost use Rattle.plan_board.specs.MarkList.{AreMarks};
+ghost use Rattle.plan_board.specs.MarkList.{AreMarks, IsOldestBelow};
 ghost use Rattle.plan_board.specs.Marking.{AreRenewed, HasLabelBefore};
 ghost use Rattle.plan_board.specs.Putting.{items_in};
 
@@ -28,16 +28,19 @@ pub struct Mark {
 pub(crate) struct Marks {
     list: Vec<Mark>,
     next: u32,
+    /// Below this birth, births ascend as the labels do, and all below such an item were born later.
+    first: u32,
 }
 
 impl Model for Marks {
-    ghost use Rattle.plan_board.specs.MarkList.{MarkList, AreMarks};
+    ghost use Rattle.std.specs.Prelude.{◌≤◌};
+    ghost use Rattle.plan_board.specs.MarkList.{MarkList, AreFirst, AreMarks};
 
     ghost Value = { MarkList };
 
     ghost view = { λ m. record { list = m.list.items; next = m.next } };
 
-    ghost invariant = { λ m. AreMarks m.list.items m.next };
+    ghost invariant = { λ m. AreMarks m.list.items m.next × (m.first ≤ m.next) × AreFirst m.list.items m.first };
 }
 
 impl Marks {
@@ -52,7 +55,11 @@ impl Marks {
             let label = u64::from(birth) * GAP;
             list.push(Mark { label, birth })?;
         }
-        Ok(Marks { list, next: count })
+        Ok(Marks {
+            list,
+            next: count,
+            first: count,
+        })
     }
 
     /// The marks.
@@ -71,15 +78,27 @@ impl Marks {
         self.next
     }
 
+    /// Whether it is known of the item of this number that all below it were born later.
+    pub(crate) fn is_oldest_below(&self, number: u32) -> bool
+        requires { number < length self.now.list }
+        ensures { result ≡ true → IsOldestBelow self.now.list number }
+    {
+        self.list[number as usize].birth < self.first
+    }
+
     /// The marks without the one of this number.
     fn without(self, number: u32) -> Marks
         requires { number < length self.list }
         ensures marks { AreRenewed self.list result.list self.next number 0 }
         ensures next { result.next ≡ self.next }
     {
-        let Marks { mut list, next } = self;
+        let Marks {
+            mut list,
+            next,
+            first,
+        } = self;
         list.remove(number as usize);
-        Marks { list, next }
+        Marks { list, next, first }
     }
 
     /// The marks with a new one in the place of the one of this number, with its label.
@@ -89,12 +108,17 @@ impl Marks {
         ensures marks { AreRenewed self.list result.list self.next number 1 }
         ensures next { result.next ≡ self.next + 1 }
     {
-        let Marks { mut list, next } = self;
+        let Marks {
+            mut list,
+            next,
+            first,
+        } = self;
         let label = list[number as usize].label;
         list[number as usize] = Mark { label, birth: next };
         Marks {
             list,
             next: next + 1,
+            first,
         }
     }
 
@@ -107,7 +131,11 @@ impl Marks {
         ensures marks { IfOk result (λ marks. AreRenewed self.list marks.list self.next number 2) }
         ensures next { IfOk result (λ marks. marks.next ≡ self.next + 2) }
     {
-        let Marks { mut list, next } = self;
+        let Marks {
+            mut list,
+            next,
+            first,
+        } = self;
         let number = number as usize;
         let above = list[number - 1].label;
         let below = list[number].label;
@@ -126,6 +154,7 @@ impl Marks {
         Ok(Marks {
             list,
             next: next + 2,
+            first,
         })
     }
 

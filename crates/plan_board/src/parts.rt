@@ -1,13 +1,14 @@
 //! What a step leaves of its rules: their parts are moved, and copied only where they stand twice behind it.
 
-ghost use Rattle.std.specs.Prelude.{◌≡◌, ◌++◌, ◌<◌, ◌∷◌, [], IfOk, OnOk, not, length};
+ghost use Rattle.std.specs.Prelude.{◌≡◌, ◌++◌, ◌<◌, ◌∷◌, [], IfOk, OnOk, not, length, true};
 ghost use Rattle.std.specs.List.{filter, remove};
 ghost use Rattle.css_model.specs.declared.sheet.Item.TheVariants as item;
 ghost use Rattle.css_model.specs.Sheets.StyleRule as style;
 ghost use Rattle.order_laws.specs.Members as members;
 ghost use Rattle.step_laws.specs.RuleParting as parting;
 ghost use Rattle.step_laws.specs.StepEdits as edits;
-ghost use Rattle.plan_board.specs.Putting.{items_in};
+ghost use Rattle.plan_board.specs.Putting.{HaveNoneInCommon, items_in};
+ghost use Rattle.step_savings.specs.Apart.{AreApart};
 
 use css_model::{DeclItem, Rule, SelItem};
 use std::alloc::{AllocError, Global};
@@ -123,22 +124,36 @@ fn new_selectors(
     Ok(kept)
 }
 
-/// The selectors of the upper rule, then those of the lower one that the upper one lacks.
+/// The selectors of the upper rule, then those of the lower one that the upper one lacks. `apart` says that these are known to
+/// be all.
 fn all_selectors(
     alloc: Global,
     upper: Vec<SelItem>,
-    lower: Vec<SelItem>,
+    mut lower: Vec<SelItem>,
+    apart: bool,
 ) -> Result<Vec<SelItem>, AllocError>
+    requires { apart ≡ true → HaveNoneInCommon upper.items lower.items }
     ensures { IfOk result (λ all. all.items ≡ upper.items ++ filter (λ s. not (members.has_selector upper.items s.selector)) lower.items) }
 {
-    let mut more = new_selectors(alloc, lower, &upper)?;
     let mut all = upper;
+    if apart {
+        all.append(&mut lower)?;
+        return Ok(all);
+    }
+    let mut more = new_selectors(alloc, lower, &all)?;
     all.append(&mut more)?;
     Ok(all)
 }
 
-/// The selectors of both rules with the declarations of the upper one.
-pub(crate) fn widened_up(alloc: Global, upper: Rule, lower: Rule) -> Result<Rule, AllocError>
+/// The selectors of both rules with the declarations of the upper one. `apart` says that the rules are known to have no selector
+/// in common.
+pub(crate) fn widened_up(
+    alloc: Global,
+    upper: Rule,
+    lower: Rule,
+    apart: bool,
+) -> Result<Rule, AllocError>
+    requires { apart ≡ true → AreApart upper lower }
     ensures { IfOk result (λ r. r ≡ record { selectors = parting.both_selectors upper lower; decls = upper.decls }) }
 {
     let Rule {
@@ -150,12 +165,19 @@ pub(crate) fn widened_up(alloc: Global, upper: Rule, lower: Rule) -> Result<Rule
         decls: gone,
     } = lower;
     drop(gone);
-    let selectors = all_selectors(alloc, above, below)?;
+    let selectors = all_selectors(alloc, above, below, apart)?;
     Ok(Rule { selectors, decls })
 }
 
-/// The selectors of both rules with the declarations of the lower one.
-pub(crate) fn widened_down(alloc: Global, upper: Rule, lower: Rule) -> Result<Rule, AllocError>
+/// The selectors of both rules with the declarations of the lower one. `apart` says that the rules are known to have no selector
+/// in common.
+pub(crate) fn widened_down(
+    alloc: Global,
+    upper: Rule,
+    lower: Rule,
+    apart: bool,
+) -> Result<Rule, AllocError>
+    requires { apart ≡ true → AreApart upper lower }
     ensures { IfOk result (λ r. r ≡ record { selectors = parting.both_selectors upper lower; decls = lower.decls }) }
 {
     let Rule {
@@ -167,7 +189,7 @@ pub(crate) fn widened_down(alloc: Global, upper: Rule, lower: Rule) -> Result<Ru
         decls,
     } = lower;
     drop(gone);
-    let selectors = all_selectors(alloc, above, below)?;
+    let selectors = all_selectors(alloc, above, below, apart)?;
     Ok(Rule { selectors, decls })
 }
 

@@ -1,6 +1,6 @@
 //! A step taken in a marked sheet.
 
-ghost use Rattle.std.specs.Prelude.{◌≡◌, ◌↔◌, ◌≤◌, ◌<◌, ◌+◌, ◌^◌, ◌∷◌, [], IfOk, IsTrue, length};
+ghost use Rattle.std.specs.Prelude.{◌≡◌, ◌↔◌, ◌≤◌, ◌<◌, ◌+◌, ◌^◌, ◌∷◌, [], IfOk, IsTrue, length, true};
 ghost use Rattle.std.specs.List.{remove};
 ghost use Rattle.hold_laws.specs.declared.way.Way.{Way};
 ghost use Rattle.hold_laws.specs.Ways.{IsMove, mover};
@@ -12,6 +12,7 @@ ghost use Rattle.plan_board.specs.Putting.{items_in};
 ghost use Rattle.step_laws.specs.Steps.{HasStep, IsStep, edit_of, first_item, last_item};
 ghost use Rattle.css_model.specs.declared.sheet.Item.TheVariants as item;
 ghost use Rattle.step_laws.specs.StepEdits as kinds;
+ghost use Rattle.step_savings.specs.Apart.{AreApart, StepApart};
 ghost use Rattle.step_savings.specs.CutParts.{HasPart};
 ghost use Rattle.plan_board.specs.JoinedMasks as masks;
 
@@ -73,16 +74,23 @@ fn share(alloc: Global, x: u32, upper: Rule, y: u32, lower: Rule) -> Result<Halv
     })
 }
 
-/// What a step of two rules leaves of them.
-fn both_left(alloc: Global, step: &Step, upper: Rule, lower: Rule) -> Result<Halves, AllocError>
-    requires { IsJoinKind step.now }
+/// What a step of two rules leaves of them. `apart` says that they are known to have no selector in common.
+fn both_left(
+    alloc: Global,
+    step: &Step,
+    upper: Rule,
+    lower: Rule,
+    apart: bool,
+) -> Result<Halves, AllocError>
+    requires join { IsJoinKind step.now }
+    requires apart { apart ≡ true → AreApart upper lower }
     ensures changes { IfOk result (λ h. (edit_of step.now upper lower).changes ≡ record { at = first_item step.now; by = items_in h.above } ∷ record { at = last_item step.now; by = items_in h.below } ∷ []) }
 {
     match *step {
         Step::JoinSelUp { .. } => Ok(up(joined_up(upper, lower)?)),
         Step::JoinSelDown { .. } => Ok(down(joined_down(upper, lower)?)),
-        Step::JoinDeclUp { .. } => Ok(up(widened_up(alloc, upper, lower)?)),
-        Step::JoinDeclDown { .. } => Ok(down(widened_down(alloc, upper, lower)?)),
+        Step::JoinDeclUp { .. } => Ok(up(widened_up(alloc, upper, lower, apart)?)),
+        Step::JoinDeclDown { .. } => Ok(down(widened_down(alloc, upper, lower, apart)?)),
         Step::Share { upper: x, lower: y } => share(alloc, x, upper, y, lower),
         _ => unreachable!(),
     }
@@ -154,13 +162,14 @@ impl MarkedSheet {
         Ok(after)
     }
 
-    /// The sheet after a step of two rules.
+    /// The sheet after a step of two rules. `apart` says that they are known to have no selector in common.
     fn take_two(
         self,
         alloc: Global,
         step: &Step,
         upper: u32,
         lower: u32,
+        apart: bool,
     ) -> Result<MarkedSheet, AllocError>
         requires is_step { HasStep self.items step.now }
         requires join { IsJoinKind step.now }
@@ -168,6 +177,7 @@ impl MarkedSheet {
         requires last { lower ≡ last_item step.now }
         requires label { HasLabelFor self.marks step.now }
         requires births { self.next + 4 < 2 ^ 32 }
+        requires apart { apart ≡ true → StepApart self.items step.now }
         ensures items { IfOk result (λ b. (e : Edit) → IsStep self.items step.now e → b.items ≡ edited e self.items) }
         ensures marks { IfOk result (λ b. (e : Edit) → IsStep self.items step.now e → AreKept self b e) }
         ensures labels { IfOk result (λ b. (way : Way) → IsMove way step.now → labels_of b.marks ≡ remove (labels_of self.marks) (mover way step.now)) }
@@ -178,7 +188,7 @@ impl MarkedSheet {
         let known = joined_mask(step, self.mask(upper), self.mask(lower));
         let (lifted, above) = self.lift(upper);
         let (again, below) = lifted.lift(lower);
-        let left = both_left(alloc, step, above, below)?;
+        let left = both_left(alloc, step, above, below, apart)?;
         let Halves { above, below } = left;
         let between = again.put(lower, below, known)?;
         let after = between.put(upper, above, known)?;
@@ -186,11 +196,18 @@ impl MarkedSheet {
     }
 
     /// The sheet after one of its steps, which is taken in place: the items that it does not take keep their marks, and the
-    /// others are born later than all before. After an error nothing is left.
-    pub(crate) fn take(self, alloc: Global, step: &Step) -> Result<MarkedSheet, AllocError>
+    /// others are born later than all before. `apart` says that the rules of a step of two items are known to have no selector in
+    /// common. After an error nothing is left.
+    pub(crate) fn take(
+        self,
+        alloc: Global,
+        step: &Step,
+        apart: bool,
+    ) -> Result<MarkedSheet, AllocError>
         requires is_step { HasStep self.items step.now }
         requires label { HasLabelFor self.marks step.now }
         requires births { self.next + 4 < 2 ^ 32 }
+        requires apart { apart ≡ true → StepApart self.items step.now }
         ensures items { IfOk result (λ b. (e : Edit) → IsStep self.items step.now e → b.items ≡ edited e self.items) }
         ensures marks { IfOk result (λ b. (e : Edit) → IsStep self.items step.now e → AreKept self b e) }
         ensures labels { IfOk result (λ b. (way : Way) → IsMove way step.now → labels_of b.marks ≡ remove (labels_of self.marks) (mover way step.now)) }
@@ -201,7 +218,7 @@ impl MarkedSheet {
         let (first, last) = items_of(step);
         match step {
             Step::CutDecl { .. } | Step::CutSel { .. } => self.take_cut(step, first),
-            _ => self.take_two(alloc, step, first, last),
+            _ => self.take_two(alloc, step, first, last, apart),
         }
     }
 }

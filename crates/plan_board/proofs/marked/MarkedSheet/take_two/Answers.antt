@@ -31,6 +31,16 @@ lift-again-requires c =
           ∙ subst (λ (i : ℕ). slice_get c.args.self.items i ≡ Some (Rule u.0)) (sym c.requires.last) u.1,
     )
 
+pub both_left-requires-clause-apart : goal.both_left-requires-clause-apart
+both_left-requires-clause-apart c = λ known.
+    let order : first_item c.args.step.now < last_item c.args.step.now = in_order c.args.self.items c.args.step.now c.requires.join c.requires.is_step in
+    let less : c.args.upper < c.args.lower = omega (arith, order, c.requires.first, c.requires.last) in
+    let below : slice_get c.args.self.items c.args.lower ≡ Some (Rule c.lift-again.result.1) =
+    sym (ap (λ (items : List Item). slice_get items c.args.lower) c.lift-lifted.ensures.items ∙ get_other c.args.self.items c.args.upper c.args.lower placeholder less) ∙ c.lift-again.ensures.rule in
+    c.requires.apart known c.lift-lifted.result.1 c.lift-again.result.1
+    (subst (λ (i : ℕ). slice_get c.args.self.items i ≡ Some (Rule c.lift-lifted.result.1)) c.requires.first c.lift-lifted.ensures.rule)
+    (subst (λ (i : ℕ). slice_get c.args.self.items i ≡ Some (Rule c.lift-again.result.1)) c.requires.last below)
+
 pub put-requires-clause-at : goal.put-requires-clause-at
 put-requires-clause-at c =
     let within : c.args.lower < length c.lift-lifted.result.0.items = slice_get_within c.lift-lifted.result.0.items c.args.lower (Rule c.lift-again.result.1) c.lift-again.ensures.rule in
