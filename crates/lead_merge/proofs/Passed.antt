@@ -7,7 +7,7 @@ use Rattle.std.specs.List.{Contains}
 use Rattle.css_model.specs.Cascade.Order.{Pair}
 use Rattle.hold_laws.specs.Leads as held
 use Rattle.hold_laws.specs.Ways.{mover}
-use Rattle.hold_laws.specs.Leads.{IsLed, IsHeld, IsSetAside}
+use Rattle.hold_laws.specs.Leads.{IsLed, IsSetAside}
 use Rattle.lead_laws.proofs.ForCallers.{ascending_differ, in_scope}
 use Rattle.lead_laws.specs.BoardWalls.{moves_lead, AreWalls, HasMovesLead, IsWalled, MayBeAside, WalledMayBeAside, WallsStay}
 use Rattle.lead_laws.specs.Known.{IsFollowed, IsKnown, IsLedOrAside, NoneIsKnown, BlockedIsKnown, AnswersMayCome, AsideIsKnown, MoreIsKnown}
@@ -38,7 +38,7 @@ use Rattle.wall_laws.specs.Holding.{Aside, Hindrance}
 
 -- what goes with the board stays while leads and entries change
 pub same_board : (source : List ℕ) (p : PlanParts) (leads : List held.Lead) (entries : List Entry) → IsBoard source p → IsBoard source (record p { leads = leads; entries = entries })
-same_board source p leads entries b = record { plannable = b.plannable; marked = b.marked; covered = b.covered; homes = b.homes; heaviest = b.heaviest }
+same_board source p leads entries b = record { plannable = b.plannable; marked = b.marked; covered = b.covered; homes = b.homes; weighed = b.weighed }
 
 -- more may lead
 more_known : (answers : List Answered) (source : List ℕ) (b : BoardParts) (leads leads' : List held.Lead) (aside : List Aside) (entries : List Entry) → ((l : held.Lead) → Contains leads l → Contains leads' l) →

@@ -95,7 +95,7 @@ set_led stay p p' k o way birth label same more put is_set makes answers source 
   where
     still : IsLedBy answers source (record p { entries = p'.entries; walls = p'.walls }) (lead ∷ p.leads)
     still = record {
-      board = record { plannable = led.board.plannable; marked = led.board.marked; covered = led.board.covered; homes = led.board.homes; heaviest = led.board.heaviest };
+      board = record { plannable = led.board.plannable; marked = led.board.marked; covered = led.board.covered; homes = led.board.homes; weighed = led.board.weighed };
       aside = led.aside;
       known = record {
         held = led.known.held;

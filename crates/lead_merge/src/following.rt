@@ -45,8 +45,8 @@ fn next_of(
         &plan.board,
         &plan.tables,
         source,
+        &plan.weights,
         &plan.walls,
-        plan.heaviest,
         at,
         lead,
     )

@@ -1,4 +1,6 @@
 mod Entries
+pub mod ForCallers
 mod Keys
+pub mod Once
 mod Sets
 mod Weighing

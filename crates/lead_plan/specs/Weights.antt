@@ -11,7 +11,7 @@ weight_of saving numbers = 0
 
 -- how many turns may lead alone in the place of one that is passed, beside the next one that leads others
 abbrev pub room : ℕ
-room = 32
+room = 8
 
 -- whether a lead leads its own step alone
 abbrev pub is_alone : Scope → Bool

@@ -41,7 +41,7 @@ pub enum Scope {
 }
 
 /// How many turns lead alone, at most, in the place of one that is passed.
-pub const ROOM: usize = 32;
+pub const ROOM: usize = 8;
 
 /// A turn that leads, and whose steps it leads. Leads are ordered as their turns come.
 #[derive(Clone, Copy, Debug, PartialEq, Eq, PartialOrd, Ord, Drop)]

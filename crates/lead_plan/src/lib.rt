@@ -2,13 +2,17 @@
 #![tactic(auto)]
 
 mod aside;
+mod doubles;
 mod heaviest;
 mod lead;
+mod rule_weights;
 mod waiting;
 mod walls;
 
 pub use aside::{Aside, Entry};
+pub use doubles::are_decls_different;
 pub use heaviest::Heaviest;
 pub use lead::{Kind, Lead, ROOM, Scope, later_weighs_less};
+pub use rule_weights::{RuleWeight, RuleWeights};
 pub use waiting::Waiting;
 pub use walls::Walls;

@@ -1,5 +1,8 @@
+mod Behind
+mod Births
 mod Greeted
 mod Heavier
+mod Made
 mod Members
 mod Mended
 mod Moving
@@ -9,3 +12,4 @@ mod Starting
 mod Taken
 mod TakenDown
 mod Weighed
+mod WeighedBehind

@@ -2,6 +2,7 @@
 use Rattle.std.proofs.Common.{◌≡◌, ℕ, ◌+◌, ◌≤◌, List, length, sym, subst, arith}
 use Rattle.css_model.specs.declared.sheet.Item.{Item}
 use Rattle.css_model.specs.Sheets.Limits.{max_items}
+use Rattle.css_model.specs.Sheets.Sound.{IsSound}
 use Rattle.plan_laws.specs.Plannable.{IsPlannable}
 use Rattle.order_laws.specs.Edits.{Edit, edited}
 use Rattle.step_laws.specs.declared.step.Step.{Step}
@@ -15,7 +16,10 @@ module _ (make : StepsMakeOf) (itself : EachIsMadeOfItself) (source : List ℕ) 
   made : (k : Step) (e : Edit) → IsStep items k e → IsMadeOf source items (edited e items)
   made k e is = make source items items k e is (itself source items plannable.sound plannable.few_items)
 
-  -- it has no more items than a sheet may have
+  -- it is sound, and has no more items than a sheet may have
+  pub sound_after : (k : Step) (e : Edit) → IsStep items k e → IsSound source (edited e items)
+  sound_after k e is = (made k e is).sound
+
   pub few_after : (k : Step) (e : Edit) → IsStep items k e → length (edited e items) ≤ max_items
   few_after k e is = (made k e is).few_items
 

@@ -1,6 +1,14 @@
 -- What holds of a result.
-use Rattle.std.specs.Prelude.{Result, Ok, Err, IfOk}
+use Rattle.std.specs.Prelude.{Result, Ok, Err, IfOk, OnOk}
 
 pub ok_on : {A E : Type 0} (r : Result A E) (P Q : A → Type 0) → ((a : A) → P a → Q a) → IfOk r P → IfOk r Q
 ok_on (Ok a) P Q on h = on a h
 ok_on (Err e) P Q on h = h
+
+pub if_fine : {A E P Q : Type 0} (r : Result A E) → (P → Q) → OnOk r P → OnOk r Q
+if_fine (Ok a) on h = on h
+if_fine (Err e) on h = h
+
+pub if_three : {A E P Q R S : Type 0} (r : Result A E) → (P → Q → R → S) → OnOk r P → OnOk r Q → OnOk r R → OnOk r S
+if_three (Ok a) on p q r = on p q r
+if_three (Err e) on p q r = p

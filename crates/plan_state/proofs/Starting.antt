@@ -15,7 +15,7 @@ use Rattle.hold_laws.specs.Turns.{first_turn}
 use Rattle.lead_laws.specs.Beside.{CoverIsOfEach}
 use Rattle.lead_laws.specs.Known.{IsKnown, StartIsKnown}
 use Rattle.lead_laws.specs.MarkNames.{IsMarked}
-use Rattle.lead_plan.specs.Heaviest.{AreNotHeavier}
+use Rattle.lead_plan.specs.RuleWeights.{AreWeighed}
 use Rattle.lead_plan.specs.WallParts.{walls_on, WallParts}
 use Rattle.list_facts.proofs.Options.{mapped}
 use Rattle.plan_board.specs.BoardParts.{BoardParts}
@@ -58,14 +58,14 @@ none_on walls ups downs Up = ups
 none_on walls ups downs Down = downs
 
 pub start_state : StartIsKnown → CoverIsOfEach → (answers : List Answered) (source : List ℕ) (p : PlanParts) → IsPlannable source p.board.items → IsMarked p.board → p.entries ≡ [] → ((way : Way) → walls_on way p.walls ≡ []) →
-    AreNotHeavier source p.board.items p.heaviest → AreGreeted true 0 p.board.marks p.board.items p.tables p.leads p.homes → IsState answers source p
-start_state start cover answers source p plannable marked none no_walls heaviest greeted = record {
+    AreWeighed source p.board.items (births_of p.board.marks) p.weights → AreGreeted true 0 p.board.marks p.board.items p.tables p.leads p.homes → IsState answers source p
+start_state start cover answers source p plannable marked none no_walls weighed greeted = record {
   board = record {
     plannable = plannable;
     marked = marked;
     covered = cover p.board p.tables (λ n m r at item. covered_there true 0 p.board marked p.tables p.leads p.homes greeted refl n m r at item (omega arith));
     homes = λ n m at. home_there true 0 p.board marked p.tables p.leads p.homes greeted n m at (omega arith);
-    heaviest = heaviest;
+    weighed = weighed;
   };
   aside = [];
   known = subst (IsKnown answers source p.board p.leads []) (sym none)

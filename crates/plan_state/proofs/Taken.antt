@@ -13,12 +13,12 @@ use Rattle.lead_laws.specs.Known.{IsTaken, TakenIsKnown}
 use Rattle.lead_laws.specs.MarkNames.{IsMarked}
 use Rattle.lead_laws.specs.Remembering.{untouched}
 use Rattle.lead_plan.specs.declared.aside.Entry.{Entry}
-use Rattle.lead_plan.specs.Heaviest.{AreNotHeavier}
+use Rattle.lead_plan.specs.RuleWeights.{AreWeighed}
 use Rattle.lead_plan.specs.Told.{lead_told}
 use Rattle.lead_plan.specs.WallParts.{walls_on}
 use Rattle.order_laws.specs.Edits.{is_moved, Edit, edited}
 use Rattle.plan_board.specs.Marking.{AreKept}
-use Rattle.plan_board.specs.MarkList.{labels_of}
+use Rattle.plan_board.specs.MarkList.{births_of, labels_of}
 use Rattle.plan_laws.specs.Plannable.{IsPlannable}
 use Rattle.rule_tables.specs.Tables.{Cover, TableParts, labelled}
 use Rattle.step_laws.specs.declared.step.Step.{Step}
@@ -35,7 +35,7 @@ use Rattle.plan_state.specs.Walls.{SomeStay}
 use Rattle.plan_state.proofs.Plannable.{plannable_after, saved_by}
 use Rattle.plan_state.proofs.Starting.{home_there, lead_there}
 
--- what was done to a plan: its turns were woken, its tables were mended, its step was taken, and its items were greeted
+-- what was done to a plan: its turns were woken, its tables were mended, its step was taken, and its items were greeted and weighed
 pub record IsDone (source : List ℕ) (p p' : PlanParts) (woken : List held.Lead) (mended : TableParts) (put : Bool) (k : Step) (e : Edit) : Type 0 where
   pub items : p'.board.items ≡ edited e p.board.items
   pub marked : IsMarked p'.board
@@ -48,7 +48,7 @@ pub record IsDone (source : List ℕ) (p p' : PlanParts) (woken : List held.Lead
   pub stay : StayBefore p.board.next mended woken p.homes p'.tables p'.leads p'.homes
   pub entries : p'.entries ≡ p.entries
   pub walls : (way : Way) → SomeStay (walls_on way p.walls) (walls_on way p'.walls) (λ birth label. (n : ℕ) → slice_get (labels_of p.board.marks) n ≡ Some label → (first_item k ≡ n → ⊥) × (last_item k ≡ n → ⊥))
-  pub heaviest : AreNotHeavier source p.board.items p.heaviest → AreNotHeavier source p'.board.items p'.heaviest
+  pub weighed : AreWeighed source p.board.items (births_of p.board.marks) p.weights → AreWeighed source p'.board.items (births_of p'.board.marks) p'.weights
 
 pub taken_state : TakenIsKnown → WallsGoOver → SheetsHaveRoom → HomesGoOn → StepsMakeOf → EachIsMadeOfItself → (answers : List Answered) (source : List ℕ) (p p' : PlanParts) (woken : List held.Lead) (mended : TableParts) (put : Bool) (k : Step) (e : Edit) →
     IsStep p.board.items k e → length p.board.items + 1 < max_items → IsDone source p p' woken mended put k e → Takes answers source p.board.items (edited e p.board.items) → IsState answers source p → IsState answers source p'
@@ -58,7 +58,7 @@ taken_state taken over room homes make itself answers source p p' woken mended p
     marked = d.marked;
     covered = d.covered s.board.covered;
     homes = homes p.board p'.board e p.homes p'.homes s.board.marked d.kept s.board.homes d.stay.kept (home_there put p.board.next p'.board d.marked p'.tables p'.leads p'.homes d.greeted);
-    heaviest = d.heaviest s.board.heaviest;
+    weighed = d.weighed s.board.weighed;
   };
   aside = untouched e s.aside;
   known = (let saved : (n : ℕ) × Saves source p.board.items e n = saved_by answers source p.board.items e takes in

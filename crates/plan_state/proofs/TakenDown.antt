@@ -92,7 +92,7 @@ pub taken_out : (answers : List Answered) (source : List ℕ) (p p' : PlanParts)
     ((way : Way) → SomeStay (walls_on way p.walls) (walls_on way p'.walls) (IsOfOther way lead)) → IsState answers source p → IsLedBy answers source p' (lead_told lead ∷ p'.leads)
 taken_out answers source p p' lead same taken stay s =
     subst (λ (q : PlanParts). IsLedBy answers source q (lead_told lead ∷ p'.leads)) (sym same) (record {
-      board = record { plannable = s.board.plannable; marked = s.board.marked; covered = s.board.covered; homes = s.board.homes; heaviest = s.board.heaviest };
+      board = record { plannable = s.board.plannable; marked = s.board.marked; covered = s.board.covered; homes = s.board.homes; weighed = s.board.weighed };
       aside = s.aside;
       known = subst (λ (ls : List held.Lead). IsKnown answers source p.board ls s.aside p.entries) taken s.known;
       walls = record { past = λ way. (let b = s.walls.past way in let l = (stay way).long in omega (arith, b, l)); each = each };

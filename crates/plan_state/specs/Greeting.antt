@@ -22,9 +22,13 @@ pub record IsGreeted (put : Bool) (tables : TableParts) (leads : List held.Lead)
   pub home : slice_get homes m.birth ≡ Some m.label
   pub covered : put ≡ true → (r : RuleParts) → x ≡ Rule r → Cover tables (with_label r m.label ∷ [])
 
--- each of these items is greeted that was born at `next` or later
+-- the item of this number is greeted, if it was born at `next` or later
+abbrev pub IsGreetedAt : Bool → ℕ → List Mark → List Item → TableParts → List held.Lead → List ℕ → ℕ → Type 0
+IsGreetedAt put next marks items tables leads homes n = (m : Mark) (x : Item) → slice_get marks n ≡ Some m → slice_get items n ≡ Some x → next ≤ m.birth → IsGreeted put tables leads homes m x
+
+-- and so is each of the items
 abbrev pub AreGreeted : Bool → ℕ → List Mark → List Item → TableParts → List held.Lead → List ℕ → Type 0
-AreGreeted put next marks items tables leads homes = (n : ℕ) (m : Mark) (x : Item) → slice_get marks n ≡ Some m → slice_get items n ≡ Some x → next ≤ m.birth → IsGreeted put tables leads homes m x
+AreGreeted put next marks items tables leads homes = (n : ℕ) → IsGreetedAt put next marks items tables leads homes n
 
 -- What the tables cover and the turns that lead stay, and the labels but that under one birth.
 pub record StayBut (birth : ℕ) (tables : TableParts) (leads : List held.Lead) (homes : List ℕ) (tables' : TableParts) (leads' : List held.Lead) (homes' : List ℕ) : Type 0 where

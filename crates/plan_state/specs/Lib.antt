@@ -1,3 +1,4 @@
+pub mod Born
 pub mod Greeting
 pub mod Mending
 pub mod PlanParts

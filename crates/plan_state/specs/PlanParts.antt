@@ -2,7 +2,7 @@
 use Rattle.std.specs.Prelude.{ℕ, List}
 use Rattle.hold_laws.specs.Leads as held
 use Rattle.lead_plan.specs.declared.aside.Entry.{Entry}
-use Rattle.lead_plan.specs.declared.heaviest.Heaviest.{Heaviest}
+use Rattle.lead_plan.specs.RuleWeights.{WeightParts}
 use Rattle.lead_plan.specs.WallParts.{WallParts}
 use Rattle.plan_board.specs.BoardParts.{BoardParts}
 use Rattle.rule_tables.specs.Tables.{TableParts}
@@ -16,4 +16,4 @@ pub record PlanParts : Type 0 where
   pub entries : List Entry
   pub homes : List ℕ
   pub walls : WallParts
-  pub heaviest : Heaviest
+  pub weights : WeightParts

@@ -6,8 +6,8 @@ use Rattle.lead_laws.specs.Beside.{AreHomes}
 use Rattle.lead_laws.specs.BoardWalls.{AreWalls}
 use Rattle.lead_laws.specs.Known.{IsKnown}
 use Rattle.lead_laws.specs.MarkNames.{IsMarked}
-use Rattle.lead_plan.specs.Heaviest.{AreNotHeavier}
-use Rattle.plan_board.specs.MarkList.{labels_of}
+use Rattle.lead_plan.specs.RuleWeights.{AreWeighed}
+use Rattle.plan_board.specs.MarkList.{births_of, labels_of}
 use Rattle.plan_laws.specs.Plannable.{IsPlannable}
 use Rattle.rule_tables.specs.Tables.{Cover, labelled}
 use Rattle.step_laws.specs.Free.{Answered}
@@ -20,7 +20,7 @@ pub record IsBoard (source : List ℕ) (p : PlanParts) : Type 0 where
   pub marked : IsMarked p.board
   pub covered : Cover p.tables (labelled p.board.items (labels_of p.board.marks))
   pub homes : AreHomes p.board.marks p.homes
-  pub heaviest : AreNotHeavier source p.board.items p.heaviest
+  pub weighed : AreWeighed source p.board.items (births_of p.board.marks) p.weights
 
 -- Each step of the sheet that saves is led by one of these turns, or set aside with what blocks it. There may be walls.
 pub record IsLedBy (answers : List Answered) (source : List ℕ) (p : PlanParts) (leads : List Lead) : Type 0 where

@@ -1,45 +1,72 @@
 -- What the rules of a plan weigh at most (own).
-use Rattle.std.specs.Prelude.{◌≡◌, ◌+◌, ◌≤◌, ℕ, List, Some, slice_get}
-use Rattle.std.specs.List.{Contains}
+use Rattle.std.specs.Prelude.{◌≡◌, ◌+◌, ◌≤◌, ◌&&◌, ℕ, true, false, List, Some, max, min, slice_get}
+use Rattle.std.specs.List.{AllByRecursion}
 use Rattle.css_model.specs.declared.sheet.Item.{Item}
 use Rattle.css_model.specs.declared.sheet.Item.TheVariants.{Rule}
+use Rattle.css_model.specs.Sheets.Limits.{max_bytes}
 use Rattle.css_model.specs.Sheets.Printed.{printed_declaration, printed_selector}
 use Rattle.css_model.specs.Sheets.RuleParts.{RuleParts}
 use Rattle.lead_plan.specs.declared.heaviest.Heaviest.{Heaviest}
+use Rattle.lead_plan.specs.declared.rule_weights.RuleWeight.{RuleWeight}
+use Rattle.lead_plan.specs.Once.{StandOnce}
+use Rattle.lead_plan.specs.RuleWeights.{AreWeighed, WeighsAtMost, WeightParts, weight_under}
+use Rattle.order_laws.specs.Edits.{Edit}
+use Rattle.plan_board.specs.BoardParts.{BoardParts}
+use Rattle.plan_board.specs.declared.marks.Mark.{Mark}
+use Rattle.plan_board.specs.MarkList.{births_of}
 use Rattle.step_laws.specs.declared.step.Step.{Step}
-use Rattle.step_laws.specs.declared.step.Step.TheVariants.{CutDecl, CutSel, JoinSelUp, JoinSelDown, JoinDeclUp, JoinDeclDown, Share}
 use Rattle.step_laws.specs.Sizes.{weight}
-use Rattle.step_laws.specs.Steps.{first_item, last_item}
+use Rattle.step_laws.specs.Steps.{IsStep}
 use Rattle.step_savings.specs.Weighing.{IsWeighable}
+
+-- each rule among items can be weighed
+abbrev pub AreWeighable : List ℕ → List Item → Type 0
+AreWeighable source items = (n : ℕ) (r : RuleParts) → slice_get items n ≡ Some (Rule r) → IsWeighable source r
 
 -- a rule weighs no more than this
 abbrev pub IsNotHeavier : List ℕ → Heaviest → RuleParts → Type 0
 IsNotHeavier source h r = (weight (printed_selector source) r.selectors ≤ h.selectors) × (weight (printed_declaration source) r.decls ≤ h.decls)
 
--- one is at least as much as another one
-abbrev pub IsRaised : Heaviest → Heaviest → Type 0
-IsRaised old new = (old.selectors ≤ new.selectors) × (old.decls ≤ new.decls)
+-- ---- What is put down
 
--- each rule among items can be weighed
-abbrev pub AreWeighable : List ℕ → List Item → Type 0
-AreWeighable source items = (r : RuleParts) → Contains items (Rule r) → IsWeighable source r
+-- What is told under the birth of a rule holds of it, and so what is told of all rules.
+pub record IsWeighed (source : List ℕ) (weights : WeightParts) (birth : ℕ) (r : RuleParts) : Type 0 where
+  pub own : WeighsAtMost source r (weight_under weights.each birth)
+  pub all : IsNotHeavier source weights.heaviest r
+  pub once : weights.once ≡ true → StandOnce (λ x. x.decl) r.decls
 
--- the selectors of both rules of a step weigh no more than this together, and so their declarations
-abbrev pub SelectorsFit : List ℕ → List Item → Step → ℕ → Type 0
-SelectorsFit source items k n = (u l : RuleParts) → slice_get items (first_item k) ≡ Some (Rule u) → slice_get items (last_item k) ≡ Some (Rule l) →
-    weight (printed_selector source) u.selectors + weight (printed_selector source) l.selectors ≤ n
+-- so it is with the item of a number, if it is a rule that was born at `next` or later
+abbrev pub IsWeighedAt : List ℕ → ℕ → BoardParts → WeightParts → ℕ → Type 0
+IsWeighedAt source next board weights n = (m : Mark) (r : RuleParts) → slice_get board.marks n ≡ Some m → slice_get board.items n ≡ Some (Rule r) → next ≤ m.birth → IsWeighed source weights m.birth r
 
-abbrev pub DeclsFit : List ℕ → List Item → Step → ℕ → Type 0
-DeclsFit source items k n = (u l : RuleParts) → slice_get items (first_item k) ≡ Some (Rule u) → slice_get items (last_item k) ≡ Some (Rule l) →
-    weight (printed_declaration source) u.decls + weight (printed_declaration source) l.decls ≤ n
+-- What is told under some births stays, and what is told of all rules still holds of those of which it did.
+pub record Stay (Kept : ℕ → Type 0) (old new : WeightParts) : Type 0 where
+  pub kept : (b : ℕ) → Kept b → weight_under new.each b ≡ weight_under old.each b
+  pub selectors : old.heaviest.selectors ≤ new.heaviest.selectors
+  pub decls : old.heaviest.decls ≤ new.heaviest.decls
+  pub once : new.once ≡ true → old.once ≡ true
 
--- what a step puts together weighs no more than this: of joins by selectors the declarations, of joins by declarations and of
--- shares the selectors
-abbrev pub FitsTogether : List ℕ → List Item → Step → Heaviest → Type 0
-FitsTogether source items (CutDecl n i) h = Unit {0}
-FitsTogether source items (CutSel n i) h = Unit {0}
-FitsTogether source items (JoinSelUp x y) h = DeclsFit source items (JoinSelUp x y) h.decls
-FitsTogether source items (JoinSelDown x y) h = DeclsFit source items (JoinSelDown x y) h.decls
-FitsTogether source items (JoinDeclUp x y) h = SelectorsFit source items (JoinDeclUp x y) h.selectors
-FitsTogether source items (JoinDeclDown x y) h = SelectorsFit source items (JoinDeclDown x y) h.selectors
-FitsTogether source items (Share x y) h = SelectorsFit source items (Share x y) h.selectors
+-- ---- What is known before
+
+-- the rule of a number weighs no more, where the rules of the board are weighed
+abbrev pub IsAtMost : BoardParts → WeightParts → ℕ → RuleWeight → Type 0
+IsAtMost board weights n w = (source : List ℕ) (r : RuleParts) → AreWeighed source board.items (births_of board.marks) weights → slice_get board.items n ≡ Some (Rule r) → WeighsAtMost source r w
+
+-- what a join of two rules makes weighs no more than this, where the sums are no more than a sheet may weigh
+abbrev pub joined_by_selectors : (upper lower : RuleWeight) → RuleWeight
+joined_by_selectors upper lower = record { selectors = max upper.selectors lower.selectors; decls = min (upper.decls + lower.decls) max_bytes; once = false }
+
+abbrev pub joined_by_decls : (upper lower : RuleWeight) → RuleWeight
+joined_by_decls upper lower = record { selectors = min (upper.selectors + lower.selectors) max_bytes; decls = max upper.decls lower.decls; once = upper.once && lower.once }
+
+-- no rule that an edit puts in weighs more, if it can be weighed
+abbrev pub BringsAtMost : List ℕ → RuleWeight → Edit → Type 0
+BringsAtMost source w e = AllByRecursion (λ c. AllByRecursion (λ x. (r : RuleParts) → x ≡ Rule r → IsWeighable source r → WeighsAtMost source r w) c.by) e.changes
+
+-- so it is with the edit of a step, where the rules of the board are weighed
+abbrev pub MakesAtMost : BoardParts → WeightParts → Step → RuleWeight → Type 0
+MakesAtMost board weights k w = (source : List ℕ) (e : Edit) → AreWeighed source board.items (births_of board.marks) weights → IsStep board.items k e → BringsAtMost source w e
+
+-- no rule that was born at `next` or later weighs more
+abbrev pub AreAtMost : List ℕ → ℕ → BoardParts → RuleWeight → Type 0
+AreAtMost source next board w = (n : ℕ) (m : Mark) (r : RuleParts) → slice_get board.marks n ≡ Some m → slice_get board.items n ≡ Some (Rule r) → next ≤ m.birth → WeighsAtMost source r w

@@ -1,18 +1,20 @@
 //! What a plan does for the items that are born.
 
-ghost use Rattle.std.specs.Prelude.{◌≡◌, ◌≢◌, ◌<◌, ◌≤◌, ◌∷◌, [], ℕ, List, OnOk, Some, length, slice_get, true};
-ghost use Rattle.std.specs.List.{AllPairs};
+ghost use Rattle.std.specs.Prelude.{◌≡◌, ◌≢◌, ◌<◌, ◌≤◌, ◌∷◌, [], ℕ, List, IfSome, OnOk, Some, length, slice_get, true};
+ghost use Rattle.std.specs.List.{AllPairs, Contains};
 ghost use Rattle.css_model.specs.declared.sheet.Item.TheVariants as kinds;
 ghost use Rattle.css_model.specs.Sheets.RuleParts.{RuleParts};
 ghost use Rattle.plan_state.specs.Greeting as spec;
 ghost use Rattle.lead_laws.specs.MarkNames.{IsMarked};
 ghost use Rattle.lead_plan.specs.Told.{lead_told};
+ghost use Rattle.plan_state.specs.Born.{AreBorn};
 ghost use Rattle.rule_tables.specs.Tables as covering;
 
 use css_model::{Item, MAX_BYTES};
 use lead_plan::{Kind, Lead, Scope, Waiting};
 use plan_board::{Board, Mark};
 use rule_tables::Tables;
+use smallvec::SmallVec;
 use std::alloc::AllocError;
 use std::cmp::Reverse;
 
@@ -142,21 +144,61 @@ fn greet_each(
     Ok(())
 }
 
-/// Does so for all items of a board that were born at `next` or later.
-pub(crate) fn greet(
+/// Does so for the items of these numbers.
+fn greet_those(
     put: bool,
-    board: &Board,
     next: u32,
+    numbers: &[u32],
+    marks: &[Mark],
+    items: &[Item],
     tables: &mut Tables,
     waiting: &mut Waiting,
     homes: &mut Vec<u64>,
 ) -> Result<(), AllocError>
+    requires there { (n : ℕ) → Contains numbers.now n → n < length marks.now }
+    requires as_many { length marks.now ≡ length items.now }
+    requires differ { AllPairs (λ m n. m.birth ≢ n.birth) marks.now }
+    ensures greeted { OnOk result ((n : ℕ) → Contains numbers.now n → spec.IsGreetedAt put next marks.now items.now tables.new waiting.new homes.new.items n) }
+    ensures stay { OnOk result (spec.StayBefore next tables.old waiting.old homes.old.items tables.new waiting.new homes.new.items) }
+{
+    let mut rest = numbers;
+    'rest: while let Some((number, behind)) = rest.split_first() {
+        let mark = mark_at(marks, *number as usize);
+        let item = item_at(items, *number as usize);
+        greet_if_new(put, next, mark, item, tables, waiting, homes)?;
+        rest = behind;
+    }
+    Ok(())
+}
+
+/// Does so for all items of a board that were born at `next` or later. `born` may tell the numbers of all of them.
+pub(crate) fn greet(
+    put: bool,
+    board: &Board,
+    next: u32,
+    born: &Option<SmallVec<u32, 4>>,
+    tables: &mut Tables,
+    waiting: &mut Waiting,
+    homes: &mut Vec<u64>,
+) -> Result<(), AllocError>
+    requires born { IfSome born.now (λ numbers. AreBorn board.now next numbers.items) }
     ensures marked { OnOk result (IsMarked board.now) }
     ensures greeted { OnOk result (spec.AreGreeted put next board.now.marks board.now.items tables.new waiting.new homes.new.items) }
     ensures stay { OnOk result (spec.StayBefore next tables.old waiting.old homes.old.items tables.new waiting.new homes.new.items) }
 {
     let marks = board.marks();
     let sheet = board.sheet();
-    greet_each(put, next, marks, &sheet.items, tables, waiting, homes)?;
-    Ok(())
+    match born {
+        Some(numbers) => greet_those(
+            put,
+            next,
+            numbers,
+            marks,
+            &sheet.items,
+            tables,
+            waiting,
+            homes,
+        ),
+        None => greet_each(put, next, marks, &sheet.items, tables, waiting, homes),
+    }
 }

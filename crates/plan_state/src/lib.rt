@@ -2,6 +2,7 @@
 //! aside. It stays one when a step is taken.
 #![tactic(auto)]
 
+mod born;
 mod greeting;
 mod leading;
 mod leaving;

@@ -1,17 +1,17 @@
 //! A plan while it works.
 
-ghost use Rattle.std.specs.Prelude.{◌≡◌, ◌≤◌, IfOk, List, ℕ, length, true};
+ghost use Rattle.std.specs.Prelude.{◌≡◌, ◌≤◌, IfOk, List, length};
 ghost use Rattle.css_model.specs.Sheets.Limits.{max_items};
-ghost use Rattle.lead_plan.specs.Heaviest.{AreNotHeavier};
-ghost use Rattle.plan_state.specs.State.{IsState};
 ghost use Rattle.plan_laws.specs.Plannable.{IsPlannable};
+ghost use Rattle.plan_state.specs.State.{IsState};
+ghost use Rattle.plan_state.specs.Weighing.{AreWeighable};
 ghost use Rattle.step_laws.specs.Free.{Answered};
 
 use crate::greeting::greet;
-use crate::weighing::weigh;
+use crate::weighing::weigh_born;
 use css_model::Sheet;
 use lead_laws::{cover_is_of_each, start_is_known};
-use lead_plan::{Aside, Heaviest, Waiting, Walls};
+use lead_plan::{Aside, RuleWeights, Waiting, Walls};
 use merge_plan::KnownLengths;
 use plan_board::Board;
 use rule_tables::Tables;
@@ -33,8 +33,8 @@ pub struct Plan {
     pub homes: Vec<u64>,
     /// What joins of its items are known to be hindered past.
     pub walls: Walls,
-    /// No rule of the sheet weighs more.
-    pub heaviest: Heaviest,
+    /// What its rules weigh at most.
+    pub weights: RuleWeights,
 }
 
 impl Model for Plan {
@@ -49,7 +49,7 @@ impl Model for Plan {
       entries = p.aside;
       homes = p.homes.items;
       walls = p.walls;
-      heaviest = p.heaviest;
+      weights = p.weights;
     } };
 }
 
@@ -60,16 +60,19 @@ impl Plan {
         ensures items { IfOk result (λ p. p.board.items ≡ sheet.items) }
         ensures state { IfOk result (λ p. (answers : List Answered) → IsState answers source.now p) }
     {
-        let heaviest = weigh(source, &sheet);
-        Plan::begin(alloc, sheet, heaviest)
+        Plan::begin(alloc, source, sheet)
     }
 
-    /// The same, where it is known how much its rules weigh at most.
-    pub(crate) fn begin(alloc: Global, sheet: Sheet, heaviest: Heaviest) -> Result<Plan, AllocError>
+    /// The same, where it is not known whether the sheet is too long to be planned.
+    pub(crate) fn begin(
+        alloc: Global,
+        source: &KnownLengths<'_>,
+        sheet: Sheet,
+    ) -> Result<Plan, AllocError>
         requires few_items { length sheet.items ≤ max_items }
+        requires weighable { AreWeighable source.now sheet.items }
         ensures items { IfOk result (λ p. p.board.items ≡ sheet.items) }
-        ensures state { IfOk result (λ p. (answers : List Answered) (source : List ℕ) → IsPlannable source sheet.items
-            → AreNotHeavier source sheet.items heaviest → IsState answers source p) }
+        ensures state { IfOk result (λ p. (answers : List Answered) → IsPlannable source.now sheet.items → IsState answers source.now p) }
     {
         start_is_known();
         cover_is_of_each();
@@ -77,7 +80,17 @@ impl Plan {
         let mut tables = Tables::new(alloc, &[], &[])?;
         let mut waiting = Waiting::new(alloc);
         let mut homes = Vec::new(alloc);
-        greet(true, &board, 0, &mut tables, &mut waiting, &mut homes)?;
+        let mut weights = RuleWeights::new(alloc);
+        greet(
+            true,
+            &board,
+            0,
+            &None,
+            &mut tables,
+            &mut waiting,
+            &mut homes,
+        )?;
+        weigh_born(source, None, &board, 0, &None, &mut weights)?;
         let aside = Aside::new(alloc);
         let walls = Walls::new(alloc);
         Ok(Plan {
@@ -87,7 +100,7 @@ impl Plan {
             aside,
             homes,
             walls,
-            heaviest,
+            weights,
         })
     }
 }

@@ -9,12 +9,13 @@ ghost use Rattle.step_laws.specs.Free.{Answered};
 ghost use Rattle.step_laws.specs.Leading.{Takes};
 ghost use Rattle.step_laws.specs.Steps.{HasStep, IsStep};
 
+use crate::born::born_near;
 use crate::greeting::greet;
 use crate::mending::mend;
 use crate::plan::Plan;
 use crate::waking::wake_moved;
 use crate::walls::take_down_for;
-use crate::weighing::with_step;
+use crate::weighing::{made_weight, weigh_born};
 use css_model::MAX_ITEMS;
 use hold_laws::sheets_have_room;
 use lead_laws::{cover_goes_on, homes_go_on, taken_is_known, walls_go_over};
@@ -23,6 +24,7 @@ use merge_steps::apply;
 use plan_board::Board;
 use std::alloc::{AllocError, Global};
 use step_laws::{Step, each_is_made_of_itself, steps_make_of};
+use wall_laws::items_stay;
 
 /// Whether a step can be taken in place: a sheet may have two more items, and labels and births are left.
 fn has_room(board: &Board, step: &Step) -> bool
@@ -59,6 +61,7 @@ impl Plan {
         walls_go_over();
         cover_goes_on();
         homes_go_on();
+        items_stay();
         each_is_made_of_itself();
         steps_make_of();
         let Plan {
@@ -68,15 +71,25 @@ impl Plan {
             aside,
             mut homes,
             mut walls,
-            heaviest,
+            mut weights,
         } = self;
-        let heaviest = with_step(source, heaviest, board.sheet(), step);
+        let made = made_weight(&board, &weights, step);
         wake_moved(alloc, &aside, &mut waiting, board.sheet(), step)?;
         take_down_for(&mut walls, &board, step);
         let put = mend(&mut tables, &board, step)?;
         let next = board.next();
         let board = board.take(alloc, step)?;
-        greet(put, &board, next, &mut tables, &mut waiting, &mut homes)?;
+        let born = born_near(alloc, &board, next, step)?;
+        greet(
+            put,
+            &board,
+            next,
+            &born,
+            &mut tables,
+            &mut waiting,
+            &mut homes,
+        )?;
+        weigh_born(source, made, &board, next, &born, &mut weights)?;
         Ok(Plan {
             board,
             tables,
@@ -84,7 +97,7 @@ impl Plan {
             aside,
             homes,
             walls,
-            heaviest,
+            weights,
         })
     }
 
@@ -107,8 +120,7 @@ impl Plan {
         }
         each_is_made_of_itself();
         steps_make_of();
-        let heaviest = with_step(source, self.heaviest, self.board.sheet(), step);
         let sheet = apply(alloc, self.board.sheet(), step)?;
-        Plan::begin(alloc, sheet, heaviest)
+        Plan::begin(alloc, source, sheet)
     }
 }

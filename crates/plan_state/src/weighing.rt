@@ -1,203 +1,252 @@
 //! What the rules of a plan weigh at most.
 
-ghost use Rattle.std.specs.Prelude.{◌≡◌, ◌+◌, ◌≤◌, max};
+ghost use Rattle.std.specs.Prelude.{◌≡◌, ◌+◌, ◌<◌, ◌≢◌, ◌≤◌, ℕ, IfSome, OnOk, Some, length, min, slice_get, true};
 ghost use Rattle.std.specs.List.{Contains};
 ghost use Rattle.css_model.specs.declared.sheet.Item.TheVariants as kinds;
-ghost use Rattle.css_model.specs.Sheets.Limits.{max_bytes};
-ghost use Rattle.css_model.specs.Sheets.Printed.{printed_declaration, printed_selector};
+ghost use Rattle.css_model.specs.Sheets.Limits.{max_bytes, max_items};
 ghost use Rattle.css_model.specs.Sheets.RuleParts.{RuleParts};
-ghost use Rattle.lead_plan.specs.Heaviest.{AreNotHeavier};
-ghost use Rattle.plan_laws.specs.Plannable.{IsPlannable};
+ghost use Rattle.lead_laws.specs.MarkNames.{IsMarked};
+ghost use Rattle.lead_plan.specs.Once.{StandOnce};
+ghost use Rattle.lead_plan.specs.RuleWeights.{WeighsAtMost};
+ghost use Rattle.plan_board.specs.declared.marks.Mark as marking;
+ghost use Rattle.plan_state.specs.Born.{AreBorn};
 ghost use Rattle.plan_state.specs.Weighing as spec;
-ghost use Rattle.step_laws.specs.Sizes.{weight};
 ghost use Rattle.step_laws.specs.Steps.{HasStep};
 ghost use Rattle.step_savings.specs.Weighing.{IsWeighable};
 
-use css_model::{Item, MAX_BYTES, Rule, Sheet};
-use lead_plan::Heaviest;
+use css_model::{Item, MAX_BYTES, Rule};
+use lead_plan::{RuleWeight, RuleWeights, are_decls_different};
 use merge_plan::KnownLengths;
+use plan_board::Board;
+use smallvec::SmallVec;
+use std::alloc::AllocError;
 use step_laws::Step;
-use step_savings::{decls_weight, items_of, rule_at, selectors_weight};
+use step_savings::{decls_weight, items_of, selectors_weight};
 
-/// A rule with more selectors or declarations has many. They are not weighed again at each step that puts more to them.
-const MANY: usize = 1024;
+/// Of more declarations than this it is not known whether each stands in its rule once.
+const MANY: usize = 64;
 
-/// What the selectors of a rule weigh.
-fn selectors_of(source: &KnownLengths<'_>, rule: &Rule) -> u64
-    requires { IsWeighable source.now rule.now }
-    ensures exact { result ≡ weight (printed_selector source.now) rule.now.selectors }
-    ensures small { result ≤ max_bytes }
+/// Whether each declaration of a rule is known to stand in it once.
+fn has_each_once(rule: &Rule) -> bool
+    ensures { result ≡ true → StandOnce (λ x. x.decl) rule.now.decls }
 {
-    selectors_weight(source, &rule.selectors)
+    rule.decls.len() <= MANY && are_decls_different(&rule.decls)
 }
 
-/// What its declarations weigh.
-fn decls_of(source: &KnownLengths<'_>, rule: &Rule) -> u64
+/// What a rule weighs.
+fn weight_of(source: &KnownLengths<'_>, rule: &Rule) -> RuleWeight
     requires { IsWeighable source.now rule.now }
-    ensures exact { result ≡ weight (printed_declaration source.now) rule.now.decls }
-    ensures small { result ≤ max_bytes }
+    ensures { WeighsAtMost source.now rule.now result }
 {
-    decls_weight(source, &rule.decls)
+    RuleWeight {
+        selectors: selectors_weight(source, &rule.selectors) as u32,
+        decls: decls_weight(source, &rule.decls) as u32,
+        once: has_each_once(rule),
+    }
 }
 
-/// What is heaviest, a rule being one more.
-fn with_rule(source: &KnownLengths<'_>, heaviest: Heaviest, rule: &Rule) -> Heaviest
-    requires { IsWeighable source.now rule.now }
-    ensures { result ≡ record { selectors = max heaviest.selectors (weight (printed_selector source.now) rule.now.selectors); decls = max heaviest.decls (weight (printed_declaration source.now) rule.now.decls) } }
+/// What two weigh together at most, if together they weigh no more than a sheet.
+fn together(one: u32, other: u32) -> u32
+    ensures { result ≡ min (one + other) max_bytes }
 {
-    heaviest.with(selectors_of(source, rule), decls_of(source, rule))
+    let sum = u64::from(one) + u64::from(other);
+    sum.min(u64::from(MAX_BYTES)) as u32
 }
 
-/// The same with an item, if it is a rule.
-fn with_item(source: &KnownLengths<'_>, heaviest: Heaviest, item: &Item) -> Heaviest
-    requires { (r : RuleParts) → item.now ≡ kinds.Rule r → IsWeighable source.now r }
-    ensures raised { spec.IsRaised heaviest result }
-    ensures weighed { (r : RuleParts) → item.now ≡ kinds.Rule r → spec.IsNotHeavier source.now result r }
+/// What the rule that a join by selectors makes weighs at most.
+fn joined_by_selectors(upper: RuleWeight, lower: RuleWeight) -> RuleWeight
+    ensures { result ≡ spec.joined_by_selectors upper lower }
+{
+    RuleWeight {
+        selectors: upper.selectors.max(lower.selectors),
+        decls: together(upper.decls, lower.decls),
+        once: false,
+    }
+}
+
+/// What the rule that a join by declarations makes weighs at most.
+fn joined_by_decls(upper: RuleWeight, lower: RuleWeight) -> RuleWeight
+    ensures { result ≡ spec.joined_by_decls upper lower }
+{
+    RuleWeight {
+        selectors: together(upper.selectors, lower.selectors),
+        decls: upper.decls.max(lower.decls),
+        once: upper.once && lower.once,
+    }
+}
+
+/// What the rule of this number weighs at most.
+fn weight_at(board: &Board, weights: &RuleWeights, number: u32) -> RuleWeight
+    requires { number < length board.now.items }
+    ensures { spec.IsAtMost board.now weights.now number result }
+{
+    weights.under(board.mark(number).birth)
+}
+
+/// What the rule that a step makes weighs at most, if it is a join: no more than its two rules together. It is told in no time.
+pub(crate) fn made_weight(board: &Board, weights: &RuleWeights, step: &Step) -> Option<RuleWeight>
+    requires is_step { HasStep board.now.items step.now }
+    ensures { IfSome result (spec.MakesAtMost board.now weights.now step.now) }
+{
+    let (first, last) = items_of(step);
+    let upper = weight_at(board, weights, first);
+    let lower = weight_at(board, weights, last);
+    match step {
+        Step::JoinSelUp { .. } | Step::JoinSelDown { .. } => Some(joined_by_selectors(
+            upper, lower,
+        )),
+        Step::JoinDeclUp { .. } | Step::JoinDeclDown { .. } => Some(joined_by_decls(upper, lower)),
+        Step::CutDecl { .. } | Step::CutSel { .. } | Step::Share { .. } => None,
+    }
+}
+
+/// What a rule weighs at most, where it may be known.
+fn known_weight(source: &KnownLengths<'_>, known: Option<RuleWeight>, rule: &Rule) -> RuleWeight
+    requires weighable { IsWeighable source.now rule.now }
+    requires known { IfSome known (WeighsAtMost source.now rule.now) }
+    ensures { WeighsAtMost source.now rule.now result }
+{
+    match known {
+        Some(weight) => RuleWeight {
+            once: weight.once || has_each_once(rule),
+            ..weight
+        },
+        None => weight_of(source, rule),
+    }
+}
+
+/// Puts down what a rule weighs, under its birth.
+fn weigh_rule(
+    source: &KnownLengths<'_>,
+    known: Option<RuleWeight>,
+    birth: u32,
+    rule: &Rule,
+    weights: &mut RuleWeights,
+) -> Result<(), AllocError>
+    requires weighable { IsWeighable source.now rule.now }
+    requires known { IfSome known (WeighsAtMost source.now rule.now) }
+    ensures weighed { OnOk result (spec.IsWeighed source.now weights.new birth rule.now) }
+    ensures stay { OnOk result (spec.Stay (λ b. b ≢ birth) weights.old weights.new) }
+{
+    weights.put(birth, known_weight(source, known, rule))
+}
+
+/// The same for an item, if it is a rule.
+fn weigh_item(
+    source: &KnownLengths<'_>,
+    known: Option<RuleWeight>,
+    birth: u32,
+    item: &Item,
+    weights: &mut RuleWeights,
+) -> Result<(), AllocError>
+    requires weighable { (r : RuleParts) → item.now ≡ kinds.Rule r → IsWeighable source.now r }
+    requires known { IfSome known (λ w. (r : RuleParts) → item.now ≡ kinds.Rule r → WeighsAtMost source.now r w) }
+    ensures weighed { OnOk result ((r : RuleParts) → item.now ≡ kinds.Rule r → spec.IsWeighed source.now weights.new birth r) }
+    ensures stay { OnOk result (spec.Stay (λ b. b ≢ birth) weights.old weights.new) }
 {
     match item {
-        Item::Rule(rule) => with_rule(source, heaviest, rule),
-        _ => heaviest,
+        Item::Rule(rule) => weigh_rule(source, known, birth, rule, weights),
+        _ => Ok(()),
     }
 }
 
-/// What the rules among items weigh at most.
-fn heaviest_of(source: &KnownLengths<'_>, items: &[Item]) -> Heaviest
-    requires { spec.AreWeighable source.now items.now }
-    ensures { (r : RuleParts) → Contains items.now (kinds.Rule r) → spec.IsNotHeavier source.now result r }
+/// The item of this number.
+fn item_at(items: &[Item], number: u32) -> &Item
+    requires { number < length items.now }
+    ensures { slice_get items.now number ≡ Some result.now }
 {
-    let mut heaviest = Heaviest {
-        selectors: 0,
-        decls: 0,
-    };
-    let mut rest = items;
-    'rest: while let Some((first, behind)) = rest.split_first() {
-        heaviest = with_item(source, heaviest, first);
+    &items[number as usize]
+}
+
+/// The same for the item of this number, if it was born at `next` or later.
+fn weigh_at(
+    source: &KnownLengths<'_>,
+    known: Option<RuleWeight>,
+    board: &Board,
+    next: u32,
+    number: u32,
+    weights: &mut RuleWeights,
+) -> Result<(), AllocError>
+    requires there { number < length board.now.items }
+    requires weighable { spec.AreWeighable source.now board.now.items }
+    requires known { IfSome known (spec.AreAtMost source.now next board.now) }
+    ensures weighed { OnOk result (spec.IsWeighedAt source.now next board.now weights.new number) }
+    ensures others { OnOk result ((m : marking.Mark) → slice_get board.now.marks number ≡ Some m → spec.Stay (λ b. b ≢ m.birth) weights.old weights.new) }
+    ensures stay { OnOk result (spec.Stay (λ b. b < next) weights.old weights.new) }
+{
+    let birth = board.mark(number).birth;
+    if birth < next {
+        return Ok(());
+    }
+    let item = item_at(&board.sheet().items, number);
+    weigh_item(source, known, birth, item, weights)
+}
+
+/// The same for the items of these numbers.
+fn weigh_those(
+    source: &KnownLengths<'_>,
+    known: Option<RuleWeight>,
+    board: &Board,
+    next: u32,
+    numbers: &[u32],
+    weights: &mut RuleWeights,
+) -> Result<(), AllocError>
+    requires there { (n : ℕ) → Contains numbers.now n → n < length board.now.items }
+    requires marked { IsMarked board.now }
+    requires weighable { spec.AreWeighable source.now board.now.items }
+    requires known { IfSome known (spec.AreAtMost source.now next board.now) }
+    ensures weighed { OnOk result ((n : ℕ) → Contains numbers.now n → spec.IsWeighedAt source.now next board.now weights.new n) }
+    ensures stay { OnOk result (spec.Stay (λ b. b < next) weights.old weights.new) }
+{
+    let mut rest = numbers;
+    'rest: while let Some((number, behind)) = rest.split_first() {
+        weigh_at(source, known, board, next, *number, weights)?;
         rest = behind;
     }
-    heaviest
+    Ok(())
 }
 
-/// What the rules of a sheet weigh at most.
-pub(crate) fn weigh(source: &KnownLengths<'_>, sheet: &Sheet) -> Heaviest
-    requires { IsPlannable source.now sheet.now.items }
-    ensures { AreNotHeavier source.now sheet.now.items result }
-{
-    heaviest_of(source, &sheet.items)
-}
-
-/// No less than the selectors of a rule weigh: where it has many it is told by what is heaviest.
-fn most_of_selectors(source: &KnownLengths<'_>, heaviest: &Heaviest, rule: &Rule) -> u64
-    requires weighable { IsWeighable source.now rule.now }
-    requires light { spec.IsNotHeavier source.now heaviest.now rule.now }
-    ensures most { weight (printed_selector source.now) rule.now.selectors ≤ result }
-    ensures small { result ≤ max_bytes }
-{
-    if rule.selectors.len() > MANY {
-        return heaviest.selectors.min(u64::from(MAX_BYTES));
-    }
-    selectors_of(source, rule)
-}
-
-/// No less than its declarations weigh, in the same way.
-fn most_of_decls(source: &KnownLengths<'_>, heaviest: &Heaviest, rule: &Rule) -> u64
-    requires weighable { IsWeighable source.now rule.now }
-    requires light { spec.IsNotHeavier source.now heaviest.now rule.now }
-    ensures most { weight (printed_declaration source.now) rule.now.decls ≤ result }
-    ensures small { result ≤ max_bytes }
-{
-    if rule.decls.len() > MANY {
-        return heaviest.decls.min(u64::from(MAX_BYTES));
-    }
-    decls_of(source, rule)
-}
-
-/// No less than the selectors of two rules weigh together. Of the one that has fewer all are weighed.
-fn selectors_together(
+/// The same for each item.
+fn weigh_each(
     source: &KnownLengths<'_>,
-    heaviest: &Heaviest,
-    upper: &Rule,
-    lower: &Rule,
-) -> u64
-    requires weighable_upper { IsWeighable source.now upper.now }
-    requires weighable_lower { IsWeighable source.now lower.now }
-    requires light_upper { spec.IsNotHeavier source.now heaviest.now upper.now }
-    requires light_lower { spec.IsNotHeavier source.now heaviest.now lower.now }
-    ensures { weight (printed_selector source.now) upper.now.selectors + weight (printed_selector source.now) lower.now.selectors ≤ result }
+    known: Option<RuleWeight>,
+    board: &Board,
+    next: u32,
+    weights: &mut RuleWeights,
+) -> Result<(), AllocError>
+    requires few_items { length board.now.items ≤ max_items }
+    requires marked { IsMarked board.now }
+    requires weighable { spec.AreWeighable source.now board.now.items }
+    requires known { IfSome known (spec.AreAtMost source.now next board.now) }
+    ensures weighed { OnOk result ((n : ℕ) → spec.IsWeighedAt source.now next board.now weights.new n) }
+    ensures stay { OnOk result (spec.Stay (λ b. b < next) weights.old weights.new) }
 {
-    if upper.selectors.len() < lower.selectors.len() {
-        return selectors_of(source, upper) + most_of_selectors(source, heaviest, lower);
+    'numbers: for number in 0..board.marks().len() {
+        weigh_at(source, known, board, next, number as u32, weights)?;
     }
-    most_of_selectors(source, heaviest, upper) + selectors_of(source, lower)
+    Ok(())
 }
 
-/// No less than their declarations weigh together, in the same way.
-fn decls_together(source: &KnownLengths<'_>, heaviest: &Heaviest, upper: &Rule, lower: &Rule) -> u64
-    requires weighable_upper { IsWeighable source.now upper.now }
-    requires weighable_lower { IsWeighable source.now lower.now }
-    requires light_upper { spec.IsNotHeavier source.now heaviest.now upper.now }
-    requires light_lower { spec.IsNotHeavier source.now heaviest.now lower.now }
-    ensures { weight (printed_declaration source.now) upper.now.decls + weight (printed_declaration source.now) lower.now.decls ≤ result }
-{
-    if upper.decls.len() < lower.decls.len() {
-        return decls_of(source, upper) + most_of_decls(source, heaviest, lower);
-    }
-    most_of_decls(source, heaviest, upper) + decls_of(source, lower)
-}
-
-/// What is heaviest, and what a join by selectors puts together.
-fn with_decls(source: &KnownLengths<'_>, heaviest: Heaviest, sheet: &Sheet, step: &Step) -> Heaviest
-    requires plannable { IsPlannable source.now sheet.now.items }
-    requires is_step { HasStep sheet.now.items step.now }
-    requires light { AreNotHeavier source.now sheet.now.items heaviest }
-    ensures raised { spec.IsRaised heaviest result }
-    ensures fits { spec.DeclsFit source.now sheet.now.items step.now result.decls }
-{
-    let (first, last) = items_of(step);
-    let upper = rule_at(sheet, first);
-    let lower = rule_at(sheet, last);
-    heaviest.with(0, decls_together(source, &heaviest, upper, lower))
-}
-
-/// What is heaviest, and what a join by declarations or a share puts together.
-fn with_selectors(
+/// Puts down what the rules weigh that were born at `next` or later, where it may be known that each of them weighs no more than
+/// so much. `born` may tell the numbers of all that were born then.
+pub(crate) fn weigh_born(
     source: &KnownLengths<'_>,
-    heaviest: Heaviest,
-    sheet: &Sheet,
-    step: &Step,
-) -> Heaviest
-    requires plannable { IsPlannable source.now sheet.now.items }
-    requires is_step { HasStep sheet.now.items step.now }
-    requires light { AreNotHeavier source.now sheet.now.items heaviest }
-    ensures raised { spec.IsRaised heaviest result }
-    ensures fits { spec.SelectorsFit source.now sheet.now.items step.now result.selectors }
+    known: Option<RuleWeight>,
+    board: &Board,
+    next: u32,
+    born: &Option<SmallVec<u32, 4>>,
+    weights: &mut RuleWeights,
+) -> Result<(), AllocError>
+    requires few_items { length board.now.items ≤ max_items }
+    requires marked { IsMarked board.now }
+    requires weighable { spec.AreWeighable source.now board.now.items }
+    requires known { IfSome known (spec.AreAtMost source.now next board.now) }
+    requires born { IfSome born.now (λ numbers. AreBorn board.now next numbers.items) }
+    ensures weighed { OnOk result ((n : ℕ) → spec.IsWeighedAt source.now next board.now weights.new n) }
+    ensures stay { OnOk result (spec.Stay (λ b. b < next) weights.old weights.new) }
 {
-    let (first, last) = items_of(step);
-    let upper = rule_at(sheet, first);
-    let lower = rule_at(sheet, last);
-    heaviest.with(selectors_together(source, &heaviest, upper, lower), 0)
-}
-
-/// What is heaviest when a step is taken: what it puts together counts as one more. The time is that of the parts of the rule
-/// that has fewer.
-pub(crate) fn with_step(
-    source: &KnownLengths<'_>,
-    heaviest: Heaviest,
-    sheet: &Sheet,
-    step: &Step,
-) -> Heaviest
-    requires plannable { IsPlannable source.now sheet.now.items }
-    requires is_step { HasStep sheet.now.items step.now }
-    requires light { AreNotHeavier source.now sheet.now.items heaviest }
-    ensures raised { spec.IsRaised heaviest result }
-    ensures fits { spec.FitsTogether source.now sheet.now.items step.now result }
-{
-    match step {
-        Step::CutDecl { .. } | Step::CutSel { .. } => heaviest,
-        Step::JoinSelUp { .. } | Step::JoinSelDown { .. } => {
-            with_decls(source, heaviest, sheet, step)
-        }
-        Step::JoinDeclUp { .. } | Step::JoinDeclDown { .. } | Step::Share { .. } => {
-            with_selectors(source, heaviest, sheet, step)
-        }
+    match born {
+        Some(numbers) => weigh_those(source, known, board, next, numbers, weights),
+        None => weigh_each(source, known, board, next, weights),
     }
 }

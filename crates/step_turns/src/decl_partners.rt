@@ -4,20 +4,18 @@ ghost use Rattle.std.specs.Prelude.{◌≡◌, ◌≢◌, ℕ, ◌<◌, ◌≤�
 ghost use Rattle.std.specs.List.{Contains};
 ghost use Rattle.std.specs.List.Sorted.{IsStrictlyIncreasing};
 ghost use Rattle.css_model.specs.declared.sheet.Item.TheVariants as item;
-ghost use Rattle.css_model.specs.Sheets.Printed.{printed_selector};
 ghost use Rattle.css_model.specs.Sheets.RuleParts.{RuleParts};
 ghost use Rattle.lead_plan.specs.declared.lead.Kind.TheVariants as lead_kinds;
 ghost use Rattle.lead_plan.specs.Heaviest.{AreNotHeavier};
+ghost use Rattle.lead_plan.specs.RuleWeights.{AreWeighed};
 ghost use Rattle.lead_plan.specs.Weights.{room};
 ghost use Rattle.plan_board.specs.Facts.{HasOwnSelectors};
 ghost use Rattle.plan_board.specs.MarkList.{IsLabelAt, births_of, labels_of};
 ghost use Rattle.plan_laws.specs.Plannable.{IsPlannable};
 ghost use Rattle.rule_tables.specs.Tables.{Cover};
 ghost use Rattle.step_laws.specs.declared.step.Step as declared;
-ghost use Rattle.step_laws.specs.Sizes as sizes;
 ghost use Rattle.step_laws.specs.Steps.{first_item, last_item};
 ghost use Rattle.step_savings.specs.Apart.{RulesApart};
-ghost use Rattle.step_savings.specs.Weighing.{IsWeighable};
 ghost use Rattle.step_turns.specs.Digested.{Tells};
 ghost use Rattle.step_turns.specs.Kinds.{IsByDecls};
 ghost use Rattle.step_turns.specs.Late.{ByDeclsSaveAtMost};
@@ -30,58 +28,39 @@ use crate::apart::are_apart;
 use crate::found::Found;
 use crate::joins::try_by_decls;
 use crate::label_halves::halves;
-use crate::late::has_decls_once;
 use crate::later_labels::most_beside;
+use crate::light::{is_known_once, is_light, is_within};
 use crate::order::label_of;
-use crate::others::other_number;
+use crate::others::{other_number, owns_none_below};
 use css_model::Rule;
-use lead_plan::{Heaviest, Kind, Lead, Walls};
+use lead_plan::{Heaviest, Kind, Lead, RuleWeights, Walls};
 use merge_plan::KnownLengths;
 use plan_board::Board;
 use rule_tables::Tables;
 use std::alloc::AllocError;
 use std::collections::BTreeSet;
-use step_savings::selectors_weight;
-
-/// The weight of the selectors of the rule of this number.
-fn selectors_weight_at(board: &Board, source: &KnownLengths<'_>, number: u32, rule: &Rule) -> u64
-    requires plannable { IsPlannable source.now board.now.items }
-    requires rule { slice_get board.now.items number ≡ Some (item.Rule rule.now) }
-    ensures { result ≡ sizes.weight (printed_selector source.now) rule.now.selectors }
-{
-    weight_of_selectors(source, rule)
-}
-
-/// The weight of the selectors of a rule.
-fn weight_of_selectors(source: &KnownLengths<'_>, rule: &Rule) -> u64
-    requires { IsWeighable source.now rule.now }
-    ensures { result ≡ sizes.weight (printed_selector source.now) rule.now.selectors }
-{
-    selectors_weight(source, &rule.selectors)
-}
 
 /// What the steps by declarations of a rule and one above it save at most, if each declaration of the rule stands in it once.
-/// `own` says that no other rule has one of its selectors. Nothing is told where it is too much to be counted.
+/// `own` says that no other rule has one of its selectors.
 fn most_above(
     board: &Board,
     source: &KnownLengths<'_>,
-    heaviest: Heaviest,
+    weights: &RuleWeights,
     number: u32,
-    rule: &Rule,
     own: bool,
 ) -> Option<u64>
     requires plannable { IsPlannable source.now board.now.items }
-    requires heaviest { AreNotHeavier source.now board.now.items heaviest }
-    requires rule { slice_get board.now.items number ≡ Some (item.Rule rule.now) }
+    requires weighed { AreWeighed source.now board.now.items (births_of board.now.marks) weights.now }
+    requires there { number < length board.now.items }
     requires own { own ≡ true → HasOwnSelectors board.now.items number }
     ensures { IfSome result (λ most. (upper : ℕ) → ByDeclsSaveAtMost source.now board.now.items upper number most) }
 {
+    let heaviest = weights.heaviest();
     if own {
         return Some(heaviest.decls);
     }
-    heaviest
-        .decls
-        .checked_add(selectors_weight_at(board, source, number, rule))
+    let selectors = weights.under(board.mark(number).birth).selectors;
+    heaviest.decls.checked_add(u64::from(selectors))
 }
 
 /// And so of a rule and one below it, if each declaration of that one stands in it once.
@@ -116,6 +95,9 @@ fn are_late_from(found: &Found, most: Option<u64>, once: bool, at: u64, label: u
     let Some(most) = most else {
         return false;
     };
+    if !is_within(found, most) {
+        return false;
+    }
     let Some(limit) = most_beside(&found.others, Kind::DeclJoinUp, at, label) else {
         return false;
     };
@@ -145,8 +127,8 @@ fn are_known_apart(
     own || are_apart(board, told, number, other)
 }
 
-/// Puts the turns of the steps by declarations of an item and one below it. `most` is what they save at most, if each
-/// declaration of the lower one stands in it once.
+/// Puts the turns of the steps by declarations of an item and one below it. `once` says that each declaration of that one is known
+/// to stand in it once.
 fn try_lower(
     board: &Board,
     tables: &Tables,
@@ -155,22 +137,18 @@ fn try_lower(
     after: &Lead,
     number: u32,
     other: u32,
-    at: u64,
-    label: u64,
     told: &Option<BTreeSet<u32>>,
     own: bool,
-    most: Option<u64>,
+    once: bool,
     found: &mut Found,
 ) -> Result<(), AllocError>
     requires plannable { IsPlannable source.now board.now.items }
     requires cover { Cover tables.now (rules_of board.now) }
     requires other { other < length board.now.items }
     requires in_order { number < other }
-    requires at { slice_index (labels_of board.now.marks) number ≡ at }
-    requires label { IsLabelAt board.now.marks label other }
     requires told { (r : RuleParts) → slice_get board.now.items number ≡ Some (item.Rule r) → Tells told.now r }
     requires own { own ≡ true → HasOwnSelectors board.now.items number }
-    requires most { IfSome most (ByDeclsSaveAtMost source.now board.now.items number other) }
+    requires once { once ≡ true → DeclsStandOnce board.now.items other }
     requires later { AreLater source.now board.now after.now found.old }
     requires few { length found.old.leads ≤ room }
     ensures keeps { OnOk result (Keeps found.old found.new) }
@@ -178,11 +156,6 @@ fn try_lower(
     ensures later { OnOk result (AreLater source.now board.now after.now found.new) }
     ensures few { length found.new.leads ≤ room }
 {
-    let _marks = board.marks();
-    let once = has_decls_once(board, other);
-    if are_late_from(found, most, once, at, label) {
-        return Ok(());
-    }
     let apart = are_known_apart(board, told, own, number, other);
     try_by_decls(
         board, tables, source, walls, after, number, other, apart, once, found,
@@ -223,34 +196,31 @@ fn try_upper(
     )
 }
 
-/// Puts the turns of the steps by declarations of the item with the label `at` and another one with this label. `most` is what
-/// the steps with one below it save at most, if each declaration of that one stands in it once; `last` is the number of the
-/// last one that was found.
+/// Puts the turns of the steps by declarations of an item and another one with this label. `last` is the number of the last one
+/// that was found.
 fn try_partner(
     board: &Board,
     tables: &Tables,
     source: &KnownLengths<'_>,
+    weights: &RuleWeights,
     walls: &Walls,
     after: &Lead,
     number: u32,
-    at: u64,
     label: u64,
     told: &Option<BTreeSet<u32>>,
     own: bool,
     once: bool,
-    most: Option<u64>,
     last: &mut u32,
     found: &mut Found,
 ) -> Result<(), AllocError>
     requires plannable { IsPlannable source.now board.now.items }
+    requires weighed { AreWeighed source.now board.now.items (births_of board.now.marks) weights.now }
     requires cover { Cover tables.now (rules_of board.now) }
     requires there { number < length board.now.items }
-    requires at { slice_index (labels_of board.now.marks) number ≡ at }
     requires owned { slice_index (births_of board.now.marks) number ≡ after.now.owner }
     requires told { (r : RuleParts) → slice_get board.now.items number ≡ Some (item.Rule r) → Tells told.now r }
     requires own { own ≡ true → HasOwnSelectors board.now.items number }
     requires once { once ≡ true → DeclsStandOnce board.now.items number }
-    requires most { IfSome most (λ limit. (lower : ℕ) → ByDeclsSaveAtMost source.now board.now.items number lower limit) }
     requires later { AreLater source.now board.now after.now found.old }
     requires few { length found.old.leads ≤ room }
     ensures keeps { OnOk result (Keeps found.old found.new) }
@@ -263,13 +233,20 @@ fn try_partner(
         return Ok(());
     };
     if other < number {
+        if is_light(board, source, weights, found, other, number, own) {
+            return Ok(());
+        }
         return try_upper(
             board, tables, source, walls, after, number, other, told, own, once, found,
         );
     }
     if number < other {
+        if is_light(board, source, weights, found, number, other, own) {
+            return Ok(());
+        }
+        let once = is_known_once(board, source, weights, other);
         return try_lower(
-            board, tables, source, walls, after, number, other, at, label, told, own, most, found,
+            board, tables, source, walls, after, number, other, told, own, once, found,
         );
     }
     Ok(())
@@ -282,6 +259,7 @@ fn try_above(
     board: &Board,
     tables: &Tables,
     source: &KnownLengths<'_>,
+    weights: &RuleWeights,
     walls: &Walls,
     after: &Lead,
     number: u32,
@@ -294,6 +272,7 @@ fn try_above(
     found: &mut Found,
 ) -> Result<(), AllocError>
     requires plannable { IsPlannable source.now board.now.items }
+    requires weighed { AreWeighed source.now board.now.items (births_of board.now.marks) weights.now }
     requires cover { Cover tables.now (rules_of board.now) }
     requires there { number < length board.now.items }
     requires at { slice_index (labels_of board.now.marks) number ≡ at }
@@ -319,7 +298,7 @@ fn try_above(
             return Ok(());
         }
         try_partner(
-            board, tables, source, walls, after, number, at, *label, told, own, once, None,
+            board, tables, source, weights, walls, after, number, *label, told, own, once,
             &mut last, found,
         )?;
         rest = behind;
@@ -327,12 +306,13 @@ fn try_above(
     Ok(())
 }
 
-/// And others below it. `most_below` is what the steps with one below save at most, if each declaration of that one stands in
-/// it once.
+/// And others below it. It ends there too, if each declaration of each rule stands in it once. `most_below` is what the steps with one
+/// below save at most then.
 fn try_below(
     board: &Board,
     tables: &Tables,
     source: &KnownLengths<'_>,
+    weights: &RuleWeights,
     walls: &Walls,
     after: &Lead,
     number: u32,
@@ -345,10 +325,13 @@ fn try_below(
     found: &mut Found,
 ) -> Result<(), AllocError>
     requires plannable { IsPlannable source.now board.now.items }
+    requires weighed { AreWeighed source.now board.now.items (births_of board.now.marks) weights.now }
     requires cover { Cover tables.now (rules_of board.now) }
     requires there { number < length board.now.items }
     requires at { slice_index (labels_of board.now.marks) number ≡ at }
     requires owned { slice_index (births_of board.now.marks) number ≡ after.now.owner }
+    requires ascends { IsStrictlyIncreasing labels.now }
+    requires below { (label : ℕ) → Contains labels.now label → at < label }
     requires told { (r : RuleParts) → slice_get board.now.items number ≡ Some (item.Rule r) → Tells told.now r }
     requires own { own ≡ true → HasOwnSelectors board.now.items number }
     requires once { once ≡ true → DeclsStandOnce board.now.items number }
@@ -360,11 +343,15 @@ fn try_below(
     ensures later { OnOk result (AreLater source.now board.now after.now found.new) }
     ensures few { length found.new.leads ≤ room }
 {
+    let _marks = board.marks();
     let mut last = number;
     let mut rest = labels;
     'rest: while let Some((label, behind)) = rest.split_first() {
+        if are_late_from(found, most_below, weights.once(), at, *label) {
+            return Ok(());
+        }
         try_partner(
-            board, tables, source, walls, after, number, at, *label, told, own, once, most_below,
+            board, tables, source, weights, walls, after, number, *label, told, own, once,
             &mut last, found,
         )?;
         rest = behind;
@@ -378,8 +365,8 @@ pub(crate) fn try_decl_partners(
     board: &Board,
     tables: &Tables,
     source: &KnownLengths<'_>,
+    weights: &RuleWeights,
     walls: &Walls,
-    heaviest: Heaviest,
     after: &Lead,
     number: u32,
     rule: &Rule,
@@ -391,7 +378,7 @@ pub(crate) fn try_decl_partners(
 ) -> Result<(), AllocError>
     requires plannable { IsPlannable source.now board.now.items }
     requires cover { Cover tables.now (rules_of board.now) }
-    requires heaviest { AreNotHeavier source.now board.now.items heaviest }
+    requires weighed { AreWeighed source.now board.now.items (births_of board.now.marks) weights.now }
     requires rule { slice_get board.now.items number ≡ Some (item.Rule rule.now) }
     requires there { number < length board.now.items }
     requires owned { slice_index (births_of board.now.marks) number ≡ after.now.owner }
@@ -409,12 +396,17 @@ pub(crate) fn try_decl_partners(
     let _marks = board.marks();
     let at = label_of(board, number);
     let (above, below) = halves(labels, at);
-    let most = most_above(board, source, heaviest, number, rule, own);
+    let most = most_above(board, source, weights, number, own);
     try_above(
-        board, tables, source, walls, after, number, at, above, told, own, once, most, found,
+        board, tables, source, weights, walls, after, number, at, above, told, own, once, most,
+        found,
     )?;
-    let most = most_below(board, source, heaviest, number, own);
+    if owns_none_below(board, after, number) {
+        return Ok(());
+    }
+    let most = most_below(board, source, weights.heaviest(), number, own);
     try_below(
-        board, tables, source, walls, after, number, at, below, told, own, once, most, found,
+        board, tables, source, weights, walls, after, number, at, below, told, own, once, most,
+        found,
     )
 }

@@ -11,6 +11,7 @@ mod known_apart;
 mod label_halves;
 mod late;
 mod later_labels;
+mod light;
 mod masks;
 mod naming;
 mod near;

@@ -3,7 +3,7 @@
 ghost use Rattle.std.specs.Prelude.{◌≡◌, ◌⊎◌, ℕ, ◌<◌, ◌≤◌, IfOk, OnOk, Some, length, slice_get, slice_index, true};
 ghost use Rattle.std.specs.List.{Contains};
 ghost use Rattle.css_model.specs.declared.sheet.Item.TheVariants as item;
-ghost use Rattle.lead_plan.specs.Heaviest.{AreNotHeavier};
+ghost use Rattle.lead_plan.specs.RuleWeights.{AreWeighed};
 ghost use Rattle.lead_plan.specs.Weights.{room};
 ghost use Rattle.plan_board.specs.Facts.{HasOwnDecls, HasOwnSelectors};
 ghost use Rattle.plan_board.specs.MarkList.{births_of, labels_of};
@@ -22,7 +22,7 @@ use crate::decl_partners::try_decl_partners;
 use crate::found::Found;
 use crate::selector_partners::try_selector_partners;
 use css_model::Rule;
-use lead_plan::{Heaviest, Lead, Walls};
+use lead_plan::{Lead, RuleWeights, Walls};
 use merge_plan::KnownLengths;
 use plan_board::Board;
 use rule_tables::{Tables, rules_are_labelled};
@@ -92,8 +92,8 @@ pub(crate) fn look_at_decls(
     board: &Board,
     tables: &Tables,
     source: &KnownLengths<'_>,
+    weights: &RuleWeights,
     walls: &Walls,
-    heaviest: Heaviest,
     after: &Lead,
     number: u32,
     rule: &Rule,
@@ -104,7 +104,7 @@ pub(crate) fn look_at_decls(
 ) -> Result<bool, AllocError>
     requires plannable { IsPlannable source.now board.now.items }
     requires cover { Cover tables.now (rules_of board.now) }
-    requires heaviest { AreNotHeavier source.now board.now.items heaviest }
+    requires weighed { AreWeighed source.now board.now.items (births_of board.now.marks) weights.now }
     requires rule { slice_get board.now.items number ≡ Some (item.Rule rule.now) }
     requires at { slice_get (labels_of board.now.marks) number ≡ Some at }
     requires owned { slice_index (births_of board.now.marks) number ≡ after.now.owner }
@@ -132,8 +132,8 @@ pub(crate) fn look_at_decls(
         board,
         tables,
         source,
+        weights,
         walls,
-        heaviest,
         after,
         number,
         rule,
@@ -152,8 +152,8 @@ pub(crate) fn look_at_selectors(
     board: &Board,
     tables: &Tables,
     source: &KnownLengths<'_>,
+    weights: &RuleWeights,
     walls: &Walls,
-    heaviest: Heaviest,
     after: &Lead,
     number: u32,
     rule: &Rule,
@@ -163,7 +163,7 @@ pub(crate) fn look_at_selectors(
 ) -> Result<(), AllocError>
     requires plannable { IsPlannable source.now board.now.items }
     requires cover { Cover tables.now (rules_of board.now) }
-    requires heaviest { AreNotHeavier source.now board.now.items heaviest }
+    requires weighed { AreWeighed source.now board.now.items (births_of board.now.marks) weights.now }
     requires rule { slice_get board.now.items number ≡ Some (item.Rule rule.now) }
     requires at { slice_get (labels_of board.now.marks) number ≡ Some at }
     requires owned { slice_index (births_of board.now.marks) number ≡ after.now.owner }
@@ -185,8 +185,8 @@ pub(crate) fn look_at_selectors(
         board,
         tables,
         source,
+        weights,
         walls,
-        heaviest,
         after,
         number,
         labels.list(),

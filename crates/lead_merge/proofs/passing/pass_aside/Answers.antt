@@ -6,7 +6,7 @@ use Rattle.plan_state.specs.State.{IsBoard}
 
 pub follow-requires : goal.follow-requires
 follow-requires c = subst (IsBoard c.args.source.now) (sym c.in_ok-put_aside.ensures.same)
-    (record { plannable = c.requires.board.plannable; marked = c.requires.board.marked; covered = c.requires.board.covered; homes = c.requires.board.homes; heaviest = c.requires.board.heaviest })
+    (record { plannable = c.requires.board.plannable; marked = c.requires.board.marked; covered = c.requires.board.covered; homes = c.requires.board.homes; weighed = c.requires.board.weighed })
 
 pub returns-clause-state : goal.returns-clause-state
 returns-clause-state c = on_three c.follow.result _ _ _ _

@@ -1,4 +1,4 @@
-use Rattle.std.proofs.Common.{◌∷◌, sym, subst}
+use Rattle.std.proofs.Common.{sym, subst}
 use Rattle.lead_merge.proofs.Results.{on_ok}
 use Rattle.lead_merge.proofs.passing.pass_blocked.Goals as goal
 use Rattle.lead_plan.specs.Told.{lead_told}
@@ -8,7 +8,7 @@ use Rattle.plan_state.specs.State.{IsBoard}
 
 pub pass_aside-requires-clause-board : goal.pass_aside-requires-clause-board
 pass_aside-requires-clause-board c = subst (IsBoard c.args.source.now) (sym c.in_ok-set_wall.ensures.same)
-    (record { plannable = c.requires.board.plannable; marked = c.requires.board.marked; covered = c.requires.board.covered; homes = c.requires.board.homes; heaviest = c.requires.board.heaviest })
+    (record { plannable = c.requires.board.plannable; marked = c.requires.board.marked; covered = c.requires.board.covered; homes = c.requires.board.homes; weighed = c.requires.board.weighed })
 
 pub returns-clause-state : goal.returns-clause-state
 returns-clause-state c = on_ok c.pass_aside.result _ _

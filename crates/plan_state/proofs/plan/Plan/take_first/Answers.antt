@@ -10,6 +10,6 @@ returns-clause-first c = λ other among sooner. c.in_ok-lead.ensures.first other
 
 pub returns-clause-led : goal.returns-clause-led
 returns-clause-led c =
-    let old : PlanParts = record { board = c.self.inside.board; tables = c.self.inside.tables; leads = c.self.inside.waiting; entries = c.self.inside.aside; homes = c.self.inside.homes.items; walls = c.self.inside.walls; heaviest = c.self.inside.heaviest } in
-    let new : PlanParts = record { board = c.self.inside.board; tables = c.self.inside.tables; leads = c.take_first.new.self; entries = c.self.inside.aside; homes = c.self.inside.homes.items; walls = c.take_down_of.new.walls; heaviest = c.self.inside.heaviest } in
+    let old : PlanParts = record { board = c.self.inside.board; tables = c.self.inside.tables; leads = c.self.inside.waiting; entries = c.self.inside.aside; homes = c.self.inside.homes.items; walls = c.self.inside.walls; weights = c.self.inside.weights } in
+    let new : PlanParts = record { board = c.self.inside.board; tables = c.self.inside.tables; leads = c.take_first.new.self; entries = c.self.inside.aside; homes = c.self.inside.homes.items; walls = c.take_down_of.new.walls; weights = c.self.inside.weights } in
     λ answers source s. taken_out answers source old new c.in_ok-lead.lead refl c.in_ok-lead.ensures.taken c.take_down_of.ensures (subst (λ (p : PlanParts). IsState answers source p) (sym c.self.view_is) s)

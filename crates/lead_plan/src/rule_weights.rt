@@ -1,0 +1,134 @@
+//! How much each rule of a board weighs at most.
+
+ghost use Rattle.std.specs.Prelude.{◌≡◌, ◌≢◌, ◌≤◌, ◌&&◌, [], ℕ, OnOk, length, max, true};
+ghost use Rattle.lead_plan.specs.RuleWeights as spec;
+
+use crate::heaviest::Heaviest;
+use std::alloc::{AllocError, Global};
+use std::marker::Model;
+
+/// What a rule weighs at most: the lengths of the printed texts of its selectors, each with the sign behind it, and so of its
+/// declarations; and whether each of these is known to stand in it once.
+#[derive(Clone, Copy, Debug)]
+pub struct RuleWeight {
+    /// The selectors, in bytes.
+    pub selectors: u32,
+    /// The declarations, in bytes.
+    pub decls: u32,
+    /// Each declaration stands in the rule once.
+    pub once: bool,
+}
+
+/// What each rule weighs at most, under its birth, and what holds of all of them.
+#[derive(Debug, Drop)]
+pub struct RuleWeights {
+    each: Vec<RuleWeight>,
+    heaviest: Heaviest,
+    once: bool,
+}
+
+impl Model for RuleWeights {
+    ghost use Rattle.lead_plan.specs.RuleWeights.{WeightParts};
+
+    ghost Value = { WeightParts };
+
+    ghost view = { λ w. record { each = w.each.items; heaviest = w.heaviest; once = w.once } };
+}
+
+/// More than any rule weighs; nothing is known of its declarations.
+pub(crate) fn unknown() -> RuleWeight
+    ensures { result ≡ spec.unknown }
+{
+    RuleWeight {
+        selectors: u32::MAX,
+        decls: u32::MAX,
+        once: false,
+    }
+}
+
+/// What the rule of a birth weighs at most.
+fn weight_under(each: &[RuleWeight], birth: u32) -> RuleWeight
+    ensures { result ≡ spec.weight_under each.now birth }
+{
+    let birth = birth as usize;
+    if birth < each.len() {
+        each[birth]
+    } else {
+        unknown()
+    }
+}
+
+/// Makes the list as long as this, with nothing known of the rules that are put to it.
+fn lengthen(each: &mut Vec<RuleWeight>, count: usize) -> Result<(), AllocError>
+    ensures same { (b : ℕ) → spec.weight_under each.new.items b ≡ spec.weight_under each.old.items b }
+    ensures long { OnOk result (count ≤ length each.new.items) }
+{
+    while each.len() < count {
+        each.push(unknown())?;
+    }
+    Ok(())
+}
+
+/// Puts down what the rule of a birth weighs at most.
+fn put_under(each: &mut Vec<RuleWeight>, birth: u32, weight: RuleWeight) -> Result<(), AllocError>
+    ensures own { OnOk result (spec.weight_under each.new.items birth ≡ weight) }
+    ensures others { OnOk result ((b : ℕ) → b ≢ birth → spec.weight_under each.new.items b ≡ spec.weight_under each.old.items b) }
+{
+    let birth = birth as usize;
+    lengthen(each, birth + 1)?;
+    each[birth] = weight;
+    Ok(())
+}
+
+impl RuleWeights {
+    /// No rule is known. Takes no memory.
+    pub fn new(alloc: Global) -> RuleWeights
+        ensures each { result.each ≡ [] }
+        ensures once { result.once ≡ true }
+    {
+        RuleWeights {
+            each: Vec::new(alloc),
+            heaviest: Heaviest {
+                selectors: 0,
+                decls: 0,
+            },
+            once: true,
+        }
+    }
+
+    /// What no rule weighs more than.
+    pub fn heaviest(&self) -> Heaviest
+        ensures { result ≡ self.now.heaviest }
+    {
+        self.heaviest
+    }
+
+    /// Whether each declaration of each rule stands in it once.
+    pub fn once(&self) -> bool
+        ensures { result ≡ self.now.once }
+    {
+        self.once
+    }
+
+    /// What the rule of a birth weighs at most.
+    pub fn under(&self, birth: u32) -> RuleWeight
+        ensures { result ≡ spec.weight_under self.now.each birth }
+    {
+        weight_under(&self.each, birth)
+    }
+
+    /// Puts down what the rule of a birth weighs at most.
+    pub fn put(&mut self, birth: u32, weight: RuleWeight) -> Result<(), AllocError>
+        ensures own { OnOk result (spec.weight_under self.new.each birth ≡ weight) }
+        ensures others { OnOk result ((b : ℕ) → b ≢ birth → spec.weight_under self.new.each b ≡ spec.weight_under self.old.each b) }
+        ensures once { OnOk result (self.new.once ≡ self.old.once && weight.once) }
+        ensures heaviest { OnOk result (self.new.heaviest ≡ record { selectors = max self.old.heaviest.selectors weight.selectors; decls = max self.old.heaviest.decls weight.decls }) }
+    {
+        put_under(&mut self.each, birth, weight)?;
+        self.heaviest = self
+            .heaviest
+            .with(u64::from(weight.selectors), u64::from(weight.decls));
+        self.once = self.once && weight.once;
+        Ok(())
+    }
+}
