@@ -25,6 +25,12 @@ unknown = record { selectors = 2 ^ 32 - 1; decls = 2 ^ 32 - 1; once = false }
 abbrev pub weight_under : List RuleWeight → ℕ → RuleWeight
 weight_under each birth = get_or each birth unknown
 
+-- the same is told of each rule, and of all
+pub record TellsTheSame (old new : WeightParts) : Type 0 where
+  pub each : (b : ℕ) → weight_under new.each b ≡ weight_under old.each b
+  pub heaviest : new.heaviest ≡ old.heaviest
+  pub once : new.once ≡ old.once
+
 -- A rule weighs no more than this, and each of its declarations stands in it once, if that is told.
 pub record WeighsAtMost (source : List ℕ) (r : RuleParts) (w : RuleWeight) : Type 0 where
   pub selectors : weight (printed_selector source) r.selectors ≤ w.selectors

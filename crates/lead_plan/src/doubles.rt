@@ -1,6 +1,6 @@
 //! Whether each declaration of a rule stands in it once.
 
-ghost use Rattle.std.specs.Prelude.{◌≡◌, true};
+ghost use Rattle.std.specs.Prelude.{◌↔◌, IsTrue};
 ghost use Rattle.lead_plan.specs.Once.{StandOnce};
 
 use css_model::DeclItem;
@@ -8,7 +8,7 @@ use step_savings::has_decl;
 
 /// Whether no two of the declarations are the same. Each is compared with each. Takes no memory.
 pub fn are_decls_different(decls: &[DeclItem]) -> bool
-    ensures { result ≡ true → StandOnce (λ x. x.decl) decls.now }
+    ensures { IsTrue result ↔ StandOnce (λ x. x.decl) decls.now }
 {
     let mut rest = decls;
     'rest: while let Some((first, behind)) = rest.split_first() {

@@ -1,6 +1,6 @@
 //! How much each rule of a board weighs at most.
 
-ghost use Rattle.std.specs.Prelude.{◌≡◌, ◌≢◌, ◌≤◌, ◌&&◌, [], ℕ, OnOk, length, max, true};
+ghost use Rattle.std.specs.Prelude.{◌≡◌, ◌≢◌, ◌≤◌, ◌&&◌, [], ℕ, OnErr, OnOk, length, max, true};
 ghost use Rattle.lead_plan.specs.RuleWeights as spec;
 
 use crate::heaviest::Heaviest;
@@ -73,6 +73,7 @@ fn lengthen(each: &mut Vec<RuleWeight>, count: usize) -> Result<(), AllocError>
 fn put_under(each: &mut Vec<RuleWeight>, birth: u32, weight: RuleWeight) -> Result<(), AllocError>
     ensures own { OnOk result (spec.weight_under each.new.items birth ≡ weight) }
     ensures others { OnOk result ((b : ℕ) → b ≢ birth → spec.weight_under each.new.items b ≡ spec.weight_under each.old.items b) }
+    ensures none { OnErr result ((b : ℕ) → spec.weight_under each.new.items b ≡ spec.weight_under each.old.items b) }
 {
     let birth = birth as usize;
     lengthen(each, birth + 1)?;
@@ -84,6 +85,7 @@ impl RuleWeights {
     /// No rule is known. Takes no memory.
     pub fn new(alloc: Global) -> RuleWeights
         ensures each { result.each ≡ [] }
+        ensures heaviest { result.heaviest ≡ record { selectors = 0; decls = 0 } }
         ensures once { result.once ≡ true }
     {
         RuleWeights {
@@ -117,12 +119,13 @@ impl RuleWeights {
         weight_under(&self.each, birth)
     }
 
-    /// Puts down what the rule of a birth weighs at most.
+    /// Puts down what the rule of a birth weighs at most. Where memory is short, all that is told stays.
     pub fn put(&mut self, birth: u32, weight: RuleWeight) -> Result<(), AllocError>
         ensures own { OnOk result (spec.weight_under self.new.each birth ≡ weight) }
         ensures others { OnOk result ((b : ℕ) → b ≢ birth → spec.weight_under self.new.each b ≡ spec.weight_under self.old.each b) }
         ensures once { OnOk result (self.new.once ≡ self.old.once && weight.once) }
         ensures heaviest { OnOk result (self.new.heaviest ≡ record { selectors = max self.old.heaviest.selectors weight.selectors; decls = max self.old.heaviest.decls weight.decls }) }
+        ensures none { OnErr result (spec.TellsTheSame self.old self.new) }
     {
         put_under(&mut self.each, birth, weight)?;
         self.heaviest = self
