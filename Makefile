@@ -38,6 +38,7 @@ bench: cssmin
 	cd crates/pair_count && $(RT) run </dev/null
 	cd crates/solve_count && $(RT) run </dev/null
 	python3 bench/min.py ./cssmin $(SHEETS)
+	python3 bench/slow.py ./cssmin
 	python3 bench/tokens.py crates/token_count/out/token_count
 	python3 bench/pairs.py crates/pair_count/out/pair_count $(SHEETS)
 
