@@ -3,8 +3,9 @@
 
 usage: python3 .ci/times.py COMMAND..
 
-Times are seconds of processor time, as /proc tells them every two seconds, so what ends sooner is missed. Where there is no
-/proc, nothing is told. Its status is that of the command.
+Times are seconds of processor time, as /proc tells them every two seconds, so what ends sooner is missed. The last line but one
+has their sum in minutes, the last line how long it all took. Where there is no /proc, no times are told. Its status is that of
+the command.
 """
 
 import collections
@@ -47,14 +48,16 @@ def checks(ancestor):
 
 
 def table(seen):
-    """The lines of the table, the crate that took most first."""
+    """The lines of the table, the crate that took most first, and the line of the sum."""
     crates = collections.defaultdict(collections.Counter)
     for crate, kind, seconds in seen.values():
         crates[crate][kind] += seconds
     rows = sorted(crates.items(), key=lambda row: -sum(row[1].values()))
     for crate, took in rows:
         yield f"{crate:24}" + "".join(f"{took[kind]:8.0f}" for kind in KINDS)
-    yield f"{'all':24}" + "".join(f"{sum(took[kind] for _, took in rows):8.0f}" for kind in KINDS)
+    sums = [sum(took[kind] for _, took in rows) for kind in KINDS]
+    yield f"{'all':24}" + "".join(f"{seconds:8.0f}" for seconds in sums)
+    yield f"{sum(sums) / 60:.1f} processor minutes"
 
 
 def main():

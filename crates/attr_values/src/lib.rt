@@ -10,6 +10,3 @@ mod value;
 
 pub use passing::passes_as_asked;
 pub use solve::{Fits, ValueError, candidate_passes, solve_value};
-
-#[cfg(test)]
-mod tests;

@@ -9,3 +9,6 @@ mod JoiningSets
 mod Keeping
 mod MatchingWords
 mod Ranking
+mod Meaning
+mod Eval
+mod Line

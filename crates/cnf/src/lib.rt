@@ -23,6 +23,3 @@ pub use laws::{
 pub use ledger::{Bits, Clause, Ledger, NO_LIMIT};
 pub use lit::Lit;
 pub use sums::adder;
-
-#[cfg(test)]
-mod tests;

@@ -5,51 +5,71 @@ use command_words::{MOST_BUDGET, MOST_RULES};
 use std::alloc::{AllocError, Global};
 
 const PROGRAM_HELP: &str = "\
-Exit status: 0 done, 2 wrong words, 3 the sheet is refused, 4 the input could
-not be read, 5 the output could not be written, 6 not enough memory, 7 no such
-item, 8 the log is refused, 9 the document is refused, 10 the input has fewer
-bytes than N, 11 the second sheet is refused.
+Exit status:
+  0  done                            6  not enough memory
+  2  wrong words                     7  no item of this number
+  3  the sheet is refused            8  the log is refused
+  4  the input cannot be read        9  the page is refused
+  5  the output cannot be written   10  the input is shorter than N bytes
+                                    11  the second sheet is refused
 
     cssmin min <sheet.css >sheet.min.css
     cssmin cmp 'a:hover' '.menu > a'
     { cat page.txt; echo; cat sheet.css; } | cssmin style
     cat sheet.css sheet.min.css | cssmin same $(wc -c <sheet.css)
 
-`cssmin min --help` tells more of `min`, and so it is for each command.
-
-No file names are taken: name the sheet by `<`, and the target by `>`, which
-must be another file.";
+cssmin takes no file names. Name the sheet with `<` and the target with `>`. The
+target must be another file. `cssmin min --help` says more of `min`; each
+command has such a page.";
 
 const MIN_HELP: &str = "\
-The sheet is read from standard input to its end, and the smaller one is written
-to standard output: rules are merged across the whole sheet, as long as that
-saves bytes and changes no winner. Nothing is written where the sheet is refused
-(status 3, and on standard error `refused: KIND at N`, N in bytes from 0).
+cssmin reads the sheet from standard input, and writes the smaller one to
+standard output. It merges rules across the whole sheet where that saves bytes
+and changes no winner. If it refuses the sheet, it writes nothing there, exits
+with status 3, and says why on standard error: `refused: KIND at N`, N in bytes
+from 0.
 
-With `--report` standard error tells the items and the bytes that were read and
-written, the number of steps, and each step that would still save bytes, with
-the item that blocks it: `meet`, where one element may match both rules; `kept`;
-or `outside R` or `spent`, as `cssmin cmp` says it.";
+The winners stay on every legal page. A page is legal if each id occurs once, no
+link is both visited and unvisited, and nothing is both enabled and disabled.
+The case of attribute values counts, even if HTML ignores it. So write a value
+such as that of `type` in one way. In quirks mode the winners may change.
+
+With `--report`, standard error lists the items and bytes before and after, the
+number of steps, and each step that would still save bytes. The last words of
+such a line say what blocks the step: `meet`, a rule that the same element may
+match; `kept`, an item that stays as written; `outside R` or `spent`, as in
+`cssmin cmp`. Nothing limits the time. Use `timeout` and `ulimit -v`.";
 
 const CMP_HELP: &str = "\
 Writes one of these to standard output, and reads no input:
 
-    disjoint    no element of any page matches both
-    overlap     some element does; a small page with it, marked `*`, follows
-    outside R   they are not compared, for the reason of the number R
-    spent       the budget was spent before that was decided";
+    disjoint    no element of any legal page matches both
+    overlap     some element does; a small legal page follows, with its mark `*`
+    outside R   not compared, for the reason with the number R
+    spent       the budget ran out first
+
+A page is legal if each id occurs once, no link is both visited and unvisited,
+and nothing is both enabled and disabled. The case of attribute values counts,
+even if HTML ignores it: `[type=a]` and `[type=A]` are disjoint here.
+
+No selector begins with `-`. Write `\\-a` for the type `-a`.";
 
 const DEAD_HELP: &str = "\
-The sheet is read from standard input to its end. Each selector of each style
-rule outside of all at-rules has a line on standard output: the number of the
-rule among all rules and at-rules, a point, the number of the selector in the
-rule, and one of these:
+cssmin reads the sheet from standard input. Each selector of each style rule
+outside all at-rules gets a line on standard output: the number of the rule
+among all rules and at-rules, a point, the number of the selector in the rule,
+and one of these:
 
-    dead        no element of any page matches it
-    alive       some element does; a small page with it, marked `*`, follows
-    outside 12  it was not decided, for a word in an attribute beside which no
-                white space is left
-    spent       the budget was spent before that was decided";
+    dead        no element of any legal page matches it
+    alive       some element does; a small legal page follows, with its mark `*`
+    outside 12  not decided: it wants a word in an attribute, and refuses all
+                white space next to it
+    spent       the budget ran out first
+
+A page is legal if each id occurs once, no link is both visited and unvisited,
+and nothing is both enabled and disabled. A page that repeats an id may need a
+rule that is dead here. The case of attribute values counts, even if HTML
+ignores it: `[type=a][type=A]` is dead here.";
 
 /// The option that bounds the search.
 fn budget<'a>(alloc: Global) -> Arg<'a> {
@@ -58,7 +78,7 @@ fn budget<'a>(alloc: Global) -> Arg<'a> {
         .value_name("N")
         .value_parser(value_parser!(u32).range(0..=i64::from(MOST_BUDGET)))
         .help(
-            "Give up after N learned clauses, from 0 to 20000\n[default: go on until it is decided]",
+            "Give up on two selectors after N learned clauses,\n0 to 20000 [default: go on until they are decided]",
         )
 }
 
@@ -66,24 +86,29 @@ fn budget<'a>(alloc: Global) -> Arg<'a> {
 fn dead_command<'a>(alloc: Global) -> Result<Command<'a>, AllocError> {
     Command::new(alloc, "dead")
         .about("Tell which selectors of a style sheet match nothing")
+        .override_usage("cssmin dead [OPTIONS] <SHEET")
         .after_help(DEAD_HELP)
         .arg(budget(alloc))
 }
 
 const STYLE_HELP: &str = "\
-Standard input has a small page, as `cssmin cmp` writes it behind `overlap`, an
-empty line, and a style sheet. On standard output a line tells how many items of
-the sheet are kept as they stand, which do not count; then each property that a
-rule gives the element marked `*` has a line: the declaration that wins, and the
-specificity of its selector.
+Standard input has three parts: a small page as `cssmin cmp` writes it after
+`overlap`, an empty line, and a style sheet. The first line of the output says
+how many items of the sheet cssmin keeps as written; they do not count. Then
+each property that a rule gives to the element with the mark `*` has a line: the
+declaration that wins, and the specificity of its selector.
 
     kept 0
-    color:green!important 0,1,1";
+    color:green!important 0,1,1
+
+The lines do not say which of two related properties comes last, as `margin` and
+`margin-top`.";
 
 /// The command `style`.
 fn style_command<'a>(alloc: Global) -> Command<'a> {
     Command::new(alloc, "style")
         .about("Tell which declarations win for an element of a small page")
+        .override_usage("cssmin style <PAGE-AND-SHEET")
         .after_help(STYLE_HELP)
 }
 
@@ -92,9 +117,10 @@ fn min_command<'a>(alloc: Global) -> Result<Command<'a>, AllocError> {
     let report = Arg::new(alloc, "report")
         .long("report")
         .action(ArgAction::SetTrue)
-        .help("Tell what was merged, and what blocks the other steps");
+        .help("List on standard error what blocks further steps");
     Command::new(alloc, "min")
         .about("Make a style sheet smaller, with the same winners of the cascade")
+        .override_usage("cssmin min [OPTIONS] <SHEET >TARGET")
         .after_help(MIN_HELP)
         .arg(budget(alloc))?
         .arg(report)
@@ -102,14 +128,14 @@ fn min_command<'a>(alloc: Global) -> Result<Command<'a>, AllocError> {
 
 const TRIAL_HELP: &str = "\
 Makes a sheet of N small rules, the same for the same N, and merges it as
-`cssmin min` does. Writes to standard output the numbers of items and of bytes
-before and after, and how many steps were taken. Reads no input.";
+`cssmin min` does. Writes to standard output how many items and bytes there were
+and are, and how many steps that took. Reads no input.";
 
 /// The command `trial`.
 fn trial_command<'a>(alloc: Global) -> Result<Command<'a>, AllocError> {
     let rules = Arg::new(alloc, "N")
         .required(true)
-        .help("How many rules, from 0 to 2000");
+        .help("The number of rules, 0 to 2000");
     Command::new(alloc, "trial")
         .about("Make a sheet and merge it, and tell what came of it")
         .after_help(TRIAL_HELP)
@@ -118,14 +144,14 @@ fn trial_command<'a>(alloc: Global) -> Result<Command<'a>, AllocError> {
 
 /// The command `cmp`.
 fn cmp_command<'a>(alloc: Global) -> Result<Command<'a>, AllocError> {
-    let left = Arg::new(alloc, "LEFT")
+    let left = Arg::new(alloc, "LEFT").required(true).help("A selector");
+    let right = Arg::new(alloc, "RIGHT")
         .required(true)
-        .help("A selector, which does not begin with `-`");
-    let right = Arg::new(alloc, "RIGHT").required(true).help("Another one");
+        .help("Another selector");
     let log = Arg::new(alloc, "log")
         .long("log")
         .action(ArgAction::SetTrue)
-        .help("Write a log for `cssmin check` in the place of `disjoint`,\nwhere there is one");
+        .help("Write a log for `cssmin check` instead of `disjoint`,\nif there is one");
     Command::new(alloc, "cmp")
         .about("Tell whether one element can match two selectors")
         .after_help(CMP_HELP)
@@ -136,47 +162,53 @@ fn cmp_command<'a>(alloc: Global) -> Result<Command<'a>, AllocError> {
 }
 
 const CHECK_HELP: &str = "\
-The log is read from standard input to its end. It has a formula and the steps
-that refute it, in lines of numbers. Writes one of these to standard output:
+cssmin reads the log from standard input. A log has a formula and the steps that
+refute it, in lines of numbers. The output is one of these:
 
-    yes         each step follows from what stands before it, and the last one
-                is empty: no values satisfy the formula
-    no N        step N does not follow; one past the last, if all do and none
-                is empty
+    yes         each step follows from what comes before it, and the last one is
+                empty: the formula has no model
+    no N        step N does not follow; if there is no step N, the last step is
+                not empty
 
-Nothing is written where the log is refused (status 8, and on standard error
-`log refused: line N`, the first line that is not of a log, or `log refused: too
-long`).";
+If it refuses the log, it writes nothing there, exits with status 8, and says
+why on standard error: `log refused: line N`, the first line that no log has, or
+`log refused: too long`.";
 
 /// The command `check`.
 fn check_command<'a>(alloc: Global) -> Command<'a> {
     Command::new(alloc, "check")
         .about("Check a log that refutes a formula")
+        .override_usage("cssmin check <LOG")
         .after_help(CHECK_HELP)
 }
 
 const WHY_HELP: &str = "\
-The sheet is read from standard input to its end. Its rules and at-rules are
-counted from 1. Writes one of these to standard output:
+cssmin reads the sheet from standard input and counts its rules and at-rules
+from 1. The rule FROM moves before the item TO if TO comes first, and after it
+otherwise. The output is one of these:
 
-    free        the rule FROM may be moved to the rule TO: every winner stays
-    kept N      it may not be moved past item N, which is kept as it stands
-    blocked     it may not, for the two pairs of a selector and a declaration
-                that follow, and the small page behind them, where the move
-                changes which one wins
-    outside R   two selectors are not compared, for the reason of the number R
-    spent       the budget was spent before that was decided";
+    free        every winner stays, on every legal page
+    kept N      the rule may not pass item N, which stays as written
+    blocked     the rule may not pass another one: two pairs of a selector and a
+                declaration follow, and a small legal page where their order
+                decides
+    outside R   two selectors are not compared, for the reason with the number R
+    spent       the budget ran out first
+
+A page is legal if each id occurs once, no link is both visited and unvisited,
+and nothing is both enabled and disabled.";
 
 /// The command `why`.
 fn why_command<'a>(alloc: Global) -> Result<Command<'a>, AllocError> {
     let from = Arg::new(alloc, "FROM")
         .required(true)
-        .help("The number of the rule that is moved");
+        .help("The number of the rule to move");
     let to = Arg::new(alloc, "TO")
         .required(true)
-        .help("The number of the one that it is moved to");
+        .help("The number of the item to move it to");
     Command::new(alloc, "why")
         .about("Tell why a rule of a style sheet may not be moved to another one")
+        .override_usage("cssmin why [OPTIONS] FROM TO <SHEET")
         .after_help(WHY_HELP)
         .arg(from.value_parser(value_parser!(u32)))?
         .arg(to.value_parser(value_parser!(u32)))?
@@ -184,32 +216,34 @@ fn why_command<'a>(alloc: Global) -> Result<Command<'a>, AllocError> {
 }
 
 const SAME_HELP: &str = "\
-Standard input has two style sheets, one behind the other: the first one is the
-first N bytes. They are compared with the rules inside of `@media`. Writes one
-of these to standard output, the first that is found:
+Standard input has two style sheets, one after the other. The first one has N
+bytes. cssmin compares them, with the rules inside `@media` blocks, and writes
+the first difference that it finds:
 
-    same           they style every page alike
+    same           none: the same declarations win, on every legal page
     missing RULE   the second sheet lacks this pair of a selector and a
                    declaration
-    extra RULE     the second sheet has this pair, and the first one does not
-    kept N         the rules or at-rules that are kept as they stand differ at
-                   the Nth of them, or it is in another order with a rule
-    reversed       the two pairs that follow are in another order, and in the
-                   small page behind them the other one wins
-    unsure R       two selectors are not compared, for the reason number R
-    unsure spent   the budget was spent before that was decided
+    extra RULE     the second sheet has this pair, and the first one lacks it
+    kept N         the Nth item that stays as written differs, or has another
+                   order with a rule
+    reversed       two pairs that follow have another order; on the small page
+                   after them the other one wins
+    unsure R       two selectors are not compared, for the reason with number R
+    unsure spent   the budget ran out first
 
-Nothing is written where a sheet is refused: the first one as `cssmin min`
-refuses it, the second one with status 11 and a line `second refused: KIND at
-N`, N in its own bytes from 0.";
+A page is legal if each id occurs once, no link is both visited and unvisited,
+and nothing is both enabled and disabled. If cssmin refuses a sheet, it writes
+nothing: for the first one as `cssmin min` does, for the second one with status
+11 and `second refused: KIND at N`, N in bytes of that sheet.";
 
 /// The command `same`.
 fn same_command<'a>(alloc: Global) -> Result<Command<'a>, AllocError> {
     let split = Arg::new(alloc, "N")
         .required(true)
-        .help("How many bytes the first sheet has");
+        .help("The number of bytes of the first sheet");
     Command::new(alloc, "same")
         .about("Tell whether two style sheets style every page alike")
+        .override_usage("cssmin same [OPTIONS] N <TWO-SHEETS")
         .after_help(SAME_HELP)
         .arg(split.value_parser(value_parser!(u32)))?
         .arg(budget(alloc))

@@ -6,6 +6,3 @@ mod ended;
 mod texts;
 
 pub use texts::{VERSION, help_text, refusal_text, version_text};
-
-#[cfg(test)]
-mod tests;

@@ -12,6 +12,3 @@ pub use laws::{
     cmp_compares_two_words, min_is_one_word, most_budget_is_defined, most_rules_is_defined,
 };
 pub use reading::command_of;
-
-#[cfg(test)]
-mod tests;

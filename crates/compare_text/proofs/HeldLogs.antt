@@ -19,7 +19,7 @@ use Rattle.overlap.specs.declared.answer.Answer.{Answer}
 use Rattle.overlap.specs.PairsParts.{Answered, PairsParts}
 use Rattle.overlap.specs.Remembered.{IsAnswered, IsHeld, IsHeldWithLog, IsOfOther, IsTrueList, IsUnknown}
 use Rattle.pair_laws.specs.Meeting.{MeetingSatisfies}
-use Rattle.profile_laws.specs.Limited.{ProfileKeepsTheLimits}
+use Rattle.pair_laws.specs.Profile.Limited.{ProfileKeepsTheLimits}
 use Rattle.rup_check.specs.Checks.{EndsEmpty}
 use Rattle.rup_check.specs.Laws.{LedgersAreLogs, LedgersRefute}
 use Rattle.rup_check.specs.Reading.{IsLog, IsLogText}

@@ -12,7 +12,7 @@ use Rattle.css_model.specs.Documents.SelectorParts.{SelectorParts}
 use Rattle.css_model.specs.Sheets.Limits.{max_stepped}
 use Rattle.css_model.specs.Text.Characters.{line_feed}
 use Rattle.doc_text.specs.DocText.{doc_text}
-use Rattle.document_laws.specs.Laws.{ShowsMeeting}
+use Rattle.shape_laws.specs.Document.Laws.{ShowsMeeting}
 use Rattle.overlap.specs.Answers.{IsFewAnswer, IsTrueAnswer, pair_stepped, too_many_stepped}
 use Rattle.overlap.specs.Combined.{IsEvidence}
 use Rattle.overlap.specs.Laws.{ApartSelectorsDoNotMeet}

@@ -10,7 +10,7 @@ use Rattle.css_model.specs.Documents.SelectorParts.{SelectorParts}
 use Rattle.css_model.specs.Selectors.Profile.{IsInProfile}
 use Rattle.css_model.specs.Text.Characters.{line_feed}
 use Rattle.doc_text.specs.DocText.{doc_text}
-use Rattle.document_laws.specs.Laws.{ShowsMeeting}
+use Rattle.shape_laws.specs.Document.Laws.{ShowsMeeting}
 use Rattle.log_text.specs.CheckedTexts.{IsCheckedText, Passes, max_log_bytes, yes_text}
 use Rattle.overlap.specs.PairsParts.{PairsParts}
 use Rattle.rup_check.specs.Reading.{IsLogText}

@@ -29,9 +29,9 @@ fn print_asked(
 }
 
 /// Compares two texts as selectors (Selectors 3), and prints the answer: `disjoint` where no element of a
-/// document can match both; `overlap` and a document in which the marked element matches both; `outside R`
-/// where they are not compared, with the number of the reason; `spent` where the budget of the pairs was
-/// spent first. Each line ends with a line feed.
+/// legal document can match both; `overlap` and a legal document in which the marked element matches both;
+/// `outside R` where they are not compared, with the number of the reason; `spent` where the budget of the
+/// pairs was spent first. Each line ends with a line feed.
 ///
 /// The texts are any bytes. The reason is that of the left text where it is no selector of the profile, else
 /// that of the right one, else that of the pair. The answer is asked of `pairs`, where it stands afterwards;

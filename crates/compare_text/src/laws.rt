@@ -4,8 +4,7 @@ ghost use Rattle.compare_text.specs.Laws.{DisjointSelectorsDoNotMeet, LogsPass, 
 
 use log_text::{refuting_logs_pass, yes_refutes_the_formula};
 use overlap::apart_selectors_do_not_meet;
-use pair_laws::meeting_satisfies_the_formula;
-use profile_laws::profile_keeps_the_limits;
+use pair_laws::{meeting_satisfies_the_formula, profile_keeps_the_limits};
 use rup_check::ledgers_are_logs;
 
 /// Two selectors of which `disjoint` is printed do not meet: no legal document has a target that both match.

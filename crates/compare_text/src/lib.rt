@@ -12,6 +12,3 @@ pub use laws::{
     disjoint_selectors_do_not_meet, logs_pass, overlap_shows_meeting, passed_logs_show_apartness,
 };
 pub use logged::compare_texts_with_log;
-
-#[cfg(test)]
-mod tests;

@@ -17,6 +17,3 @@ pub use conditions::is_fittable;
 pub use free_name::first_free;
 pub use laws::{enough_code_points_are_left, parts_are_apart};
 pub use table::FitTable;
-
-#[cfg(test)]
-mod tests;

@@ -20,6 +20,3 @@ pub use moves::{ReadError, WriteFault, read_all, write_all};
 pub use standard::{StdSink, StdSource};
 pub use sure::{SURE_ROOM, SureSink, SureSource};
 pub use traits::{Failed, Sink, Source};
-
-#[cfg(test)]
-mod tests;

@@ -66,6 +66,3 @@ fn test_specificity(test: &Test) -> Specificity
         | Test::State(_) => Specificity { a: 0, b: 1, c: 0 },
     }
 }
-
-#[cfg(test)]
-mod tests;

@@ -34,6 +34,3 @@ pub use selector::{
 pub use sheet::{Decl, DeclItem, Item, KeptRule, Piece, Rule, SelItem, Sheet};
 pub use text::Text;
 pub use token::{Bracket, Gap, Lexeme, Token, TokenFault, TokenFlaw, TokenKind};
-
-#[cfg(test)]
-mod tests;

@@ -248,6 +248,3 @@ pub fn print_sheet(alloc: Global, sheet: &Sheet, source: &[u8]) -> Result<Vec<u8
     put_before_mark(&mut out)?;
     Ok(out)
 }
-
-#[cfg(test)]
-mod tests;

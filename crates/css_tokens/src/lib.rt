@@ -19,6 +19,3 @@ pub use laws::{
 };
 pub use names::{decode, is_named};
 pub use reader::{NotUtf8, Tokens};
-
-#[cfg(test)]
-mod tests;

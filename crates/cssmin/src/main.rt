@@ -1,20 +1,10 @@
-//! `cssmin`: a style sheet in fewer bytes, with the same meaning.
+//! `cssmin`: a style sheet in fewer bytes, with the same meaning. All that it does is a call of the library `cssmin_run`.
 #![tactic(auto)]
 
-mod commands;
-mod laws;
-mod run;
-mod status;
-mod tasks;
-mod telling;
-mod words;
-mod writing;
-
 use css_io::{StdSink, StdSource};
-use run::run_words;
+use cssmin_run::{run_words, words_after_name};
 use std::env;
 use std::process::ExitCode;
-use words::words_after_name;
 
 fn main(rt: HostRuntime) -> ExitCode {
     let words = words_after_name(rt.alloc(), env::args(&rt));
@@ -24,6 +14,3 @@ fn main(rt: HostRuntime) -> ExitCode {
     let mut held = None;
     run_words(rt.alloc(), words, &mut input, &mut out, &mut err, &mut held).exit_code()
 }
-
-#[cfg(test)]
-mod tests;

@@ -18,7 +18,7 @@ use Rattle.overlap.specs.declared.answer.Answer.{Answer}
 use Rattle.overlap.specs.declared.answer.Answer.TheVariants.{Apart, Meet, Outside, Spent}
 use Rattle.overlap.specs.PairsParts.{Answered, PairsParts}
 use Rattle.overlap.specs.Remembered.{Asks, IsAnswered, IsHeld, IsOfOther, IsTrueList, IsUnknown}
-use Rattle.profile_laws.specs.Limited.{ProfileKeepsTheLimits}
+use Rattle.pair_laws.specs.Profile.Limited.{ProfileKeepsTheLimits}
 use Rattle.selector_laws.specs.Limits.{KeepsLimits}
 use Rattle.dead_sel.specs.declared.living.Life.{Life}
 use Rattle.dead_sel.specs.Living.{every, life_by, answer_by, IsLife, IsTrueLife, MatchesNothing}

@@ -9,7 +9,7 @@ use crate::every::every;
 use crate::living::Life;
 use css_model::Selector;
 use overlap::{Answer, Pairs};
-use profile_laws::profile_keeps_the_limits;
+use pair_laws::profile_keeps_the_limits;
 use std::alloc::{AllocError, Global};
 
 /// What the answer for a selector and `*` says of the selector.

@@ -1,4 +1,4 @@
-//! Whether a selector matches anything in any document, with evidence where it does.
+//! Whether a selector matches anything in any legal document, with evidence where it does.
 #![tactic(auto)]
 
 mod asking;
@@ -7,6 +7,3 @@ mod living;
 
 pub use asking::life;
 pub use living::Life;
-
-#[cfg(test)]
-mod tests;

@@ -1,4 +1,4 @@
-//! Which selectors of a sheet match nothing in any document, from the bytes of the sheet to lines.
+//! Which selectors of a sheet match nothing in any legal document, from the bytes of the sheet to lines.
 #![tactic(auto)]
 
 mod laws;
@@ -8,6 +8,3 @@ mod telling;
 
 pub use laws::{alive_selectors_match, dead_selectors_match_nothing};
 pub use lines::dead_lines;
-
-#[cfg(test)]
-mod tests;

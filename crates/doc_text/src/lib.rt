@@ -14,6 +14,3 @@ mod state;
 pub use laws::{lines_end, texts_differ};
 pub use print::print_doc;
 pub use read::{DocError, read_doc};
-
-#[cfg(test)]
-mod tests;

@@ -9,7 +9,7 @@ use Rattle.css_model.specs.Documents.Document.{Attribute}
 use Rattle.css_model.specs.Lists.{same_text}
 use Rattle.compound_fit.specs.Attributes.{value_of}
 use Rattle.compound_fit.specs.FreeNames.{is_among}
-use Rattle.document_laws.proofs.ForCallers.{any_in}
+use Rattle.shape_laws.proofs.ForCallers.{any_in}
 use Rattle.element_laws.specs.Chosen.{with_id}
 
 -- a text among others

@@ -7,13 +7,13 @@ use Rattle.css_model.specs.Documents.FeatureParts.{FeatureParts}
 use Rattle.css_model.specs.Documents.SelectorParts.{SelectorParts}
 use Rattle.css_model.specs.declared.selector.Simple.{Simple}
 use Rattle.compound_fit.specs.Ids.{HasPlainIds}
-use Rattle.document_laws.specs.SlotElements.{AreSlotElements, EachFrom, HaveNewIds, SuitsSlot, own_id}
+use Rattle.shape_laws.specs.Document.SlotElements.{AreSlotElements, EachFrom, HaveNewIds, SuitsSlot, own_id}
 use Rattle.element_laws.proofs.Attributes.{not_among}
 use Rattle.element_laws.proofs.Suiting.{asked_own, chosen_suits, free_id}
 use Rattle.element_laws.specs.Chosen.{AreChosen, AreChosenFrom, IsChosen, taken_with}
 use Rattle.element_laws.specs.Ids.{asked_ids, ids_of_pair, is_id_free, refused_ids}
 use Rattle.element_laws.specs.Names.{HasName, HaveNames}
-use Rattle.line_laws.proofs.ForCallers.{all_append}
+use Rattle.cascade_laws.proofs.ForCallers.{all_append}
 use Rattle.list_facts.proofs.Members.{Contains-cons_cases, Contains-here, Contains-nil}
 use Rattle.slot_plan.specs.ShapeParts.{ShapeParts}
 use Rattle.slot_plan.specs.Steps.{is_parent}

@@ -18,7 +18,7 @@ use Rattle.compound_fit.specs.Attributes.{attribute_tests, tests_of, value_of}
 use Rattle.compound_fit.specs.Fitting.{AreFeatures, SolvesName, as_answer}
 use Rattle.compound_fit.specs.FreeNames.{IsFirstFree, is_among}
 use Rattle.compound_fit.specs.Ids.{HasPlainIds}
-use Rattle.document_laws.specs.SlotElements.{SuitsSlot, asks_for_content, own_id}
+use Rattle.shape_laws.specs.Document.SlotElements.{SuitsSlot, asks_for_content, own_id}
 use Rattle.element_laws.proofs.Asking.{own_asked}
 use Rattle.element_laws.proofs.Attributes.{all_with_id, attribute, names_differ, names_stay, not_among, other_value, own_value}
 use Rattle.element_laws.proofs.Named.{free_full, kind_full, names_full}

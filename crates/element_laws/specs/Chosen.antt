@@ -8,7 +8,7 @@ use Rattle.css_model.specs.Documents.SelectorParts.{SelectorParts}
 use Rattle.css_model.specs.Lists.{same_text}
 use Rattle.compound_fit.specs.Fitting.{AreFeatures}
 use Rattle.compound_fit.specs.FreeNames.{IsFirstFree}
-use Rattle.document_laws.specs.SlotElements.{asks_for_content, own_id}
+use Rattle.shape_laws.specs.Document.SlotElements.{asks_for_content, own_id}
 use Rattle.element_laws.specs.Ids.{ids_of_pair, is_id_free, refused_ids}
 use Rattle.slot_plan.specs.ShapeParts.{ShapeParts}
 use Rattle.slot_plan.specs.Steps.{is_parent}

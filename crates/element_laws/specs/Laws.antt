@@ -4,7 +4,7 @@ use Rattle.std.specs.List.{AllByRecursion}
 use Rattle.css_model.specs.Documents.FeatureParts.{FeatureParts}
 use Rattle.css_model.specs.Documents.SelectorParts.{SelectorParts}
 use Rattle.compound_fit.specs.Ids.{HasPlainIds}
-use Rattle.document_laws.specs.SlotElements.{AreSlotElements}
+use Rattle.shape_laws.specs.Document.SlotElements.{AreSlotElements}
 use Rattle.element_laws.specs.Chosen.{AreChosen}
 use Rattle.element_laws.specs.Names.{HaveNames}
 use Rattle.slot_plan.specs.ShapeParts.{ShapeParts}

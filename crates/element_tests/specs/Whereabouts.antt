@@ -1,5 +1,5 @@
 -- Where an element stands, with counts of any size (own).
-use Rattle.eval_laws.specs.declared.types.Surroundings.{Surroundings}
+use Rattle.cascade_laws.specs.declared.reaching.Surroundings.{Surroundings}
 use Rattle.element_tests.specs.declared.whereabouts.Whereabouts.{Whereabouts}
 
 -- what stands around it (Selectors 3, section 6.6.5)

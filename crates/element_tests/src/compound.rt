@@ -6,7 +6,7 @@ ghost use Rattle.css_model.specs.Documents.Document.{attribute_value};
 ghost use Rattle.css_model.specs.Documents.Features.{element_of, flag_number, flags_of};
 ghost use Rattle.css_model.specs.Documents.Matching.{some_passes};
 ghost use Rattle.css_model.specs.Lists.{same_text};
-ghost use Rattle.eval_laws.specs.Surrounded.{compound_among, simple_among, test_among};
+ghost use Rattle.cascade_laws.specs.Eval.Surrounded.{compound_among, simple_among, test_among};
 ghost use Rattle.element_tests.specs.Whereabouts.{surroundings_of};
 
 use crate::attribute::{passes, value_of};

@@ -10,7 +10,7 @@ use Rattle.css_model.specs.declared.selector.Simple.{Simple}
 use Rattle.css_model.specs.Sheets.Limits.{max_compounds}
 use Rattle.compound_fit.specs.Fitting.{AreFeatures}
 use Rattle.compound_fit.specs.FreeNames.{IsFirstFree}
-use Rattle.document_laws.specs.SlotElements.{asks_for_content}
+use Rattle.shape_laws.specs.Document.SlotElements.{asks_for_content}
 use Rattle.element_laws.proofs.ForCallers.{own_given}
 use Rattle.element_laws.specs.Chosen.{AreChosen, AreChosenFrom, AreGiven, IsChosen, taken_with, with_id}
 use Rattle.element_laws.specs.Ids.{asked_ids, asks_for_id, ids_of_pair, is_id_free, is_id_test, refused_id, refused_ids}

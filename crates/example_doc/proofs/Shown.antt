@@ -9,9 +9,9 @@ use Rattle.css_model.specs.declared.example.Example.{Example}
 use Rattle.compound_fit.specs.Conditions.{IsFittable}
 use Rattle.compound_fit.specs.Ids.{HasPlainIds}
 use Rattle.compound_fit.specs.Table.{groups}
-use Rattle.document_laws.proofs.ForCallers.{short, shows}
-use Rattle.document_laws.specs.Laws.{ShowsMeeting}
-use Rattle.document_laws.specs.SlotElements.{AreSlotElements}
+use Rattle.shape_laws.proofs.ForCallers.{short, shows}
+use Rattle.shape_laws.specs.Document.Laws.{ShowsMeeting}
+use Rattle.shape_laws.specs.Document.SlotElements.{AreSlotElements}
 use Rattle.element_laws.proofs.ForCallers.{elements_suit}
 use Rattle.element_laws.specs.Names.{HaveNames}
 use Rattle.example_doc.proofs.Table.{group_there}

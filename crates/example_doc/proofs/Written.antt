@@ -3,9 +3,9 @@ use Rattle.std.proofs.Common.{Bool, List, [], ap, arith, false, length, refl, su
 use Rattle.std.proofs.lemmas.List.{append-nil, append_assoc, length-append}
 use Rattle.css_model.specs.Documents.FeatureParts.{FeatureParts}
 use Rattle.css_model.specs.declared.example.RunLine.{RunLine}
-use Rattle.document_laws.specs.Trees.{behind_plain, grown, line_from, plain, plain_runs, tree_from, tree_with}
+use Rattle.shape_laws.specs.Document.Trees.{behind_plain, grown, line_from, plain, plain_runs, tree_from, tree_with}
 use Rattle.example_doc.specs.Lines.{AllFall, Falls, back_lines, depth_from, front_lines, line, lines_behind, lines_between, plain_line, rise, top_lines}
-use Rattle.line_laws.specs.Runs.{Runs, done, lines_of, run}
+use Rattle.cascade_laws.specs.Line.Runs.{Runs, done, lines_of, run}
 use Rattle.slot_plan.specs.Counts.{CountsFit, StepCounts}
 use Rattle.slot_plan.specs.declared.shape.SlotStep.{SlotStep}
 use Rattle.slot_plan.specs.declared.shape.SlotStep.TheVariants.{Further, NextTo, UpMore, UpOne}

@@ -3,7 +3,7 @@ use Rattle.std.specs.Prelude.{◌≡◌, ℕ, List}
 use Rattle.css_model.specs.declared.example.Example.{Example}
 use Rattle.css_model.specs.Documents.FeatureParts.{FeatureParts}
 use Rattle.css_model.specs.Documents.SelectorParts.{SelectorParts}
-use Rattle.document_laws.specs.Trees.{example_of}
+use Rattle.shape_laws.specs.Document.Trees.{example_of}
 use Rattle.element_laws.specs.Chosen.{AreChosen}
 use Rattle.slot_plan.specs.ShapeParts.{ShapeParts}
 

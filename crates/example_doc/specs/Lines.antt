@@ -3,7 +3,7 @@
 use Rattle.std.specs.Prelude.{ℕ, zero, suc, ◌+◌, ◌-◌, ◌<◌, Bool, true, false, if◌then◌else◌, List, [], ◌∷◌, ◌++◌}
 use Rattle.css_model.specs.declared.example.RunLine.{RunLine}
 use Rattle.css_model.specs.Documents.FeatureParts.{FeatureParts}
-use Rattle.document_laws.specs.Trees.{plain}
+use Rattle.shape_laws.specs.Document.Trees.{plain}
 use Rattle.slot_plan.specs.declared.shape.SlotStep.{SlotStep}
 use Rattle.slot_plan.specs.declared.shape.SlotStep.TheVariants.{NextTo, Further, UpOne, UpMore}
 

@@ -8,7 +8,7 @@ ghost use Rattle.attr_values.specs.Asked.{some_of};
 ghost use Rattle.compound_fit.specs.Fitting.{AreFeatures};
 ghost use Rattle.compound_fit.specs.FreeNames.{is_among};
 ghost use Rattle.compound_fit.specs.Table.{IsTable};
-ghost use Rattle.document_laws.specs.SlotElements.{asks_for_content};
+ghost use Rattle.shape_laws.specs.Document.SlotElements.{asks_for_content};
 ghost use Rattle.element_laws.specs.Chosen.{AreChosen, IsChosen, taken_with, with_id};
 ghost use Rattle.element_laws.specs.Ids.{asked_ids, asks_for_id, ids_of_pair, is_id_free, refused_ids};
 ghost use Rattle.example_doc.specs.Choosing.{GetsElement, IsElement, IsOwnId};

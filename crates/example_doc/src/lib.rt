@@ -8,6 +8,3 @@ mod lines;
 mod slots;
 
 pub use example::build;
-
-#[cfg(test)]
-mod tests;

@@ -1,7 +1,7 @@
 //! The lines of the document of a shape.
 
 ghost use Rattle.std.specs.Prelude.{◌≡◌, ◌≤◌, ◌<◌, ◌+◌, ◌*◌, ◌^◌, ◌++◌, ◌∷◌, [], suc, ℕ, List, length, IfOk, OnOk};
-ghost use Rattle.document_laws.specs.Trees.{plain};
+ghost use Rattle.shape_laws.specs.Document.Trees.{plain};
 ghost use Rattle.example_doc.specs.Lines.{
   AllFall,
   Falls,

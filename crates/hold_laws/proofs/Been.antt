@@ -21,9 +21,9 @@ use Rattle.step_laws.specs.RuleParting.{rule_or_none}
 use Rattle.step_laws.specs.Sizes.{Saves}
 use Rattle.step_laws.specs.StepEdits.{one_change, cut_decl, cut_selector}
 use Rattle.step_laws.specs.Steps.{IsStep, first_item, last_item}
-use Rattle.wall_laws.specs.Holding.{HasRoom}
-use Rattle.wall_laws.specs.Renumbering.{Leaves, new_number, renumbered, renumbered_edit, IsOfTwo, ItemsStay}
-use Rattle.wall_laws.specs.SideBySide.{HasCome, StepsComeBack, SavingsGoOn}
+use Rattle.plan_laws.specs.Wall.Holding.{HasRoom}
+use Rattle.plan_laws.specs.Wall.Renumbering.{Leaves, new_number, renumbered, renumbered_edit, IsOfTwo, ItemsStay}
+use Rattle.plan_laws.specs.Wall.SideBySide.{HasCome, StepsComeBack, SavingsGoOn}
 use Rattle.hold_laws.specs.Before.{HasBeen, CutsHaveBeen}
 use Rattle.hold_laws.specs.Facts.{HasNoCut}
 use Rattle.hold_laws.proofs.Elsewhere.{here_or_elsewhere, stands_elsewhere, replaced, stood_elsewhere}

@@ -14,9 +14,9 @@ use Rattle.step_laws.specs.Left.{StepsRearrange}
 use Rattle.step_laws.specs.RuleParting.{rule_or_none}
 use Rattle.step_laws.specs.StepEdits.{one_change}
 use Rattle.step_laws.specs.Steps.{IsStep, first_item, last_item}
-use Rattle.wall_laws.specs.Holding.{Hindrance, OfPair, OfKept, Hinders, HasRoom, IsUntouched}
-use Rattle.wall_laws.specs.Renumbering.{Leaves, new_number, renumbered, renumbered_edit, AreOfOthers, IsOfOthers, IsOfTwo, AreSideBySide, ItemsStay, EditsCommute, JoinsStay, HindrancesGoOn, KeptHindrancesGoOn}
-use Rattle.wall_laws.specs.SideBySide.{StepsAreSideBySide}
+use Rattle.plan_laws.specs.Wall.Holding.{Hindrance, OfPair, OfKept, Hinders, HasRoom, IsUntouched}
+use Rattle.plan_laws.specs.Wall.Renumbering.{Leaves, new_number, renumbered, renumbered_edit, AreOfOthers, IsOfOthers, IsOfTwo, AreSideBySide, ItemsStay, EditsCommute, JoinsStay, HindrancesGoOn, KeptHindrancesGoOn}
+use Rattle.plan_laws.specs.Wall.SideBySide.{StepsAreSideBySide}
 use Rattle.hold_laws.specs.Behind.{GoesOn}
 use Rattle.hold_laws.proofs.Elsewhere.{stood_there}
 

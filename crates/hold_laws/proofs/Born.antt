@@ -10,8 +10,8 @@ use Rattle.order_laws.specs.Edits.{Edit, edited}
 use Rattle.step_laws.specs.declared.step.Step.{Step}
 use Rattle.step_laws.specs.declared.step.Step.TheVariants.{CutDecl, CutSel, JoinSelUp, JoinSelDown, JoinDeclUp, JoinDeclDown, Share}
 use Rattle.step_laws.specs.Steps.{IsStep, first_item, last_item}
-use Rattle.wall_laws.specs.Renumbering.{Leaves, new_number, renumbered, IsOfOthers}
-use Rattle.wall_laws.specs.SideBySide.{HasCome}
+use Rattle.plan_laws.specs.Wall.Renumbering.{Leaves, new_number, renumbered, IsOfOthers}
+use Rattle.plan_laws.specs.Wall.SideBySide.{HasCome}
 use Rattle.hold_laws.specs.Births.{AreBirths, AreBornBehind, later_born, owner}
 
 -- ---- The items of a step

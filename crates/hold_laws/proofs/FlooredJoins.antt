@@ -23,8 +23,8 @@ use Rattle.step_laws.specs.Free.{Answered, AreNotApart}
 use Rattle.step_laws.specs.RuleParting.{both_selectors}
 use Rattle.step_laws.specs.StepEdits.{join_selectors_down, join_decls_down}
 use Rattle.step_laws.specs.Steps.{HaveSameDecls, IsJoin, IsStep, first_item, last_item, decls_of}
-use Rattle.wall_laws.specs.Holding.{OfPair, Hinders}
-use Rattle.wall_laws.specs.Walls.{IsFloor, FloorsHinder, moving_down}
+use Rattle.plan_laws.specs.Wall.Holding.{OfPair, Hinders}
+use Rattle.plan_laws.specs.Wall.Walls.{IsFloor, FloorsHinder, moving_down}
 use Rattle.hold_laws.specs.Scopes.{IsDown}
 use Rattle.hold_laws.proofs.WalledJoins.{in_front, in_back, one_rule, is_new, IsOfBoth}
 

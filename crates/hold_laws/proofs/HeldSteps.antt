@@ -9,9 +9,9 @@ use Rattle.step_laws.specs.declared.step.Step.{Step}
 use Rattle.step_laws.specs.Free.{Answered, AreAmong, IsBlocked}
 use Rattle.step_laws.specs.Sizes.{Saves}
 use Rattle.step_laws.specs.Steps.{IsStep, first_item, last_item}
-use Rattle.wall_laws.specs.Holding.{Hindrance, OfPair, OfKept, Hinders, HinderedIsBlocked, HasRoom, IsUntouched, Aside, turn_of}
-use Rattle.wall_laws.specs.Renumbering.{new_number, renumbered, renumbered_edit}
-use Rattle.wall_laws.specs.SideBySide.{HasCome}
+use Rattle.plan_laws.specs.Wall.Holding.{Hindrance, OfPair, OfKept, Hinders, HinderedIsBlocked, HasRoom, IsUntouched, Aside, turn_of}
+use Rattle.plan_laws.specs.Wall.Renumbering.{new_number, renumbered, renumbered_edit}
+use Rattle.plan_laws.specs.Wall.SideBySide.{HasCome}
 use Rattle.hold_laws.specs.Before.{HasBeen, StepsHaveBeen}
 use Rattle.hold_laws.specs.Behind.{GoesOn, HinderedGoesOn}
 use Rattle.hold_laws.proofs.Been.{renumbers}

@@ -13,8 +13,8 @@ use Rattle.list_facts.proofs.Members.{Contains-nil, Contains-cons_cases}
 use Rattle.order_laws.specs.Edits.{Change, Edit, Moved, edited, slots_from}
 use Rattle.order_laws.specs.Slots.{new_items}
 use Rattle.step_laws.specs.StepEdits.{AreRules, two_changes}
-use Rattle.wall_laws.specs.Renumbering.{Leaves, new_number}
-use Rattle.wall_laws.specs.SideBySide.{HasCome}
+use Rattle.plan_laws.specs.Wall.Renumbering.{Leaves, new_number}
+use Rattle.plan_laws.specs.Wall.SideBySide.{HasCome}
 
 -- An edit takes two rules, and puts one in, in the place of one of them.
 pub record IsJoined (items : List Item) (d : Edit) (u l made : RuleParts) (x y z : ℕ) : Type 0 where

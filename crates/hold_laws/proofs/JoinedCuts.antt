@@ -32,7 +32,7 @@ use Rattle.step_laws.specs.declared.step.Step.TheVariants.{CutDecl, CutSel, Join
 use Rattle.step_laws.specs.RuleParting.{both_selectors, item_if_any, rule_or_none}
 use Rattle.step_laws.specs.StepEdits.{cut_decl, cut_selector, one_change}
 use Rattle.step_laws.specs.Steps.{HaveSameDecls, IsStep, first_item, last_item}
-use Rattle.wall_laws.specs.SideBySide.{HasCome}
+use Rattle.plan_laws.specs.Wall.SideBySide.{HasCome}
 
 -- ---- Members of lists that are joined
 

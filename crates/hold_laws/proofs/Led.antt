@@ -15,9 +15,9 @@ use Rattle.step_laws.specs.Free.{Answered, AreAmong, IsFree, IsBlocked}
 use Rattle.step_laws.specs.Leading.{Takes, IsDone}
 use Rattle.step_laws.specs.Sizes.{size, Saves}
 use Rattle.step_laws.specs.Steps.{IsStep, first_item, last_item}
-use Rattle.wall_laws.specs.Holding.{Hindrance, Hinders, HinderedIsBlocked, HasRoom, IsUntouched, Aside, turn_of}
-use Rattle.wall_laws.specs.Renumbering.{Leaves, new_number, renumbered, IsOfOthers}
-use Rattle.wall_laws.specs.SideBySide.{HasCome}
+use Rattle.plan_laws.specs.Wall.Holding.{Hindrance, Hinders, HinderedIsBlocked, HasRoom, IsUntouched, Aside, turn_of}
+use Rattle.plan_laws.specs.Wall.Renumbering.{Leaves, new_number, renumbered, IsOfOthers}
+use Rattle.plan_laws.specs.Wall.SideBySide.{HasCome}
 use Rattle.hold_laws.specs.Before.{HasBeen, StepsHaveBeen}
 use Rattle.hold_laws.specs.Behind.{GoesOn, HinderedGoesOn}
 use Rattle.hold_laws.specs.Births.{AreBirths, AreBornBehind, owner}

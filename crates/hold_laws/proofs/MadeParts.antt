@@ -23,7 +23,7 @@ use Rattle.step_laws.specs.declared.step.Step.TheVariants.{CutDecl, CutSel, Join
 use Rattle.step_laws.specs.RuleParting.{both_selectors, common_decls, each_last, item_if_any, rule_or_none, without_decls}
 use Rattle.step_laws.specs.StepEdits.{one_change, shared, two_changes}
 use Rattle.step_laws.specs.Steps.{IsStep, decls_of, first_item, last_item}
-use Rattle.wall_laws.specs.Renumbering.{Leaves}
+use Rattle.plan_laws.specs.Wall.Renumbering.{Leaves}
 
 -- each of some parts of a rule is one of the upper or of the lower rule
 abbrev pub IsOf : {X : Type 0} → (RuleParts → List X) → RuleParts → RuleParts → RuleParts → Type 0

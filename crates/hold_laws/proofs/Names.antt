@@ -12,8 +12,8 @@ use Rattle.plan_laws.specs.Cover.{Turn, IsSooner}
 use Rattle.step_laws.specs.declared.step.Step.{Step}
 use Rattle.step_laws.specs.declared.step.Step.TheVariants.{CutDecl, CutSel, JoinSelUp, JoinSelDown, JoinDeclUp, JoinDeclDown, Share}
 use Rattle.step_laws.specs.Steps.{rank, first_item, last_item}
-use Rattle.wall_laws.specs.Holding.{turn_of}
-use Rattle.wall_laws.specs.Renumbering.{Leaves, new_number, renumbered}
+use Rattle.plan_laws.specs.Wall.Holding.{turn_of}
+use Rattle.plan_laws.specs.Wall.Renumbering.{Leaves, new_number, renumbered}
 use Rattle.hold_laws.specs.Turns.{named, AreLabels}
 
 -- ---- Names that stay

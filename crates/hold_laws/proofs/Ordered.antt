@@ -13,8 +13,8 @@ use Rattle.step_laws.specs.declared.step.Step.TheVariants.{CutDecl, CutSel, Join
 use Rattle.step_laws.specs.Left.{StepsAreOneEdit}
 use Rattle.step_laws.specs.Sizes.{size, Saves}
 use Rattle.step_laws.specs.Steps.{rank, IsStep, first_item, last_item}
-use Rattle.wall_laws.specs.Holding.{turn_of}
-use Rattle.wall_laws.specs.Renumbering.{renumbered}
+use Rattle.plan_laws.specs.Wall.Holding.{turn_of}
+use Rattle.plan_laws.specs.Wall.Renumbering.{renumbered}
 use Rattle.hold_laws.specs.Turns.{TurnsAreOrdered, named, AreLabels, first_turn}
 use Rattle.hold_laws.proofs.Born.{within}
 use Rattle.hold_laws.proofs.Names.{rank_length, not_itself, sooner_labelled}

@@ -18,8 +18,8 @@ use Rattle.hold_laws.specs.Ways.{IsMove}
 use Rattle.order_laws.specs.Edits.{Change, Edit, edited}
 use Rattle.step_laws.specs.declared.step.Step.{Step}
 use Rattle.step_laws.specs.Steps.{IsStep, decls_of, first_item, last_item}
-use Rattle.wall_laws.specs.Renumbering.{ItemsStay, Leaves, new_number}
-use Rattle.wall_laws.specs.SideBySide.{HasCome}
+use Rattle.plan_laws.specs.Wall.Renumbering.{ItemsStay, Leaves, new_number}
+use Rattle.plan_laws.specs.Wall.SideBySide.{HasCome}
 
 -- no other rule has one of these parts
 abbrev HasOwn : {X : Type 0} → (RuleParts → List X) → List Item → ℕ → Type 0

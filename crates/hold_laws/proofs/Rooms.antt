@@ -17,7 +17,7 @@ use Rattle.step_laws.specs.declared.step.Step.TheVariants.{CutDecl, CutSel, Join
 use Rattle.step_laws.specs.RuleParting.{both_selectors, common_decls, without_decls, item_if_any, rule_or_none}
 use Rattle.step_laws.specs.StepEdits.{AreRules, one_change, two_changes, shared}
 use Rattle.step_laws.specs.Steps.{IsStep}
-use Rattle.wall_laws.specs.Holding.{HasRoom}
+use Rattle.plan_laws.specs.Wall.Holding.{HasRoom}
 
 one_at_most : (ss : List SelItem) (ds : List DeclItem) (r : RuleParts) → length (item_if_any ss ds r) ≤ 1
 one_at_most [] ds r = omega arith

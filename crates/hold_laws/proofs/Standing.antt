@@ -16,7 +16,7 @@ use Rattle.list_facts.proofs.Members.{Contains-here, Contains-there}
 use Rattle.order_laws.proofs.ForCallers.{InRule, decl_in, decls, instead_here, instead_there}
 use Rattle.order_laws.specs.Edits.{Change, instead, slots_from, Edit}
 use Rattle.order_laws.specs.Slots.{new_items}
-use Rattle.wall_laws.specs.SideBySide.{HasCome}
+use Rattle.plan_laws.specs.Wall.SideBySide.{HasCome}
 
 abbrev pub Apart : List Change → ℕ → Type 0
 Apart changes n = AllByRecursion (λ (c : Change). c.at ≢ n) changes

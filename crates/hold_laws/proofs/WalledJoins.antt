@@ -23,8 +23,8 @@ use Rattle.step_laws.specs.Free.{Answered, AreNotApart}
 use Rattle.step_laws.specs.RuleParting.{both_selectors}
 use Rattle.step_laws.specs.StepEdits.{join_selectors_up, join_decls_up}
 use Rattle.step_laws.specs.Steps.{HaveSameDecls, IsJoin, IsStep, first_item, last_item, decls_of}
-use Rattle.wall_laws.specs.Holding.{OfPair, Hinders}
-use Rattle.wall_laws.specs.Walls.{IsWall, WallsHinder, moving_up}
+use Rattle.plan_laws.specs.Wall.Holding.{OfPair, Hinders}
+use Rattle.plan_laws.specs.Wall.Walls.{IsWall, WallsHinder, moving_up}
 use Rattle.hold_laws.specs.Scopes.{IsUp}
 
 -- ---- Items of a sheet in two parts

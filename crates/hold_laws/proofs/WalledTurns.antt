@@ -17,8 +17,8 @@ use Rattle.step_laws.specs.declared.step.Step.TheVariants.{CutDecl, CutSel, Join
 use Rattle.step_laws.specs.Free.{Answered, AreNotApart}
 use Rattle.step_laws.specs.Sizes.{Saves}
 use Rattle.step_laws.specs.Steps.{IsStep, first_item, last_item}
-use Rattle.wall_laws.specs.Holding.{Hindrance, OfPair, Hinders, Aside}
-use Rattle.wall_laws.specs.Renumbering.{renumbered}
+use Rattle.plan_laws.specs.Wall.Holding.{Hindrance, OfPair, Hinders, Aside}
+use Rattle.plan_laws.specs.Wall.Renumbering.{renumbered}
 use Rattle.hold_laws.specs.Births.{AreBirths}
 use Rattle.hold_laws.specs.declared.way.Way.{Way}
 use Rattle.hold_laws.specs.declared.way.Way.TheVariants.{Up, Down}

@@ -14,8 +14,8 @@ use Rattle.order_laws.specs.Slots.{Slot, new_items, IsFair}
 use Rattle.step_laws.specs.declared.step.Step.{Step}
 use Rattle.step_laws.specs.Left.{StepsRearrange}
 use Rattle.step_laws.specs.Steps.{IsStep}
-use Rattle.wall_laws.specs.Renumbering.{Leaves, new_number}
-use Rattle.wall_laws.specs.Walls.{IsWall, IsFloor}
+use Rattle.plan_laws.specs.Wall.Renumbering.{Leaves, new_number}
+use Rattle.plan_laws.specs.Wall.Walls.{IsWall, IsFloor}
 use Rattle.hold_laws.specs.Walled.{above_behind, below_behind, PartsStay}
 use Rattle.hold_laws.proofs.Elsewhere.{left_alone, stood_there, stood_elsewhere, still_elsewhere}
 

@@ -8,9 +8,9 @@ use Rattle.order_laws.specs.Edits.{Edit, edited}
 use Rattle.step_laws.specs.declared.step.Step.{Step}
 use Rattle.step_laws.specs.Sizes.{Saves}
 use Rattle.step_laws.specs.Steps.{IsStep, first_item, last_item}
-use Rattle.wall_laws.specs.Holding.{HasRoom}
-use Rattle.wall_laws.specs.Renumbering.{Leaves, new_number, renumbered, renumbered_edit, IsOfOthers, IsOfTwo}
-use Rattle.wall_laws.specs.SideBySide.{HasCome}
+use Rattle.plan_laws.specs.Wall.Holding.{HasRoom}
+use Rattle.plan_laws.specs.Wall.Renumbering.{Leaves, new_number, renumbered, renumbered_edit, IsOfOthers, IsOfTwo}
+use Rattle.plan_laws.specs.Wall.SideBySide.{HasCome}
 
 -- No step puts a pair where it did not stand: beside an item that the step left, a pair stands elsewhere only
 -- where it did so before.

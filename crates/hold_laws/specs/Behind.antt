@@ -5,8 +5,8 @@ use Rattle.order_laws.specs.Edits.{Edit, edited}
 use Rattle.step_laws.specs.declared.step.Step.{Step}
 use Rattle.step_laws.specs.Free.{Answered}
 use Rattle.step_laws.specs.Steps.{IsStep}
-use Rattle.wall_laws.specs.Holding.{Hindrance, Hinders, HasRoom, IsUntouched}
-use Rattle.wall_laws.specs.Renumbering.{new_number, renumbered, renumbered_edit, IsOfOthers, AreSideBySide}
+use Rattle.plan_laws.specs.Wall.Holding.{Hindrance, Hinders, HasRoom, IsUntouched}
+use Rattle.plan_laws.specs.Wall.Renumbering.{new_number, renumbered, renumbered_edit, IsOfOthers, AreSideBySide}
 
 -- A step of items that an edit leaves goes on: it is one behind the edit, too.
 pub record GoesOn (items : List Item) (d : Edit) (k : Step) (e : Edit) : Type 0 where

@@ -5,8 +5,8 @@ use Rattle.css_model.specs.declared.sheet.Item.{Item}
 use Rattle.order_laws.specs.Edits.{Edit, edited}
 use Rattle.step_laws.specs.declared.step.Step.{Step}
 use Rattle.step_laws.specs.Steps.{IsStep, first_item, last_item}
-use Rattle.wall_laws.specs.Renumbering.{Leaves, new_number, renumbered, IsOfOthers}
-use Rattle.wall_laws.specs.SideBySide.{HasCome}
+use Rattle.plan_laws.specs.Wall.Renumbering.{Leaves, new_number, renumbered, IsOfOthers}
+use Rattle.plan_laws.specs.Wall.SideBySide.{HasCome}
 
 -- one birth for each item, no two alike, each below the next one
 pub record AreBirths (items : List Item) (births : List ℕ) (next : ℕ) : Type 0 where

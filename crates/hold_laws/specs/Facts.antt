@@ -13,8 +13,8 @@ use Rattle.hold_laws.specs.Ways.{IsMove}
 use Rattle.order_laws.specs.Edits.{Edit, edited}
 use Rattle.step_laws.specs.declared.step.Step.{Step}
 use Rattle.step_laws.specs.Steps.{HasStep, IsStep, decls_of, first_item, last_item}
-use Rattle.wall_laws.specs.Renumbering.{IsOfTwo, Leaves, new_number}
-use Rattle.wall_laws.specs.SideBySide.{HasCome}
+use Rattle.plan_laws.specs.Wall.Renumbering.{IsOfTwo, Leaves, new_number}
+use Rattle.plan_laws.specs.Wall.SideBySide.{HasCome}
 
 -- no part of the rule of this number can be cut
 abbrev pub HasNoCut : List Item → ℕ → Type 0

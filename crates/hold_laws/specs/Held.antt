@@ -9,9 +9,9 @@ use Rattle.step_laws.specs.declared.step.Step.{Step}
 use Rattle.step_laws.specs.Free.{Answered, AreAmong}
 use Rattle.step_laws.specs.Sizes.{Saves}
 use Rattle.step_laws.specs.Steps.{IsStep, first_item, last_item}
-use Rattle.wall_laws.specs.Holding.{Hindrance, Hinders, HasRoom, IsUntouched, Aside, turn_of}
-use Rattle.wall_laws.specs.Renumbering.{new_number, renumbered}
-use Rattle.wall_laws.specs.SideBySide.{HasCome}
+use Rattle.plan_laws.specs.Wall.Holding.{Hindrance, Hinders, HasRoom, IsUntouched, Aside, turn_of}
+use Rattle.plan_laws.specs.Wall.Renumbering.{new_number, renumbered}
+use Rattle.plan_laws.specs.Wall.SideBySide.{HasCome}
 use Rattle.hold_laws.specs.Behind.{GoesOn}
 
 -- each step of a sheet that saves waits, or is set aside with what blocks it

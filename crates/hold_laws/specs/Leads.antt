@@ -10,8 +10,8 @@ use Rattle.step_laws.specs.Free.{Answered, AreAmong, IsFree}
 use Rattle.step_laws.specs.Leading.{Takes, IsDone}
 use Rattle.step_laws.specs.Sizes.{size, Saves}
 use Rattle.step_laws.specs.Steps.{IsStep, first_item, last_item}
-use Rattle.wall_laws.specs.Holding.{Hindrance, Hinders, HasRoom, IsUntouched, Aside}
-use Rattle.wall_laws.specs.Renumbering.{Leaves, new_number, renumbered, IsOfOthers}
+use Rattle.plan_laws.specs.Wall.Holding.{Hindrance, Hinders, HasRoom, IsUntouched, Aside}
+use Rattle.plan_laws.specs.Wall.Renumbering.{Leaves, new_number, renumbered, IsOfOthers}
 use Rattle.hold_laws.specs.Behind.{GoesOn}
 use Rattle.hold_laws.specs.Births.{AreBirths, AreBornBehind, owner}
 use Rattle.hold_laws.specs.Scopes.{Scope, Owned, IsInScope}

@@ -5,7 +5,7 @@ use Rattle.css_model.specs.Sheets.Limits.{max_items}
 use Rattle.order_laws.specs.Edits.{Edit, edited}
 use Rattle.step_laws.specs.declared.step.Step.{Step}
 use Rattle.step_laws.specs.Steps.{IsStep}
-use Rattle.wall_laws.specs.Holding.{HasRoom}
+use Rattle.plan_laws.specs.Wall.Holding.{HasRoom}
 
 -- a step adds one item at most
 abbrev pub StepsAddOneItem : Type 0

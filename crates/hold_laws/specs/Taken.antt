@@ -9,7 +9,7 @@ use Rattle.step_laws.specs.Free.{Answered, IsFree}
 use Rattle.step_laws.specs.Leading.{Takes, IsDone}
 use Rattle.step_laws.specs.Sizes.{Saves}
 use Rattle.step_laws.specs.Steps.{IsStep}
-use Rattle.wall_laws.specs.Holding.{Aside, turn_of}
+use Rattle.plan_laws.specs.Wall.Holding.{Aside, turn_of}
 use Rattle.hold_laws.specs.Held.{StepsAreHeld, AreLed}
 
 -- A free step that saves, and that comes no later than any turn that leads, is the one to take.

@@ -8,8 +8,8 @@ use Rattle.step_laws.specs.declared.step.Step.{Step}
 use Rattle.step_laws.specs.declared.step.Step.TheVariants.{CutDecl}
 use Rattle.step_laws.specs.Sizes.{size, Saves}
 use Rattle.step_laws.specs.Steps.{IsStep}
-use Rattle.wall_laws.specs.Holding.{turn_of}
-use Rattle.wall_laws.specs.Renumbering.{renumbered}
+use Rattle.plan_laws.specs.Wall.Holding.{turn_of}
+use Rattle.plan_laws.specs.Wall.Renumbering.{renumbered}
 
 -- Of two turns one comes before the other, or they are one.
 abbrev pub TurnsAreOrdered : Type 0

@@ -10,9 +10,9 @@ use Rattle.order_laws.specs.Slots.{new_items}
 use Rattle.step_laws.specs.declared.step.Step.{Step}
 use Rattle.step_laws.specs.Free.{Answered, AreNotApart}
 use Rattle.step_laws.specs.Steps.{IsStep, first_item, last_item, decls_of}
-use Rattle.wall_laws.specs.Holding.{OfPair, Hinders}
-use Rattle.wall_laws.specs.Renumbering.{Leaves, new_number}
-use Rattle.wall_laws.specs.Walls.{IsWall, IsFloor}
+use Rattle.plan_laws.specs.Wall.Holding.{OfPair, Hinders}
+use Rattle.plan_laws.specs.Wall.Renumbering.{Leaves, new_number}
+use Rattle.plan_laws.specs.Wall.Walls.{IsWall, IsFloor}
 use Rattle.hold_laws.specs.declared.way.Way.{Way}
 use Rattle.hold_laws.specs.declared.way.Way.TheVariants.{Up, Down}
 use Rattle.hold_laws.specs.Scopes.{IsDown, IsUp}

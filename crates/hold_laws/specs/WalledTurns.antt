@@ -8,7 +8,7 @@ use Rattle.step_laws.specs.declared.step.Step.{Step}
 use Rattle.step_laws.specs.Free.{Answered, AreNotApart}
 use Rattle.step_laws.specs.Sizes.{Saves}
 use Rattle.step_laws.specs.Steps.{IsStep, first_item, last_item}
-use Rattle.wall_laws.specs.Holding.{Hindrance, OfPair, Hinders, Aside}
+use Rattle.plan_laws.specs.Wall.Holding.{Hindrance, OfPair, Hinders, Aside}
 use Rattle.hold_laws.specs.Births.{AreBirths}
 use Rattle.hold_laws.specs.declared.way.Way.{Way}
 use Rattle.hold_laws.specs.declared.way.Way.TheVariants.{Up, Down}

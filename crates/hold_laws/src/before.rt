@@ -2,8 +2,8 @@
 
 ghost use Rattle.hold_laws.specs.Before.{CutsHaveBeen, NoStepAddsPairs, StepsHaveBeen};
 
+use plan_laws::{items_stay, savings_go_on, steps_come_back};
 use step_laws::{steps_rearrange, steps_stay_sound};
-use wall_laws::{items_stay, savings_go_on, steps_come_back};
 
 /// No step puts a pair where it did not stand: beside an item that the step left, a pair stands elsewhere only
 /// where it did so before.

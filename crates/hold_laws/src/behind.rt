@@ -2,11 +2,11 @@
 
 ghost use Rattle.hold_laws.specs.Behind.{GoingOnIsSideBySide, HinderedGoesOn};
 
-use step_laws::steps_rearrange;
-use wall_laws::{
+use plan_laws::{
     edits_commute, hindrances_go_on, items_stay, joins_stay, kept_hindrances_go_on,
     steps_are_side_by_side,
 };
+use step_laws::steps_rearrange;
 
 /// A step that goes on behind another one, a cut too, is side by side with it: each may be taken behind the
 /// other.

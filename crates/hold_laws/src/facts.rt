@@ -2,8 +2,8 @@
 
 ghost use Rattle.hold_laws.specs.Facts.{JoinedHasNoCut, JoinedHasOwnParts, NoCutComes, OwnPartsStay};
 
+use plan_laws::items_stay;
 use step_laws::steps_rearrange;
-use wall_laws::items_stay;
 
 /// Of a rule that a step left, no part of which could be cut, none can be cut behind the step.
 pub fn no_cut_comes()

@@ -4,7 +4,7 @@ ghost use Rattle.hold_laws.specs.Held.{HeldStepsAreCovered, StepsAreSetAside, St
 
 use crate::before::steps_have_been;
 use crate::behind::hindered_goes_on;
-use wall_laws::hindered_is_blocked;
+use plan_laws::hindered_is_blocked;
 
 /// Each step of a sheet that saves waits, or is set aside with what blocks it: so it is behind a step, where
 /// what waits or is set aside of the steps that go on stays at its new numbers, where what was set aside for a

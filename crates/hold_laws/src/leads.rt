@@ -5,8 +5,7 @@ ghost use Rattle.hold_laws.specs.Leads.{FirstLeadIsTaken, HeldGoesOver, HeldMayC
 use crate::before::steps_have_been;
 use crate::behind::hindered_goes_on;
 use crate::turns::first_turn_is_first;
-use plan_laws::{first_is_next, none_waits_is_done};
-use wall_laws::hindered_is_blocked;
+use plan_laws::{first_is_next, hindered_is_blocked, none_waits_is_done};
 
 /// Where nothing is set aside, and each owner has a turn before which no step comes, all is held.
 pub fn start_is_held()

@@ -4,8 +4,8 @@ ghost use Rattle.hold_laws.specs.Walled.{FlooredJoinsAreHindered, FloorsGoOn, Pa
 ghost use Rattle.hold_laws.specs.WalledTurns.{JoinsAreWalled, WalledTurnsAreBlocked, WalledTurnsAreMoves};
 
 use order_laws::unmoved_keep_their_order;
+use plan_laws::{floors_hinder, walls_hinder};
 use step_laws::steps_rearrange;
-use wall_laws::{floors_hinder, walls_hinder};
 
 /// A sheet in two parts is so behind an edit, too.
 pub fn parts_stay()

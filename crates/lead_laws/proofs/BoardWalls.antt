@@ -37,8 +37,8 @@ use Rattle.step_laws.specs.declared.step.Step.TheVariants.{CutDecl, CutSel, Join
 use Rattle.step_laws.specs.Free.{Answered, AreAmong}
 use Rattle.step_laws.specs.Sizes.{size, Saves}
 use Rattle.step_laws.specs.Steps.{IsStep, first_item, last_item}
-use Rattle.wall_laws.specs.Holding.{Hindrance, OfPair, Aside}
-use Rattle.wall_laws.specs.Renumbering.{Leaves, new_number}
+use Rattle.plan_laws.specs.Wall.Holding.{Hindrance, OfPair, Aside}
+use Rattle.plan_laws.specs.Wall.Renumbering.{Leaves, new_number}
 
 -- ---- Behind a step
 

@@ -22,7 +22,7 @@ use Rattle.rule_tables.specs.StepPartners.{RulesAreLabelled, LabelledRulesStand}
 use Rattle.rule_tables.specs.Tables.{TableParts, Labelled, Cover, labelled, with_label, entries_by_selector, entries_by_decl}
 use Rattle.step_laws.specs.declared.step.Step.{Step}
 use Rattle.step_laws.specs.Steps.{IsStep, first_item, last_item}
-use Rattle.wall_laws.specs.Renumbering.{new_number, ItemsStay}
+use Rattle.plan_laws.specs.Wall.Renumbering.{new_number, ItemsStay}
 
 -- ---- Covered rules, one by one
 

@@ -18,9 +18,9 @@ use Rattle.plan_board.specs.declared.marks.Mark.{Mark}
 use Rattle.plan_board.specs.BoardParts.{BoardParts}
 use Rattle.plan_board.specs.MarkList.{births_of, labels_of}
 use Rattle.plan_board.specs.Marking.{AreKept, IsLeft}
-use Rattle.wall_laws.specs.Holding.{Aside}
-use Rattle.wall_laws.specs.Renumbering.{new_number}
-use Rattle.wall_laws.specs.SideBySide.{HasCome}
+use Rattle.plan_laws.specs.Wall.Holding.{Aside}
+use Rattle.plan_laws.specs.Wall.Renumbering.{new_number}
+use Rattle.plan_laws.specs.Wall.SideBySide.{HasCome}
 
 -- ---- What stands beside each element
 

@@ -15,8 +15,8 @@ use Rattle.order_laws.specs.Edits.{Edit, edited}
 use Rattle.step_laws.specs.declared.step.Step.{Step}
 use Rattle.step_laws.specs.Sizes.{size, Saves}
 use Rattle.step_laws.specs.Steps.{IsStep}
-use Rattle.wall_laws.specs.Holding.{Hindrance, IsUntouched}
-use Rattle.wall_laws.specs.Renumbering.{new_number, renumbered}
+use Rattle.plan_laws.specs.Wall.Holding.{Hindrance, IsUntouched}
+use Rattle.plan_laws.specs.Wall.Renumbering.{new_number, renumbered}
 
 module _ (first : FirstTurnIsFirst) (source : List ℕ) (items : List Item) (d : Edit) (bound saved : ℕ) (h h' : Holding) (long : size source items ≤ bound) (shorter : Saves source items d saved)
     (m : IsMended source items d bound h h') where

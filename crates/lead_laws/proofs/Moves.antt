@@ -25,8 +25,8 @@ use Rattle.step_laws.specs.declared.step.Step.{Step}
 use Rattle.step_laws.specs.Free.{Answered, AreAmong}
 use Rattle.step_laws.specs.Sizes.{size, Saves}
 use Rattle.step_laws.specs.Steps.{IsStep, first_item, last_item}
-use Rattle.wall_laws.specs.Holding.{Hindrance, Hinders, HasRoom, IsUntouched, Aside}
-use Rattle.wall_laws.specs.Renumbering.{new_number, renumbered}
+use Rattle.plan_laws.specs.Wall.Holding.{Hindrance, Hinders, HasRoom, IsUntouched, Aside}
+use Rattle.plan_laws.specs.Wall.Renumbering.{new_number, renumbered}
 
 pub start : MarksAreNames → StartIsHeld → (answers : List Answered) (source : List ℕ) (b : BoardParts) (leads : List Lead) (bound : ℕ) → IsMarked b → size source b.items ≤ bound →
     ((n birth : ℕ) → slice_get (births_of b.marks) n ≡ Some birth → Contains leads (record { turn = first_turn bound; owner = birth; scope = Owned })) → IsKnown answers source b leads [] []

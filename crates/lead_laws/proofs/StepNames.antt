@@ -11,8 +11,8 @@ use Rattle.order_laws.specs.Edits.{Edit}
 use Rattle.step_laws.specs.declared.step.Step.{Step}
 use Rattle.step_laws.specs.declared.step.Step.TheVariants.{CutDecl, CutSel, JoinSelUp, JoinSelDown, JoinDeclUp, JoinDeclDown, Share}
 use Rattle.step_laws.specs.Steps.{IsStep, first_item, last_item}
-use Rattle.wall_laws.specs.Holding.{turn_of}
-use Rattle.wall_laws.specs.Renumbering.{Leaves, new_number, renumbered, IsOfOthers}
+use Rattle.plan_laws.specs.Wall.Holding.{turn_of}
+use Rattle.plan_laws.specs.Wall.Renumbering.{Leaves, new_number, renumbered, IsOfOthers}
 
 -- ---- The items of a step
 

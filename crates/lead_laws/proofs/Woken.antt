@@ -29,9 +29,9 @@ use Rattle.step_laws.specs.declared.step.Step.{Step}
 use Rattle.step_laws.specs.Free.{Answered}
 use Rattle.step_laws.specs.Sizes.{Saves}
 use Rattle.step_laws.specs.Steps.{IsStep, first_item, last_item}
-use Rattle.wall_laws.specs.Holding.{Hindrance, OfPair, OfKept, HasRoom, IsUntouched, Aside}
-use Rattle.wall_laws.specs.Renumbering.{new_number, renumbered, IsOfOthers}
-use Rattle.wall_laws.specs.SideBySide.{HasCome}
+use Rattle.plan_laws.specs.Wall.Holding.{Hindrance, OfPair, OfKept, HasRoom, IsUntouched, Aside}
+use Rattle.plan_laws.specs.Wall.Renumbering.{new_number, renumbered, IsOfOthers}
+use Rattle.plan_laws.specs.Wall.SideBySide.{HasCome}
 
 -- ---- Entries under digests
 

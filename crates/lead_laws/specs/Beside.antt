@@ -14,7 +14,7 @@ use Rattle.plan_board.specs.Marking.{AreKept}
 use Rattle.rule_tables.specs.Tables.{TableParts, Labelled, Cover, HaveOtherLabels, PutsRule, TakesRule, labelled, with_label}
 use Rattle.step_laws.specs.declared.step.Step.{Step}
 use Rattle.step_laws.specs.Steps.{IsStep, first_item, last_item}
-use Rattle.wall_laws.specs.Renumbering.{Leaves}
+use Rattle.plan_laws.specs.Wall.Renumbering.{Leaves}
 
 -- each rule that an edit leaves is covered by later tables too, where it was
 abbrev pub StayCovered : BoardParts → Edit → (tables later : TableParts) → Type 0

@@ -22,7 +22,7 @@ use Rattle.step_laws.specs.declared.step.Step.{Step}
 use Rattle.step_laws.specs.Free.{Answered, AreAmong, AreNotApart}
 use Rattle.step_laws.specs.Sizes.{size, Saves}
 use Rattle.step_laws.specs.Steps.{IsStep, first_item, last_item}
-use Rattle.wall_laws.specs.Holding.{Hindrance, Aside}
+use Rattle.plan_laws.specs.Wall.Holding.{Hindrance, Aside}
 
 -- the lead of all joins in which the item of a birth moves in a way
 abbrev pub moves_lead : Way → (bound birth : ℕ) → held.Lead

@@ -19,7 +19,7 @@ use Rattle.step_laws.specs.declared.step.Step.{Step}
 use Rattle.step_laws.specs.Free.{Answered, AreAmong}
 use Rattle.step_laws.specs.Sizes.{size, Saves}
 use Rattle.step_laws.specs.Steps.{IsStep}
-use Rattle.wall_laws.specs.Holding.{Hindrance, Hinders, HasRoom, Aside}
+use Rattle.plan_laws.specs.Wall.Holding.{Hindrance, Hinders, HasRoom, Aside}
 
 -- Each step of the board that saves is led or set aside, and what is set aside is remembered.
 pub record IsKnown (answers : List Answered) (source : List ℕ) (b : BoardParts) (leads : List Lead) (aside : List Aside) (entries : List Entry) : Type 0 where

@@ -8,7 +8,7 @@ use Rattle.order_laws.specs.Edits.{Edit, edited}
 use Rattle.plan_board.specs.BoardParts.{BoardParts}
 use Rattle.plan_board.specs.MarkList.{AreMarks, births_of, labels_of}
 use Rattle.plan_board.specs.Marking.{AreKept}
-use Rattle.wall_laws.specs.Holding.{Aside}
+use Rattle.plan_laws.specs.Wall.Holding.{Aside}
 
 -- what a plan holds with this board
 abbrev pub holding_of : BoardParts → List Lead → List Aside → Holding

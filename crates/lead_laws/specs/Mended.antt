@@ -10,8 +10,8 @@ use Rattle.hold_laws.specs.Turns.{named, AreLabels, first_turn}
 use Rattle.order_laws.specs.Edits.{Edit, edited}
 use Rattle.step_laws.specs.declared.step.Step.{Step}
 use Rattle.step_laws.specs.Sizes.{size, Saves}
-use Rattle.wall_laws.specs.Holding.{IsUntouched, Aside}
-use Rattle.wall_laws.specs.Renumbering.{new_number, renumbered}
+use Rattle.plan_laws.specs.Wall.Holding.{IsUntouched, Aside}
+use Rattle.plan_laws.specs.Wall.Renumbering.{new_number, renumbered}
 
 -- The names of the items behind an edit: those that it left keep theirs, and each other item is born now.
 pub record AreRenamed (items : List Item) (d : Edit) (h h' : Holding) : Type 0 where

@@ -11,7 +11,7 @@ use Rattle.step_laws.specs.declared.step.Step.{Step}
 use Rattle.step_laws.specs.Free.{Answered}
 use Rattle.step_laws.specs.Sizes.{Saves}
 use Rattle.step_laws.specs.Steps.{IsStep, first_item, last_item}
-use Rattle.wall_laws.specs.Holding.{Hindrance, Hinders, Aside}
+use Rattle.plan_laws.specs.Wall.Holding.{Hindrance, Hinders, Aside}
 
 -- A turn led and leads no more. The others still lead, and the later steps in its scope are led by one of them or
 -- by a new one, or they are set aside.

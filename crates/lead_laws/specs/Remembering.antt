@@ -20,8 +20,8 @@ use Rattle.step_laws.specs.declared.step.Step.{Step}
 use Rattle.step_laws.specs.Free.{Answered}
 use Rattle.step_laws.specs.Sizes.{Saves}
 use Rattle.step_laws.specs.Steps.{IsStep}
-use Rattle.wall_laws.specs.Holding.{Hindrance, OfPair, OfKept, HasRoom, IsUntouched, Aside}
-use Rattle.wall_laws.specs.Renumbering.{new_number, renumbered}
+use Rattle.plan_laws.specs.Wall.Holding.{Hindrance, OfPair, OfKept, HasRoom, IsUntouched, Aside}
+use Rattle.plan_laws.specs.Wall.Renumbering.{new_number, renumbered}
 
 -- a lead that is set aside under the digests of a pair
 abbrev pub entry_of : Pair → Lead → Entry

@@ -2,8 +2,8 @@
 
 ghost use Rattle.lead_laws.specs.Beside.{CoverFollowsJoins, CoverGoesOn, CoverIsOfEach, HomesGoOn, OthersStayCovered};
 
+use plan_laws::items_stay;
 use rule_tables::{labelled_rules_stand, rules_are_labelled};
-use wall_laws::items_stay;
 
 /// Tables cover the rules of a board where they cover each.
 pub fn cover_is_of_each()

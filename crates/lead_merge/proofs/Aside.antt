@@ -12,7 +12,7 @@ use Rattle.obstacles.specs.declared.obstacle.Obstacle.{Obstacle}
 use Rattle.obstacles.specs.declared.obstacle.Other.{Other}
 use Rattle.obstacles.specs.declared.obstacle.Other.TheVariants as others
 use Rattle.obstacles.specs.declared.obstacle.PairPlace.{PairPlace}
-use Rattle.wall_laws.specs.Holding.{Hindrance, OfPair, OfKept}
+use Rattle.plan_laws.specs.Wall.Holding.{Hindrance, OfPair, OfKept}
 
 module _ (items : List Item) (o : Obstacle) (lead : Lead) (between new : List Entry) (moved : (p : Pair) → IsAt items o.moved p → Contains between (entry_of p lead)) (more : (x : Entry) → Contains between x → Contains new x)
     (other : (place : PairPlace) (p : Pair) → o.other ≡ others.Pair place → IsAt items place p → Contains new (entry_of p lead)) where

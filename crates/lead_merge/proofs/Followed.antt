@@ -33,7 +33,7 @@ use Rattle.plan_state.specs.PlanParts.{PlanParts}
 use Rattle.plan_state.specs.State.{IsBoard}
 use Rattle.step_laws.specs.declared.step.Step.{Step}
 use Rattle.step_laws.specs.declared.step.Step.TheVariants.{CutDecl, CutSel, JoinSelUp, JoinSelDown, JoinDeclUp, JoinDeclDown, Share}
-use Rattle.wall_laws.specs.Holding.{Aside}
+use Rattle.plan_laws.specs.Wall.Holding.{Aside}
 use Rattle.step_turns.specs.Looking.{FoundParts, Reaches}
 use Rattle.step_turns.specs.Named.{IsLaterTurn, IsLedBeside}
 

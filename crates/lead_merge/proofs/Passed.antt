@@ -32,7 +32,7 @@ use Rattle.step_laws.specs.Sizes.{size, Saves}
 use Rattle.step_laws.specs.Steps.{IsStep}
 use Rattle.plan_laws.specs.Cover.{IsSooner}
 use Rattle.step_turns.specs.Named.{IsStepOf, NamesNone}
-use Rattle.wall_laws.specs.Holding.{Aside, Hindrance}
+use Rattle.plan_laws.specs.Wall.Holding.{Aside, Hindrance}
 
 -- ---- A plan of the same board
 

@@ -25,7 +25,7 @@ use Rattle.plan_state.specs.PlanParts.{PlanParts}
 use Rattle.plan_state.specs.State.{IsLedBy}
 use Rattle.step_laws.specs.declared.step.Step.{Step}
 use Rattle.step_laws.specs.Free.{Answered}
-use Rattle.wall_laws.specs.Holding.{OfPair}
+use Rattle.plan_laws.specs.Wall.Holding.{OfPair}
 
 -- the birth of an item is past
 born_before : (b : BoardParts) → IsMarked b → (n birth : ℕ) → slice_get (births_of b.marks) n ≡ Some birth → birth < b.next

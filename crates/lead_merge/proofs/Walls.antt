@@ -36,8 +36,8 @@ use Rattle.rule_tables.specs.Pairs.{HasBoth}
 use Rattle.step_laws.specs.declared.step.Step.{Step}
 use Rattle.step_laws.specs.Free.{Answered}
 use Rattle.step_laws.specs.Steps.{HasStep, decls_of}
-use Rattle.wall_laws.specs.Holding.{Hindrance, Hinders, OfKept, OfPair}
-use Rattle.wall_laws.specs.Walls.{IsFloor, IsWall}
+use Rattle.plan_laws.specs.Wall.Holding.{Hindrance, Hinders, OfKept, OfPair}
+use Rattle.plan_laws.specs.Wall.Walls.{IsFloor, IsWall}
 
 abbrev place : ℕ → ℕ → Place
 place item position = record { item = item; position = position }

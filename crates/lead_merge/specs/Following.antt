@@ -16,7 +16,7 @@ use Rattle.step_laws.specs.Sizes.{Saves}
 use Rattle.step_laws.specs.Steps.{HasStep, IsStep}
 use Rattle.step_turns.specs.declared.next.Seen.{Seen}
 use Rattle.step_turns.specs.Looking.{AreLater, Covers, FoundParts}
-use Rattle.wall_laws.specs.Holding.{Aside}
+use Rattle.plan_laws.specs.Wall.Holding.{Aside}
 
 -- What follows a lead: later turns in its scope, and where there are more, the first of the others, such that none of
 -- them is passed over but those past walls.

@@ -20,7 +20,7 @@ use Rattle.plan_board.specs.MarkList.{births_of, labels_of}
 use Rattle.rule_tables.specs.Pairs.{HasBoth}
 use Rattle.step_laws.specs.declared.step.Step.{Step}
 use Rattle.step_laws.specs.Free.{Answered, AreNotApart}
-use Rattle.wall_laws.specs.Holding.{Hindrance, OfPair}
+use Rattle.plan_laws.specs.Wall.Holding.{Hindrance, OfPair}
 
 -- From the item of number `z` on a pair stands in that of number `y` alone, from which on another pair does not stand.
 pub record StandsAlone (items : List Item) (z y : ℕ) (p q : Pair) : Type 0 where

@@ -10,7 +10,7 @@ ghost use Rattle.lead_plan.specs.declared.lead.Lead as declared;
 ghost use Rattle.lead_plan.specs.Weights.{is_alone, room, total, weight};
 ghost use Rattle.plan_laws.specs.Cover.{IsSooner};
 ghost use Rattle.plan_state.specs.State.{IsBoard};
-ghost use Rattle.wall_laws.specs.Holding.{Aside};
+ghost use Rattle.plan_laws.specs.Wall.Holding.{Aside};
 
 use lead_plan::{Lead, Scope, Waiting, later_weighs_less};
 use merge_plan::KnownLengths;

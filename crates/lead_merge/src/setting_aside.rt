@@ -15,7 +15,7 @@ ghost use Rattle.lead_plan.specs.Told.{lead_told, scope_told};
 ghost use Rattle.obstacles.specs.Blocking.{IsAt, IsOther, Names};
 ghost use Rattle.obstacles.specs.declared.obstacle.Other.TheVariants as others;
 ghost use Rattle.obstacles.specs.declared.obstacle.PairPlace as declared_place;
-ghost use Rattle.wall_laws.specs.Holding.{Hindrance};
+ghost use Rattle.plan_laws.specs.Wall.Holding.{Hindrance};
 
 use css_model::{Decl, MAX_BYTES, Rule, Selector, Sheet};
 use hold_laws::Way;

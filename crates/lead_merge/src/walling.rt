@@ -19,7 +19,7 @@ ghost use Rattle.rule_tables.specs.Tables.{Cover};
 ghost use Rattle.step_laws.specs.Free.{Answered};
 ghost use Rattle.step_laws.specs.Steps.{HasStep};
 ghost use Rattle.step_turns.specs.Marked.{rules_of};
-ghost use Rattle.wall_laws.specs.Holding.{Hindrance};
+ghost use Rattle.plan_laws.specs.Wall.Holding.{Hindrance};
 
 use crate::setting_aside::{decl_of, put_all, selector_of};
 use hold_laws::Way;

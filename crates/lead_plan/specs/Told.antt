@@ -9,7 +9,7 @@ use Rattle.lead_plan.specs.declared.lead.Scope.{Scope}
 use Rattle.lead_plan.specs.declared.lead.Scope.TheVariants.{Alone, Owned, Ups, Downs}
 use Rattle.step_laws.specs.declared.step.Step.{Step}
 use Rattle.step_laws.specs.declared.step.Step.TheVariants.{CutDecl, CutSel, JoinSelUp, JoinSelDown, JoinDeclUp, JoinDeclDown, Share}
-use Rattle.wall_laws.specs.Holding.{turn_of}
+use Rattle.plan_laws.specs.Wall.Holding.{turn_of}
 
 -- the step of a kind, of these two items or of a part of an item
 abbrev pub step_of_kind : Kind → ℕ → ℕ → Step

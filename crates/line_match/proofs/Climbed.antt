@@ -6,10 +6,10 @@ use Rattle.css_model.specs.declared.example.RunLine.{RunLine}
 use Rattle.css_model.specs.declared.selector.Combinator.{Combinator}
 use Rattle.css_model.specs.declared.selector.Simple.{Simple}
 use Rattle.css_model.specs.Documents.RunDocuments.{is_below}
-use Rattle.eval_laws.specs.declared.types.Reached.{Reached}
-use Rattle.eval_laws.specs.declared.types.Role.TheVariants.{Above, Beside, Apart}
-use Rattle.eval_laws.specs.Climbing.{climbed, count_at, has_one_at, standing_of, standings_of}
-use Rattle.eval_laws.specs.Reaching.{from_child, is_reached, located, passed}
+use Rattle.cascade_laws.specs.declared.reaching.Reached.{Reached}
+use Rattle.cascade_laws.specs.declared.reaching.Role.TheVariants.{Above, Beside, Apart}
+use Rattle.cascade_laws.specs.Eval.Climbing.{climbed, count_at, has_one_at, standing_of, standings_of}
+use Rattle.cascade_laws.specs.Eval.Reaching.{from_child, is_reached, located, passed}
 use Rattle.line_match.specs.Runs.{run_tests}
 
 pub climbed_marked : (chain : List (List Simple)) (links : List Combinator) (l : RunLine) (lines : List RunLine) (d before : ℕ) (rs : List Reached) →

@@ -7,7 +7,7 @@ use Rattle.css_model.specs.Documents.Document.{Element, Siblings, none, first}
 use Rattle.css_model.specs.Documents.Features.{element_of}
 use Rattle.css_model.specs.Documents.Matching.{count_siblings, is_none}
 use Rattle.css_model.specs.Documents.RunDocuments.{repeated, siblings_of}
-use Rattle.eval_laws.specs.Climbing.{count_at, has_one_at}
+use Rattle.cascade_laws.specs.Eval.Climbing.{count_at, has_one_at}
 
 run_counted : (n : ℕ) (e : Element) (children later : Siblings) → count_siblings (repeated n e children later) ≡ n + count_siblings later
 run_counted zero e children later = omega arith

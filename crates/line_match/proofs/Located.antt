@@ -3,10 +3,10 @@ use Rattle.std.proofs.Common.{◌≡◌, Bool, true, false, ◌&&◌, List, [], 
 use Rattle.css_model.specs.declared.selector.Combinator.{Combinator}
 use Rattle.css_model.specs.declared.selector.Simple.{Simple}
 use Rattle.css_model.specs.Documents.Document.{Element}
-use Rattle.eval_laws.specs.declared.types.Reached.{Reached}
-use Rattle.eval_laws.specs.declared.types.Surroundings.{Surroundings}
-use Rattle.eval_laws.specs.Reaching.{located, put_here}
-use Rattle.eval_laws.specs.Surrounded.{chain_among, compound_among}
+use Rattle.cascade_laws.specs.declared.reaching.Reached.{Reached}
+use Rattle.cascade_laws.specs.declared.reaching.Surroundings.{Surroundings}
+use Rattle.cascade_laws.specs.Eval.Reaching.{located, put_here}
+use Rattle.cascade_laws.specs.Eval.Surrounded.{chain_among, compound_among}
 use Rattle.line_match.specs.Runs.{is_led}
 
 alone : (b : Bool) → b ≡ (b && true)

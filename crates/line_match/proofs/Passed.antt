@@ -1,10 +1,10 @@
 -- Along a run: one element, a period of them, and periods that change nothing.
 use Rattle.std.proofs.Common.{◌≡◌, ◌⊎◌, ℕ, suc, ◌+◌, ◌-◌, ◌*◌, ◌<◌, ◌≤◌, Bool, true, List, map, sym, ap, ◌∙◌, arith, inl, inr}
 use Rattle.css_model.specs.declared.selector.Combinator.{Combinator}
-use Rattle.eval_laws.specs.declared.types.Reached.{Reached}
-use Rattle.eval_laws.specs.Reaching.{from_next, located, passed}
-use Rattle.eval_laws.specs.Repeating.{Repeats, RepeatingChangesNothing}
-use Rattle.eval_laws.proofs.ForCallers.{passed_parts}
+use Rattle.cascade_laws.specs.declared.reaching.Reached.{Reached}
+use Rattle.cascade_laws.specs.Eval.Reaching.{from_next, located, passed}
+use Rattle.cascade_laws.specs.Eval.Repeating.{Repeats, RepeatingChangesNothing}
+use Rattle.cascade_laws.proofs.ForCallers.{passed_parts}
 
 -- the first of them
 pub passed_first : (tests : ℕ → ℕ → List Bool) (links : List Combinator) (n left before behind : ℕ) (rs : List Reached) → n ≡ suc left →

@@ -12,9 +12,9 @@ use Rattle.css_model.specs.Documents.Document.{Element}
 use Rattle.css_model.specs.Documents.FeatureParts.{FeatureParts}
 use Rattle.css_model.specs.Documents.Features.{element_of}
 use Rattle.css_model.specs.Documents.Matching.{is_multiple, is_nth}
-use Rattle.eval_laws.specs.Climbing.{child_among}
-use Rattle.eval_laws.specs.Repeating.{Repeats}
-use Rattle.eval_laws.specs.Surrounded.{chain_among, compound_among, simple_among, test_among}
+use Rattle.cascade_laws.specs.Eval.Climbing.{child_among}
+use Rattle.cascade_laws.specs.Eval.Repeating.{Repeats}
+use Rattle.cascade_laws.specs.Eval.Surrounded.{chain_among, compound_among, simple_among, test_among}
 use Rattle.line_match.specs.declared.recurrence.Recurrence.{Recurrence}
 use Rattle.line_match.specs.Recurring.{recurrence_of, with_chain, with_compound, with_positions, with_step, with_test}
 use Rattle.line_match.specs.Runs.{run_tests}

@@ -4,8 +4,8 @@ use Rattle.std.proofs.lemmas.Bool.{and_parts}
 use Rattle.std.specs.Cmp.{booleans_Decides}
 use Rattle.std.specs.Cmp.Lexicographic.{pointwise, pointwise_decides}
 use mathlib.Core.Bool.{beq}
-use Rattle.eval_laws.specs.declared.types.Reached.{Reached}
-use Rattle.eval_laws.specs.contracts.types.ReachedPartialEq.TheImpl as reached
+use Rattle.cascade_laws.specs.declared.reaching.Reached.{Reached}
+use Rattle.cascade_laws.specs.contracts.reaching.ReachedPartialEq.TheImpl as reached
 
 abbrev known_at : Bool → Bool → Bool → Bool → Bool → Reached
 known_at h n l c i = record { here = h; next = n; later = l; child = c; inside = i }

@@ -4,10 +4,10 @@ use Rattle.css_model.specs.declared.selector.Combinator.{Combinator}
 use Rattle.css_model.specs.declared.selector.Simple.{Simple}
 use Rattle.css_model.specs.Documents.FeatureParts.{FeatureParts}
 use Rattle.css_model.specs.Documents.Features.{element_of}
-use Rattle.eval_laws.specs.declared.types.Reached.{Reached}
-use Rattle.eval_laws.specs.Climbing.{child_among}
-use Rattle.eval_laws.specs.Reaching.{leads}
-use Rattle.eval_laws.specs.Surrounded.{chain_among}
+use Rattle.cascade_laws.specs.declared.reaching.Reached.{Reached}
+use Rattle.cascade_laws.specs.Eval.Climbing.{child_among}
+use Rattle.cascade_laws.specs.Eval.Reaching.{leads}
+use Rattle.cascade_laws.specs.Eval.Surrounded.{chain_among}
 
 -- which compounds hold of an element of a run with so many siblings before and behind it
 abbrev pub run_tests : List (List Simple) → FeatureParts → Bool → (before behind : ℕ) → List Bool

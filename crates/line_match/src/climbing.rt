@@ -4,18 +4,18 @@ ghost use Rattle.std.specs.Prelude.{◌≡◌, ◌<◌, ◌≤◌, ◌+◌, ◌^
 ghost use Rattle.css_model.specs.Documents.FeatureParts.{FeatureParts};
 ghost use Rattle.css_model.specs.Documents.Features.{element_of};
 ghost use Rattle.css_model.specs.Documents.RunDocuments.{is_below};
-ghost use Rattle.eval_laws.specs.Climbing.{climbed, count_at, has_one_at, root_reached, standings_of};
-ghost use Rattle.eval_laws.specs.Reaching.{from_child, is_reached, located, passed};
-ghost use Rattle.eval_laws.specs.Repeating.{Repeats};
+ghost use Rattle.cascade_laws.specs.Eval.Climbing.{climbed, count_at, has_one_at, root_reached, standings_of};
+ghost use Rattle.cascade_laws.specs.Eval.Reaching.{from_child, is_reached, located, passed};
+ghost use Rattle.cascade_laws.specs.Eval.Repeating.{Repeats};
 ghost use Rattle.line_match.specs.Runs.{run_tests};
 
 use crate::counts::{count_at, has_one_at, is_below};
 use crate::passing::{Run, behind_run};
 use crate::reaching::{all_from_child, at_root, is_reached, located};
 use crate::recurrence::{Recurrence, recurrence_of};
+use cascade_laws::Reached;
 use css_model::{RunLine, Selector};
 use element_tests::Whereabouts;
-use eval_laws::Reached;
 use std::alloc::{AllocError, Global};
 
 /// What a selector finds at the root, in front of these other lines.

@@ -2,7 +2,7 @@
 
 ghost use Rattle.std.specs.Prelude.{◌≡◌, ◌<◌, ◌^◌, ◌==◌, not};
 ghost use Rattle.css_model.specs.Documents.RunDocuments.{is_below};
-ghost use Rattle.eval_laws.specs.Climbing.{count_at, has_one_at};
+ghost use Rattle.cascade_laws.specs.Eval.Climbing.{count_at, has_one_at};
 
 use css_model::RunLine;
 

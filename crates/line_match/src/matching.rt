@@ -3,12 +3,12 @@
 ghost use Rattle.std.specs.Prelude.{◌≡◌, IfOk};
 ghost use Rattle.css_model.specs.Documents.Matching.{matches, same_pseudo};
 ghost use Rattle.css_model.specs.Documents.RunDocuments.{KeepsRules, expand, target_of};
-ghost use Rattle.eval_laws.specs.Climbing.{chain_climbs};
+ghost use Rattle.cascade_laws.specs.Eval.Climbing.{chain_climbs};
 
 use crate::climbing::{climb, root_reached};
 use crate::reaching::{all_from_child, is_reached};
+use cascade_laws::matching_is_climbing;
 use css_model::{Example, Pseudo, RunLine, Selector};
-use eval_laws::matching_is_climbing;
 use std::alloc::{AllocError, Global};
 
 /// Whether a selector matches the marked element of an example (Selectors 3, sections 6 to 8): it has the

@@ -2,15 +2,15 @@
 
 ghost use Rattle.std.specs.Prelude.{◌≡◌, ◌<◌, ◌≤◌, ◌+◌, ◌-◌, ◌*◌, ◌^◌, ◌⊎◌, ◌↔◌, ℕ, IfOk, IsTrue, map, Bool, true};
 ghost use Rattle.css_model.specs.Documents.FeatureParts.{FeatureParts};
-ghost use Rattle.eval_laws.specs.Reaching.{from_next, located, passed};
-ghost use Rattle.eval_laws.specs.Repeating.{Repeats};
+ghost use Rattle.cascade_laws.specs.Eval.Reaching.{from_next, located, passed};
+ghost use Rattle.cascade_laws.specs.Eval.Repeating.{Repeats};
 ghost use Rattle.line_match.specs.Runs.{run_tests};
 
 use crate::reaching::{all_from_next, located};
 use crate::recurrence::Recurrence;
+use cascade_laws::{Reached, repeating_changes_nothing};
 use css_model::{Features, Selector};
 use element_tests::Whereabouts;
-use eval_laws::{Reached, repeating_changes_nothing};
 use std::alloc::{AllocError, Global};
 
 /// Elements side by side, and what they are asked.

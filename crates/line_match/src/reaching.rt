@@ -3,13 +3,13 @@
 ghost use Rattle.std.specs.Prelude.{◌≡◌, ◌<◌, ◌^◌, IfOk, map, drop};
 ghost use Rattle.css_model.specs.Documents.Features.{element_of};
 ghost use Rattle.element_tests.specs.Whereabouts.{surroundings_of};
-ghost use Rattle.eval_laws.specs.Reaching.{from_child, from_next, from_root, is_reached, leads, located};
-ghost use Rattle.eval_laws.specs.Surrounded.{chain_among};
+ghost use Rattle.cascade_laws.specs.Eval.Reaching.{from_child, from_next, from_root, is_reached, leads, located};
+ghost use Rattle.cascade_laws.specs.Eval.Surrounded.{chain_among};
 ghost use Rattle.line_match.specs.Runs.{is_led};
 
+use cascade_laws::Reached;
 use css_model::{Combinator, Compound, Features, Selector};
 use element_tests::{Whereabouts, passes_compound};
-use eval_laws::Reached;
 use std::alloc::{AllocError, Global};
 
 /// What is known at the root before it is looked at.

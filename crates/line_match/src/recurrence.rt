@@ -2,7 +2,7 @@
 
 ghost use Rattle.std.specs.Prelude.{◌≡◌, ◌<◌, ◌≤◌, ◌^◌, ℕ, Bool, List};
 ghost use Rattle.css_model.specs.Documents.FeatureParts.{FeatureParts};
-ghost use Rattle.eval_laws.specs.Repeating.{Repeats};
+ghost use Rattle.cascade_laws.specs.Eval.Repeating.{Repeats};
 ghost use Rattle.line_match.specs.Recurring.{recurrence_of, with_chain, with_compound, with_positions, with_step, with_test};
 ghost use Rattle.line_match.specs.Runs.{run_tests};
 

@@ -9,6 +9,3 @@ mod laws;
 pub use check::{MAX_LOG_BYTES, check_text};
 pub use error::CheckError;
 pub use laws::{limit_is_defined, refuting_logs_pass, yes_refutes_the_formula};
-
-#[cfg(test)]
-mod tests;

@@ -15,6 +15,3 @@ pub use media::Media;
 pub use opening::{open_media, reading_of};
 pub use printing::{print_opened, put_piece};
 pub use reading::Reading;
-
-#[cfg(test)]
-mod tests;

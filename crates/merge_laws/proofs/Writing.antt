@@ -7,7 +7,7 @@ use Rattle.css_model.specs.Sheets.ComesFrom.{ComesFrom}
 use Rattle.css_model.specs.Sheets.Limits.{max_bytes}
 use Rattle.css_model.specs.Sheets.Printed.{printed}
 use Rattle.css_model.specs.Sheets.Sheet.{sheet_of}
-use Rattle.limit_laws.specs.PairLimit.{PlannedComesFrom}
+use Rattle.plan_laws.specs.Limit.PairLimit.{PlannedComesFrom}
 use Rattle.merge_laws.specs.Merged.{IsMerged, PlannedIsMerged}
 use Rattle.merge_laws.proofs.Limits.{within_limits}
 use Rattle.merge_laws.proofs.Meanings.{same_meanings}

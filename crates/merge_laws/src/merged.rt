@@ -2,9 +2,8 @@
 
 ghost use Rattle.merge_laws.specs.Merged.{LeadingMakesOf, PlannedIsMerged};
 
-use limit_laws::planned_comes_from;
 use order_laws::keeping_keeps_winners;
-use plan_laws::{leading_keeps, twins_are_done, twins_keep};
+use plan_laws::{leading_keeps, planned_comes_from, twins_are_done, twins_keep};
 use print_laws::{printed_is_no_longer, printed_reads_back, printed_reads_back_as_twin};
 use sheet_laws::read_is_sound;
 use step_laws::{each_is_made_of_itself, steps_make_of};

@@ -17,9 +17,9 @@ use item_masks::{ItemMask, item_masks};
 use merge_laws::read_keeps_the_limits;
 use merge_steps::steps;
 use obstacles::Obstacles;
+use plan_laws::hindered_is_blocked;
 use std::alloc::{AllocError, Global};
 use step_laws::{Step, parts_are_few};
-use wall_laws::hindered_is_blocked;
 
 /// A free step, and how much it saves.
 #[derive(Clone, Copy, Debug, PartialEq, Eq)]

@@ -14,6 +14,3 @@ pub use listing::steps;
 pub use possible::is_step;
 pub use step_laws::Step;
 pub use step_savings::saving;
-
-#[cfg(test)]
-mod tests;

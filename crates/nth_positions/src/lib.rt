@@ -11,6 +11,3 @@ pub use gap::{Bounds, reduce, reduction_keeps_members};
 pub use limits::{MAX_WIDTH, bounds, bounds_are_tight};
 pub use membership::member;
 pub use notation::{AnbFault, notation_is_unambiguous, read_anb};
-
-#[cfg(test)]
-mod tests;

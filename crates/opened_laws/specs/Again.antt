@@ -14,7 +14,7 @@ use Rattle.css_model.specs.Text.Source.{text_at}
 use Rattle.media_groups.specs.declared.media.Media.{Media}
 use Rattle.media_groups.specs.Opened.{opened_of}
 use Rattle.media_groups.specs.Printed.{blocks_at, printed_opened, printed_with}
-use Rattle.media_laws.specs.Scenes.{block_at}
+use Rattle.opened_laws.specs.Media.Scenes.{block_at}
 use Rattle.sheet_laws.specs.Twins.{AreTwinItems, AreTwins}
 
 -- An opened block of a source that was printed with this body, and the block that it is read back as (own): the same head, and a

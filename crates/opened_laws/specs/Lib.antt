@@ -1,1 +1,3 @@
 pub mod Again
+pub mod Block
+pub mod Media

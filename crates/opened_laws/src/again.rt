@@ -2,7 +2,7 @@
 
 ghost use Rattle.opened_laws.specs.Again.{OpenedReadsBack};
 
-use block_laws::blocks_read_back;
+use crate::blocks_read_back;
 use media_groups::blocks_stay;
 
 /// The printed text of a sheet whose blocks of media are opened is read back as that sheet, with the same blocks

@@ -10,7 +10,7 @@ use Rattle.css_model.specs.Sheets.SheetParts.{SheetParts}
 use Rattle.css_model.specs.Sheets.Spelling.{kept_text}
 use Rattle.media_groups.specs.declared.media.Media.{Media}
 use Rattle.media_groups.specs.Printed.{blocks_at}
-use Rattle.media_laws.specs.Scenes.{block_at}
+use Rattle.opened_laws.specs.Media.Scenes.{block_at}
 use Rattle.opened_laws.specs.Again.{AreOpenedAgain, IsBlockAgain, IsPieceAgain}
 use Rattle.sheet_laws.specs.Twins.{AreTwinItems, AreTwinRules}
 

@@ -10,7 +10,7 @@ use Rattle.media_groups.specs.Opened.{opened_of}
 use Rattle.media_groups.specs.Printed.{IsSoundBody}
 use Rattle.merge_laws.specs.Merged.{LeadingMakesOf}
 use Rattle.merge_laws.specs.Reading.{ReadKeepsTheLimits}
-use Rattle.limit_laws.specs.PairLimit.{PlannedComesFrom}
+use Rattle.plan_laws.specs.Limit.PairLimit.{PlannedComesFrom}
 use Rattle.opened_laws.specs.Again.{IsBodyFrom}
 use Rattle.opened_merge_laws.specs.Merged.{PlannedBodiesAreSound}
 use Rattle.opened_merge_laws.specs.Plans.{AreBodyPlans, IsBodyPlan, IsPlan}

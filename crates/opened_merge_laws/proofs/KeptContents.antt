@@ -12,7 +12,7 @@ use Rattle.css_model.specs.Sheets.Spelling.{Block, Content, Kept, Style, content
 use Rattle.css_model.specs.Text.Source.{text_at}
 use Rattle.media_groups.specs.declared.media.Media.{Media}
 use Rattle.media_groups.specs.Printed.{blocks_at}
-use Rattle.media_laws.specs.Scenes.{IsSceneOf, KeptScene, block_at, kept_blocks}
+use Rattle.opened_laws.specs.Media.Scenes.{IsSceneOf, KeptScene, block_at, kept_blocks}
 use Rattle.opened_merge_laws.specs.Contents.{Opened, OpenedContent, Plain, block_content, opened_content}
 
 -- ---- by what is said

@@ -14,7 +14,7 @@ use Rattle.media_groups.specs.declared.media.Media.{Media}
 use Rattle.media_groups.specs.Laws.{IsNoLongerBody, MergedIsNoLonger}
 use Rattle.media_groups.specs.Opened.{opened_of}
 use Rattle.media_groups.specs.Printed.{printed_with, texts_with}
-use Rattle.media_laws.specs.Lengths.{OpenedIsNoLonger}
+use Rattle.opened_laws.specs.Media.Lengths.{OpenedIsNoLonger}
 use Rattle.merge_laws.proofs.ForCallers.{leads_shorter, printed_size}
 use Rattle.opened_merge_laws.specs.Plans.{AreBodyPlans}
 use Rattle.opened_merge_laws.proofs.Marks.{IsMarked, marked_alike}

@@ -11,7 +11,7 @@ use Rattle.css_model.specs.Text.Source.{text_at}
 use Rattle.media_groups.specs.declared.media.Media.{Media}
 use Rattle.media_groups.specs.Laws.{unnumbered}
 use Rattle.media_groups.specs.Printed.{blocks_at}
-use Rattle.media_laws.specs.Scenes.{block_at}
+use Rattle.opened_laws.specs.Media.Scenes.{block_at}
 use Rattle.opened_laws.specs.Again.{AreOpenedAgain, IsBlockAgain, IsPieceAgain}
 use Rattle.opened_merge_laws.proofs.Again.{IsFirst, IsNone, by_items, none_first}
 use Rattle.sheet_laws.specs.Twins.{AreTwins}

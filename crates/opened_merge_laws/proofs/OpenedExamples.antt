@@ -12,7 +12,7 @@ use Rattle.css_model.specs.Documents.Document.{Document, Target, none}
 use Rattle.css_model.specs.Sheets.Sheet.{sheet_of}
 use Rattle.css_model.specs.Sheets.Spelling.{Block}
 use Rattle.media_groups.specs.Opened.{opened_of}
-use Rattle.media_laws.specs.Scenes.{KeptScene}
+use Rattle.opened_laws.specs.Media.Scenes.{KeptScene}
 use Rattle.opened_merge_laws.specs.Contents.{Opened, OpenedContent, Plain, opened_content, winner_in}
 use Rattle.opened_merge_laws.specs.Told.{items_opened}
 

@@ -12,7 +12,7 @@ use Rattle.css_model.specs.Sheets.KeptRuleParts.{KeptRuleParts}
 use Rattle.css_model.specs.Sheets.SheetParts.{SheetParts}
 use Rattle.css_model.specs.Text.Source.{text_at}
 use Rattle.media_groups.specs.declared.media.Media.{Media}
-use Rattle.media_laws.specs.Scenes.{BlocksWinAlike, IsSceneOf, KeptScene, kept_blocks}
+use Rattle.opened_laws.specs.Media.Scenes.{BlocksWinAlike, IsSceneOf, KeptScene, kept_blocks}
 use Rattle.opened_laws.specs.Again.{AreOpenedAgain, IsBlockAgain}
 use Rattle.opened_merge_laws.proofs.Again.{IsFirst, IsNone, by_items}
 use Rattle.opened_merge_laws.proofs.Winners.{twins_win_alike}

@@ -9,14 +9,14 @@ use Rattle.css_model.specs.Sheets.KeptItems.{kept_items}
 use Rattle.css_model.specs.Sheets.Sheet.{sheet_of}
 use Rattle.css_model.specs.Sheets.SheetParts.{SheetParts}
 use Rattle.css_model.specs.Text.Source.{text_at}
-use Rattle.limit_laws.specs.PairLimit.{PlannedComesFrom}
+use Rattle.plan_laws.specs.Limit.PairLimit.{PlannedComesFrom}
 use Rattle.media_groups.specs.declared.media.Media.{Media}
 use Rattle.media_groups.specs.Laws.{BlocksStay, IsBlockOf, MergedIsNoLonger, OpenedBlocksAreSheets}
 use Rattle.media_groups.specs.Opened.{opened_of}
 use Rattle.media_groups.specs.Printed.{printed_with}
 use Rattle.media_groups.proofs.ForCallers.{follow_kept}
-use Rattle.media_laws.specs.Lengths.{OpenedIsNoLonger}
-use Rattle.media_laws.specs.Scenes.{BlocksWinAlike, IsSceneOf, MergedSheetsWinAlike, ScenesGiveMeanings, kept_blocks, meanings_of}
+use Rattle.opened_laws.specs.Media.Lengths.{OpenedIsNoLonger}
+use Rattle.opened_laws.specs.Media.Scenes.{BlocksWinAlike, IsSceneOf, MergedSheetsWinAlike, ScenesGiveMeanings, kept_blocks, meanings_of}
 use Rattle.merge_laws.specs.Reading.{ReadKeepsTheLimits}
 use Rattle.opened_laws.specs.Again.{AreOpenedAgain, IsReadBackOpened, OpenedReadsBack}
 use Rattle.opened_merge_laws.specs.Contents.{HaveSameWinnersOpened, opened_content}

@@ -11,7 +11,7 @@ use Rattle.css_model.specs.Text.Source.{text_at}
 use Rattle.media_groups.specs.declared.media.Media.{Media}
 use Rattle.media_groups.specs.Opened.{opened_of}
 use Rattle.media_groups.specs.Printed.{blocks_at}
-use Rattle.media_laws.specs.Scenes.{IsSceneOf, KeptScene, block_at, kept_blocks, meanings_of}
+use Rattle.opened_laws.specs.Media.Scenes.{IsSceneOf, KeptScene, block_at, kept_blocks, meanings_of}
 use Rattle.order_laws.specs.Keeping.{AreRelated}
 
 -- What a kept item says (own): an opened block the kept text of its head and what the kept items of its body say; any other one

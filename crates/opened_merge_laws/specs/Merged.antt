@@ -7,7 +7,7 @@ use Rattle.css_model.specs.Sheets.SheetParts.{SheetParts}
 use Rattle.css_model.specs.Text.Source.{text_at}
 use Rattle.media_groups.specs.Opened.{opened_of}
 use Rattle.media_groups.specs.Printed.{IsSoundBody, printed_opened, printed_with}
-use Rattle.media_laws.specs.Scenes.{IsSceneOf, KeptScene}
+use Rattle.opened_laws.specs.Media.Scenes.{IsSceneOf, KeptScene}
 use Rattle.opened_laws.specs.Again.{AreOpenedAgain}
 use Rattle.opened_merge_laws.specs.Contents.{HaveSameWinnersOpened, opened_content}
 use Rattle.opened_merge_laws.specs.Plans.{AreBodyPlans, IsPlan}

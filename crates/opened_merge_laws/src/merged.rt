@@ -3,13 +3,15 @@
 ghost use Rattle.opened_merge_laws.specs.Merged.{PlannedIsMergedOpened};
 ghost use Rattle.opened_merge_laws.specs.Told.{PlannedIsToldOpened};
 
-use limit_laws::planned_comes_from;
 use media_groups::{blocks_stay, merged_is_no_longer, opened_blocks_are_sheets};
-use media_laws::{bodies_count_by_winners, opened_is_no_longer, scenes_give_meanings};
 use merge_laws::read_keeps_the_limits;
-use opened_laws::opened_reads_back;
+use opened_laws::{
+    bodies_count_by_winners, opened_is_no_longer, opened_reads_back, scenes_give_meanings,
+};
 use order_laws::keeping_keeps_winners;
-use plan_laws::{leading_keeps, twins_are_done, twins_but_blocks_are_done, twins_keep};
+use plan_laws::{
+    leading_keeps, planned_comes_from, twins_are_done, twins_but_blocks_are_done, twins_keep,
+};
 use sheet_laws::read_is_sound;
 
 /// Both laws, which stand on the same ones.

@@ -24,8 +24,8 @@ use Rattle.sheet_order.specs.Narrow.{CanBePlanned}
 use Rattle.step_laws.specs.declared.step.Step.{Step}
 use Rattle.step_laws.specs.Steps.{IsStep, last_item}
 use Rattle.step_obstacles.proofs.ForCallers.{stands_at, window_facts}
-use Rattle.window_laws.specs.StepWindows.{StepsHaveWindows, window_start}
-use Rattle.window_laws.specs.Windows.{WindowsTellPairs}
+use Rattle.plan_laws.specs.Window.StepWindows.{StepsHaveWindows, window_start}
+use Rattle.plan_laws.specs.Window.Windows.{WindowsTellPairs}
 use Rattle.window_order.proofs.ForCallers.{get_drop}
 use Rattle.window_order.specs.declared.window.Window.{Window}
 

@@ -15,8 +15,8 @@ use Rattle.step_laws.specs.declared.step.Step.{Step}
 use Rattle.step_laws.specs.Steps.{IsStep, last_item}
 use Rattle.step_obstacles.proofs.ForCallers.{reversed_from, reversed_to}
 use Rattle.step_obstacles.specs.StepWindow.{IsWindowFor}
-use Rattle.window_laws.specs.StepWindows.{StepsHaveWindows, window_start, first_left, first_part, last_left, last_part, middle_part}
-use Rattle.window_laws.specs.Windows.{IsWindow, WindowsTellPairs}
+use Rattle.plan_laws.specs.Window.StepWindows.{StepsHaveWindows, window_start, first_left, first_part, last_left, last_part, middle_part}
+use Rattle.plan_laws.specs.Window.Windows.{IsWindow, WindowsTellPairs}
 use Rattle.window_order.specs.declared.window.Window.{Window}
 use Rattle.window_order.specs.Reversed.{IsReversed}
 

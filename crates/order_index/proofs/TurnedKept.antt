@@ -19,8 +19,8 @@ use Rattle.step_laws.specs.declared.step.Step.{Step}
 use Rattle.step_laws.specs.Steps.{IsStep, last_item}
 use Rattle.step_obstacles.proofs.ForCallers.{WindowFacts, kept_at, kept_reversed_from, kept_reversed_to, kept_stands, kept_there, middle_same, number_of, window_facts}
 use Rattle.step_obstacles.specs.StepWindow.{IsWindowFor}
-use Rattle.window_laws.specs.StepWindows.{StepsHaveWindows, window_start, middle_start, first_left, first_part, last_left, last_part, middle_part}
-use Rattle.window_laws.specs.Windows.{IsWindow, WindowsTellKept}
+use Rattle.plan_laws.specs.Window.StepWindows.{StepsHaveWindows, window_start, middle_start, first_left, first_part, last_left, last_part, middle_part}
+use Rattle.plan_laws.specs.Window.Windows.{IsWindow, WindowsTellKept}
 use Rattle.window_order.specs.declared.window.Window.{Window}
 use Rattle.window_order.specs.Reversed.{IsKeptReversed, kept_number}
 

@@ -24,6 +24,7 @@ use item_masks::{ItemMask, item_masks};
 use merge_steps::changes;
 use order_laws::{listed_is_reversed, listed_stands_last, order_is_decided, weighing_is_decided};
 use overlap::Pairs;
+use plan_laws::{steps_have_windows, windows_tell_pairs};
 use print_laws::selectors_are_in_the_profile;
 use selector_laws::read_selectors_keep_the_limits;
 use sheet_order::{
@@ -32,7 +33,6 @@ use sheet_order::{
 use std::alloc::{AllocError, Global};
 use std::marker::Model;
 use step_laws::{Step, parts_are_few};
-use window_laws::{steps_have_windows, windows_tell_pairs};
 
 /// The pairs from the first one on that stands in the item of this number or behind it.
 fn from_item<'i, 'a>(pairs: &'i [Marked<'a>], item: usize) -> &'i [Marked<'a>]

@@ -9,6 +9,3 @@ mod step_window;
 mod turning;
 
 pub use index::Index;
-
-#[cfg(test)]
-mod tests;

@@ -8,7 +8,7 @@ ghost use Rattle.order_laws.specs.Reversed as order;
 use crate::marked::{Marked, MarkedKept};
 use crate::step_window::StepWindow;
 use order_laws::{order_is_decided, weighing_is_decided};
-use window_laws::{steps_have_windows, windows_tell_kept, windows_tell_pairs};
+use plan_laws::{steps_have_windows, windows_tell_kept, windows_tell_pairs};
 
 /// Whether a step reverses a pair that it moves and another pair of the sheet.
 #[tactic(auto, using(crate::proofs::Turned::turned_is, crate::proofs::Turned::not_weighing))]

@@ -5,7 +5,7 @@ use Rattle.css_model.specs.declared.selector.Simple.{Simple}
 use Rattle.css_model.specs.declared.selector.Test.{Test}
 use Rattle.css_model.specs.declared.selector.Test.TheVariants.{Any, Kind, Id, Attr, Nth, NthLast, OnlyChild, Root, Empty, State}
 use Rattle.element_laws.specs.Names as element
-use Rattle.profile_laws.specs.Named as profile
+use Rattle.pair_laws.specs.Profile.Named as profile
 
 named_test : (test : Test) → profile.HasName test → element.HasName test
 named_test Any h = h

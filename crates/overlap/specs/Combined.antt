@@ -10,7 +10,7 @@ use Rattle.css_model.specs.Documents.SelectorParts.{SelectorParts}
 use Rattle.clause_encode.specs.Fits.{IsSmallFormula, pair_formula}
 use Rattle.compound_fit.specs.Table.{IsTable}
 use Rattle.compound_fit.specs.TableParts.{TableParts}
-use Rattle.document_laws.specs.Laws.{ShowsMeeting}
+use Rattle.shape_laws.specs.Document.Laws.{ShowsMeeting}
 use Rattle.example_doc.specs.Built.{most_lines}
 use Rattle.sat_core.specs.Verdict.{HasNoModel}
 use Rattle.sat_watch.specs.Nonempty.{are_nonempty}

@@ -3,7 +3,7 @@ use Rattle.std.specs.Prelude.{◌≤◌, List, ◌++◌, length, Option}
 use Rattle.css_model.specs.Cascade.Order.{Meet as TheyMeet}
 use Rattle.css_model.specs.declared.selector.Pseudo.{Pseudo}
 use Rattle.css_model.specs.declared.selector.Simple.{Simple}
-use Rattle.document_laws.specs.Laws.{ShowsMeeting}
+use Rattle.shape_laws.specs.Document.Laws.{ShowsMeeting}
 use Rattle.single_examples.specs.Examples.{IsSingleExample}
 use Rattle.single_examples.specs.Laws.{single}
 use Rattle.overlap.specs.declared.answer.Answer.{Answer}

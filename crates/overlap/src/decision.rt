@@ -11,7 +11,7 @@ use crate::formula::decide_combined;
 use crate::single::{decide_single, only};
 use compound_fit::{FitError, FitTable};
 use css_model::{Pseudo, Selector};
-use profile_laws::{profile_has_names, profile_is_fittable, profile_keeps_the_limits};
+use pair_laws::{profile_has_names, profile_is_fittable, profile_keeps_the_limits};
 use slot_plan::{PairPlan, PlanError};
 use std::alloc::{AllocError, Global};
 

@@ -12,8 +12,9 @@ use clause_encode::encode;
 use compound_fit::FitTable;
 use css_model::{Example, Features};
 use example_doc::build;
-use pair_laws::meeting_satisfies_the_formula;
-use profile_laws::{profile_has_names, profile_is_fittable, profile_keeps_the_limits};
+use pair_laws::{
+    meeting_satisfies_the_formula, profile_has_names, profile_is_fittable, profile_keeps_the_limits,
+};
 use sat_core::{Verdict, solve};
 use shape_decode::decode_shape;
 use shape_laws::selectors_that_meet_have_a_shape;

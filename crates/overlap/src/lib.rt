@@ -1,4 +1,4 @@
-//! Whether two selectors meet: some document has an element that both match. Answers with evidence, which are
+//! Whether two selectors meet: some legal document has an element that both match. Answers with evidence, which are
 //! remembered.
 #![tactic(auto)]
 
@@ -13,6 +13,3 @@ mod store;
 pub use answer::{Answer, NO_SPACE_LEFT, TOO_MANY_STEPPED};
 pub use laws::{apart_selectors_do_not_meet, reasons_are_defined};
 pub use pairs::Pairs;
-
-#[cfg(test)]
-mod tests;

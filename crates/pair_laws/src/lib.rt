@@ -1,6 +1,9 @@
-//! What the formula of a pair says of documents: a law, as the contract of a function that does nothing.
+//! Laws on pairs of selectors: what the formula of a pair says of documents, and what every selector of the profile
+//! keeps to. Each is the contract of a function that does nothing.
 #![tactic(auto)]
 
 mod laws;
+mod profiles;
 
 pub use laws::meeting_satisfies_the_formula;
+pub use profiles::{profile_has_names, profile_is_fittable, profile_keeps_the_limits};

@@ -6,7 +6,7 @@ use Rattle.css_model.specs.declared.sheet.Item.{Item}
 use Rattle.order_laws.proofs.ForCallers.{instead_here, instead_there, unchanged}
 use Rattle.order_laws.specs.Edits.{Change, Edit, slots_from}
 use Rattle.order_laws.specs.Slots.{new_items}
-use Rattle.wall_laws.specs.Renumbering.{Leaves, new_number}
+use Rattle.plan_laws.specs.Wall.Renumbering.{Leaves, new_number}
 use Rattle.plan_board.specs.declared.marks.Mark.{Mark}
 use Rattle.plan_board.specs.BoardParts.{BoardParts}
 use Rattle.plan_board.specs.Marking.{AreKept, AreRenewed, IsLeft}

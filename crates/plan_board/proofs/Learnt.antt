@@ -11,8 +11,8 @@ use Rattle.hold_laws.specs.Ways.{IsMove}
 use Rattle.order_laws.specs.Edits.{Edit, edited}
 use Rattle.step_laws.specs.declared.step.Step.{Step}
 use Rattle.step_laws.specs.Steps.{IsStep, first_item, last_item}
-use Rattle.wall_laws.specs.Renumbering.{Leaves, new_number}
-use Rattle.wall_laws.specs.SideBySide.{HasCome}
+use Rattle.plan_laws.specs.Wall.Renumbering.{Leaves, new_number}
+use Rattle.plan_laws.specs.Wall.SideBySide.{HasCome}
 use Rattle.plan_board.specs.BoardParts.{BoardParts}
 use Rattle.plan_board.specs.declared.facts.Facts.{Facts}
 use Rattle.plan_board.specs.declared.marks.Mark.{Mark}

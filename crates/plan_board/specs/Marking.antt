@@ -4,7 +4,7 @@ use Rattle.std.specs.List.{All}
 use Rattle.order_laws.specs.Edits.{Edit}
 use Rattle.step_laws.specs.declared.step.Step.{Step}
 use Rattle.step_laws.specs.declared.step.Step.TheVariants.{CutDecl, CutSel, JoinSelUp, JoinSelDown, JoinDeclUp, JoinDeclDown, Share}
-use Rattle.wall_laws.specs.Renumbering.{Leaves, new_number}
+use Rattle.plan_laws.specs.Wall.Renumbering.{Leaves, new_number}
 use Rattle.plan_board.specs.declared.marks.Mark.{Mark}
 use Rattle.plan_board.specs.BoardParts.{BoardParts}
 use Rattle.plan_board.specs.MarkList.{IsLabelAt}

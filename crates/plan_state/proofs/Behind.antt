@@ -12,7 +12,7 @@ use Rattle.css_model.specs.declared.sheet.Item.{Item}
 use Rattle.list_facts.proofs.Elements.{member}
 use Rattle.order_laws.specs.Edits.{Change, Edit, edited, instead, slots_from}
 use Rattle.order_laws.specs.Slots.{new_items}
-use Rattle.wall_laws.specs.Renumbering.{Leaves, new_number}
+use Rattle.plan_laws.specs.Wall.Renumbering.{Leaves, new_number}
 
 -- ---- Lists
 

@@ -19,7 +19,7 @@ use Rattle.plan_state.proofs.Weighed.{are_weighed, birth_at, still_weighed}
 use Rattle.step_laws.specs.declared.step.Step.{Step}
 use Rattle.step_laws.specs.Steps.{IsStep}
 use Rattle.step_savings.specs.Weighing.{IsWeighable}
-use Rattle.wall_laws.specs.Renumbering.{ItemsStay, new_number}
+use Rattle.plan_laws.specs.Wall.Renumbering.{ItemsStay, new_number}
 
 module _ (source : List ℕ) (old new : BoardParts) (e : Edit) (marked : IsMarked old) (kept : AreKept old new e) (items_are : new.items ≡ edited e old.items) where
   -- what stands there was born before, if the edit left it

@@ -11,7 +11,7 @@ use Rattle.plan_board.specs.MarkList.{births_of, labels_of}
 use Rattle.plan_laws.specs.Plannable.{IsPlannable}
 use Rattle.rule_tables.specs.Tables.{Cover, labelled}
 use Rattle.step_laws.specs.Free.{Answered}
-use Rattle.wall_laws.specs.Holding.{Aside}
+use Rattle.plan_laws.specs.Wall.Holding.{Aside}
 use Rattle.plan_state.specs.PlanParts.{PlanParts}
 
 -- a board whose sheet can be planned, with what goes with it

@@ -22,9 +22,9 @@ use lead_laws::{cover_goes_on, homes_go_on, taken_is_known, walls_go_over};
 use merge_plan::KnownLengths;
 use merge_steps::apply;
 use plan_board::Board;
+use plan_laws::items_stay;
 use std::alloc::{AllocError, Global};
 use step_laws::{Step, each_is_made_of_itself, steps_make_of};
-use wall_laws::items_stay;
 
 /// Whether a step can be taken in place: a sheet may have two more items, and labels and births are left.
 fn has_room(board: &Board, step: &Step) -> bool

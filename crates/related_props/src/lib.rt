@@ -12,6 +12,3 @@ mod table;
 pub use families::{family, related};
 pub use laws::{all_is_related, related_is_reflexive, related_is_symmetric};
 pub use masks::{decl_mask, item_mask, item_masks, mask_of_items};
-
-#[cfg(test)]
-mod tests;

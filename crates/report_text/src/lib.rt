@@ -8,6 +8,3 @@ mod lines;
 
 pub use explaining::{Explanation, Word, explained};
 pub use lines::report;
-
-#[cfg(test)]
-mod tests;

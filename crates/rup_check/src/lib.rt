@@ -18,6 +18,3 @@ pub use laws::{checked_log_refutes, ledgers_are_logs, printed_logs_read_back, re
 pub use log::{Checked, Log, LogError};
 pub use print::print_log;
 pub use read::read_log;
-
-#[cfg(test)]
-mod tests;

@@ -12,7 +12,7 @@ use Rattle.css_model.specs.Sheets.RuleParts.{RuleParts}
 use Rattle.css_model.specs.Text.Source.{text_at}
 use Rattle.media_groups.specs.declared.media.Media.{Media}
 use Rattle.media_groups.specs.Printed.{blocks_at}
-use Rattle.media_laws.specs.Scenes.{block_at}
+use Rattle.opened_laws.specs.Media.Scenes.{block_at}
 use Rattle.order_laws.specs.Keeping.{KeepingIsMutual}
 use Rattle.overlap.specs.PairsParts.{PairsParts}
 use Rattle.overlap.specs.Remembered.{IsTrueList}

@@ -14,7 +14,7 @@ use Rattle.css_model.specs.Sheets.Spelling.{Content, content}
 use Rattle.css_model.specs.Text.Source.{text_at}
 use Rattle.media_groups.specs.declared.media.Media.{Media}
 use Rattle.media_groups.specs.Printed.{blocks_at}
-use Rattle.media_laws.specs.Scenes.{KeptScene, IsSceneOf, block_at, kept_blocks, BlocksWinAlike}
+use Rattle.opened_laws.specs.Media.Scenes.{KeptScene, IsSceneOf, block_at, kept_blocks, BlocksWinAlike}
 use Rattle.order_laws.specs.Keeping.{AreRelated, KeepingKeepsWinners}
 use Rattle.same_laws.proofs.Alike.{AreBlocksAlike, AreItemsAlike}
 

@@ -7,7 +7,7 @@ use Rattle.css_model.specs.Documents.Document.{Document, Target, IsLegal}
 use Rattle.css_model.specs.Sheets.KeptItems.{kept_items}
 use Rattle.media_groups.specs.declared.media.Media.{Media}
 use Rattle.media_groups.specs.Opened.{opened_of}
-use Rattle.media_laws.specs.Scenes.{KeptScene, IsSceneOf, kept_blocks, meanings_of, ScenesGiveMeanings, BlocksWinAlike, MergedSheetsWinAlike}
+use Rattle.opened_laws.specs.Media.Scenes.{KeptScene, IsSceneOf, kept_blocks, meanings_of, ScenesGiveMeanings, BlocksWinAlike, MergedSheetsWinAlike}
 use Rattle.order_laws.specs.Comparing.{OrderIsDecided, WeighingIsDecided}
 use Rattle.order_laws.specs.Keeping.{AreRelated, KeepingIsMutual, KeepingKeepsWinners}
 use Rattle.order_laws.specs.Places.{ListedStandsLast}

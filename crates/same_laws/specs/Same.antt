@@ -6,7 +6,7 @@ use Rattle.css_model.specs.Cascade.Winner.{Understood, winner}
 use Rattle.css_model.specs.Documents.Document.{Document, Target, IsLegal}
 use Rattle.media_groups.specs.declared.media.Media.{Media}
 use Rattle.media_groups.specs.Opened.{opened_of}
-use Rattle.media_laws.specs.Scenes.{KeptScene, IsSceneOf, kept_blocks, meanings_of}
+use Rattle.opened_laws.specs.Media.Scenes.{KeptScene, IsSceneOf, kept_blocks, meanings_of}
 use Rattle.order_laws.specs.Keeping.{AreRelated}
 use Rattle.overlap.specs.PairsParts.{PairsParts}
 use Rattle.overlap.specs.Remembered.{IsTrueList}
@@ -36,7 +36,7 @@ SameSheetsHaveOneScene = (source : List ℕ) (s : List Item) (other : List ℕ) 
 abbrev pub opened_blocks : List ℕ → List Item → List (Option Media)
 opened_blocks source items = kept_blocks (opened_of items source) items
 
--- They style every page alike: in each legal document, for each target, of all understood declarations that compete, and in each
+-- They have the same winners: in each legal document, for each target, of all understood declarations that compete, and in each
 -- scene the same declaration wins (CSS Cascading 3, section 6).
 abbrev pub SameSheetsWinAlike : Type 0
 SameSheetsWinAlike = (source : List ℕ) (s : List Item) (other : List ℕ) (t : List Item) → AreSame source s other t →

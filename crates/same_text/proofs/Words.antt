@@ -15,7 +15,7 @@ use Rattle.css_model.specs.Cascade.Order.{Pair, Weigh}
 use Rattle.css_model.specs.Documents.SelectorParts.{SelectorParts}
 use Rattle.css_model.specs.Text.Source.{text_at}
 use Rattle.doc_text.specs.DocText.{doc_text}
-use Rattle.document_laws.specs.Laws.{ShowsMeeting}
+use Rattle.shape_laws.specs.Document.Laws.{ShowsMeeting}
 use Rattle.media_groups.specs.declared.media.Media.{Media}
 use Rattle.media_groups.specs.Opened.{opened_of}
 use Rattle.order_laws.specs.Comparing.{WeighingIsDecided}

@@ -16,7 +16,7 @@ use Rattle.sheet_same.specs.Compared.{IsDifference}
 use Rattle.why_text.specs.Laws.{ShowsOrder}
 use Rattle.why_text.specs.PairTexts.{StandAt}
 
--- Two sheets of which `same` is told style every page alike.
+-- Two sheets of which `same` is told have the same winners in every legal document.
 abbrev pub SameTextsWinAlike : Type 0
 SameTextsWinAlike = (source other : List ℕ) (pairs : PairsParts) (text : List ℕ) (compared : AreCompared source other pairs text) → text ≡ codes "same\n" →
     AreSame source compared.first other compared.second

@@ -5,7 +5,7 @@ ghost use Rattle.same_text.specs.Laws.{ReversedPairsShowOrder, SameTextsWinAlike
 use cascade_laws::{matching_is_decided, understanding_is_decided};
 use order_laws::{listed_stands_last, weighing_is_decided};
 
-/// Two sheets of which `same` is told style every page alike, as `same_sheets_win_alike` says.
+/// Two sheets of which `same` is told have the same winners in every legal document, as `same_sheets_win_alike` says.
 pub fn same_texts_win_alike()
     ensures { SameTextsWinAlike }
 {}

@@ -9,6 +9,3 @@ mod telling;
 pub use error::SameError;
 pub use laws::{reversed_pairs_show_order, same_texts_win_alike};
 pub use lines::{MAX_BOTH, same_lines};
-
-#[cfg(test)]
-mod tests;

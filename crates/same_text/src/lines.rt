@@ -166,8 +166,8 @@ fn too_long() -> SheetFault
 }
 
 /// Compares two style sheets, of which the first one has the first `split` bytes of the text and the second one the
-/// others, and prints what is found: `same` where they style every page alike; `missing RULE` with a pair that the
-/// second one lacks, and `extra RULE` with one that it has besides, as a rule; `kept N` where the kept items of this
+/// others, and prints what is found: `same` where they have the same winners in every legal document; `missing RULE`
+/// with a pair that the second one lacks, and `extra RULE` with one that it has besides, as a rule; `kept N` where the kept items of this
 /// number, from 1, differ, or are in another order with a pair; `reversed`, two pairs in another order, each as a
 /// rule, and a document in which the marked element matches both selectors; `unsure R` where two selectors are not
 /// compared, with the number of the reason; and `unsure spent` where the budget of the pairs was spent for them.

@@ -6,6 +6,3 @@ mod links;
 mod words;
 
 pub use arena::Arena;
-
-#[cfg(test)]
-mod tests;

@@ -14,6 +14,3 @@ mod verdict;
 pub use laws::ledger_is_short;
 pub use solver::solve;
 pub use verdict::Verdict;
-
-#[cfg(test)]
-mod tests;

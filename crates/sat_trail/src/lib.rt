@@ -10,6 +10,3 @@ mod trail;
 
 pub use entry::Entry;
 pub use trail::Trail;
-
-#[cfg(test)]
-mod tests;

@@ -19,6 +19,3 @@ mod types;
 
 pub use error::SelError;
 pub use parse::{parse_selector, read_selector};
-
-#[cfg(test)]
-mod tests;

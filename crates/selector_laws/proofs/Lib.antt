@@ -10,3 +10,4 @@ mod Lists
 mod PositionLemmas
 mod ReadStates
 mod ReadTests
+mod Reason

@@ -1,3 +1,4 @@
 pub mod Grammar
 pub mod Limits
 pub mod Positions
+pub mod Reason

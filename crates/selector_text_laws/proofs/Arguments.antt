@@ -19,8 +19,8 @@ use Rattle.css_model.specs.Text.Characters.{backslash}
 use Rattle.css_model.specs.Text.Kept.{Solid}
 use Rattle.css_model.specs.Text.Names.{is_url, unescaped}
 use Rattle.nth_positions.proofs.ForCallers.{none_is_no_some, one_is, same_if_read_in_range, text_splits}
-use Rattle.notation_laws.specs.Printed.{IsSized}
-use Rattle.notation_laws.proofs.ForCallers.{text_is_shortest}
+use Rattle.selector_text_laws.specs.Notation.Printed.{IsSized}
+use Rattle.selector_text_laws.proofs.Notation.Shortest.{text_is_shortest}
 use Rattle.selector_laws.proofs.ForCallers.{word_apart}
 use Rattle.selector_text_laws.specs.Back.{argument, if_read, is_closing}
 

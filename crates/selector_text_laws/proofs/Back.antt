@@ -23,8 +23,8 @@ use Rattle.css_model.specs.Text.Lexemes.{is_delim_of, is_sign_of}
 use Rattle.css_model.specs.declared.reason.Reason.TheVariants.{NotAllowed, PositionOutOfRange}
 use Rattle.css_model.specs.Positions.Range.{is_in_range}
 use Rattle.token_laws.specs.Solids.{closed}
-use Rattle.notation_laws.proofs.ForCallers.{text_is_read}
-use Rattle.notation_laws.specs.Tokens.{is_word_kind}
+use Rattle.selector_text_laws.proofs.Notation.Shapes.{text_is_read}
+use Rattle.selector_text_laws.specs.Notation.Tokens.{is_word_kind}
 use Rattle.selector_laws.proofs.ForCallers.{word_apart}
 use Rattle.selector_text_laws.specs.Back.{IsClosableSolid, back_from, back_of, back_with}
 use Rattle.selector_text_laws.proofs.Terms.{Fits, has_argument}

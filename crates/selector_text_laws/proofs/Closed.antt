@@ -12,7 +12,7 @@ use Rattle.css_model.specs.Selectors.Tokens.{is_function, selector_token}
 use Rattle.css_model.specs.Text.Characters.{close_round}
 use Rattle.css_model.specs.Text.Kept.{Solid}
 use Rattle.token_laws.specs.Solids.{ends_called}
-use Rattle.notation_laws.specs.Tokens.{is_word_kind}
+use Rattle.selector_text_laws.specs.Notation.Tokens.{is_word_kind}
 use Rattle.selector_text_laws.specs.Back.{AreShallow, back_from, back_of, back_with, is_selector_kind}
 use Rattle.selector_text_laws.proofs.Terms.{Fits, Walk, closers_behind, depth_after, depth_behind_by, is_of_selector, reach}
 use Rattle.selector_text_laws.specs.Closed.{closers_after}

@@ -13,3 +13,4 @@ pub mod Spelled
 pub mod Terms
 pub mod Together
 pub mod Utf8
+mod Notation

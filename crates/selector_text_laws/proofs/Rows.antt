@@ -14,7 +14,7 @@ use Rattle.token_laws.proofs.ForCallers.{KeptRow, IsToken, token}
 use Rattle.token_laws.proofs.ForCallers.{first_of}
 use Rattle.token_laws.proofs.ForCallers.{ends_front}
 use Rattle.token_laws.proofs.ForCallers.{part_again}
-use Rattle.notation_laws.specs.Tokens.{StandsBeforeSigns}
+use Rattle.selector_text_laws.specs.Notation.Tokens.{StandsBeforeSigns}
 use Rattle.selector_text_laws.specs.Together.{together}
 use Rattle.selector_text_laws.proofs.Together.{together_ends_alike, looks_function}
 

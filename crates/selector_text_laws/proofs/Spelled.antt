@@ -26,13 +26,13 @@ use Rattle.css_tokens.proofs.ForCallers.{lexed_are_parts}
 use Rattle.token_laws.proofs.ForCallers.{PartIs, part_is, is_gap, first_of}
 use Rattle.token_laws.proofs.ForCallers.{lone_gap, nothing_first, sign-text, take_none}
 use Rattle.css_model.specs.Positions.Printed.{anb_text}
-use Rattle.notation_laws.specs.Printed.{IsSized}
-use Rattle.notation_laws.specs.Tokens.{IsWord, StandsBeforeSigns, is_word_kind}
+use Rattle.selector_text_laws.specs.Notation.Printed.{IsSized}
+use Rattle.selector_text_laws.specs.Notation.Tokens.{IsWord, StandsBeforeSigns, is_word_kind}
 use Rattle.selector_text_laws.proofs.Left.{SelectorsAreLexed, argument_or_gap, left_from, left_of, left_with, behind_text, spelled_from}
 use Rattle.selector_text_laws.specs.Back.{argument, is_closing, own_tokens, skipped}
 use Rattle.selector_text_laws.specs.Text.{parts_behind, parts_for}
 use Rattle.selector_text_laws.specs.Together.{ending_bytes, is_dashes, is_numeric, is_one_of, lone_bytes, together}
-use Rattle.notation_laws.proofs.ForCallers.{text_stands}
+use Rattle.selector_text_laws.proofs.Notation.Tokens.{text_stands}
 use Rattle.selector_text_laws.proofs.Arguments.{argument_is}
 use Rattle.selector_text_laws.proofs.Rows.{argument_row, together_row}
 use Rattle.selector_text_laws.proofs.Together.{IsLooking, plain_byte, sign_byte, each_of, looking}

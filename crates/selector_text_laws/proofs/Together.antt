@@ -22,7 +22,7 @@ use Rattle.css_tokens.proofs.ForCallers.{symbol_number}
 use Rattle.token_laws.proofs.ForCallers.{shape_parts}
 use Rattle.nth_positions.proofs.ForCallers.{both_are, one_is}
 use Rattle.selector_text_laws.specs.Together.{lone_bytes, ending_bytes, is_one_of, is_numeric, is_dashes, together, TogetherEndsAlike, TogetherStands}
-use Rattle.notation_laws.proofs.ForCallers.{pick}
+use Rattle.selector_text_laws.proofs.Notation.Tokens.{pick}
 
 -- ---- what is no number begins none
 

@@ -17,8 +17,8 @@ use Rattle.css_model.specs.Text.Kept.{Solid, is_lone, is_open, is_white_gap}
 use Rattle.css_model.specs.Text.Lexemes.{is_white_kind}
 use Rattle.css_model.specs.Text.Tokens.{Part}
 use Rattle.css_tokens.proofs.ForCallers.{lexed_whole}
-use Rattle.notation_laws.specs.Printed.{IsSized}
-use Rattle.notation_laws.proofs.ForCallers.{text_stands}
+use Rattle.selector_text_laws.specs.Notation.Printed.{IsSized}
+use Rattle.selector_text_laws.proofs.Notation.Tokens.{text_stands}
 use Rattle.token_laws.specs.Solids.{closed, gap_before, solids}
 use Rattle.selector_text_laws.proofs.Arguments.{argument_is}
 use Rattle.selector_text_laws.proofs.Spelled.{own_is}

@@ -10,6 +10,3 @@ mod slots;
 mod values;
 
 pub use decode::decode_shape;
-
-#[cfg(test)]
-mod tests;

@@ -5,3 +5,4 @@ mod Shaping
 mod Slots
 mod Visits
 pub mod ForCallers
+mod Document

@@ -27,6 +27,3 @@ pub use reversing::{narrow_all, narrow_place, ordered, reversed};
 pub use sorting::{ascending, exceeds};
 pub use step_laws::BlockCause;
 pub use taking::moved_pairs;
-
-#[cfg(test)]
-mod tests;

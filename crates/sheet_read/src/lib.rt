@@ -13,6 +13,3 @@ mod values;
 
 pub use fault::SheetError;
 pub use read::read_sheet;
-
-#[cfg(test)]
-mod tests;

@@ -28,7 +28,7 @@ pub enum Compared {
     Unsure(u32),
 }
 
-/// What is found in two sheets or in the bodies of their opened blocks. Where nothing is, they style every page alike.
+/// What is found in two sheets or in the bodies of their opened blocks. Where nothing is, the winners are the same.
 #[derive(Debug, PartialEq, Eq, Drop)]
 pub struct Difference {
     /// What is found; its places are those of the sheets, or of the bodies in which it is found.

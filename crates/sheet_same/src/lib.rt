@@ -15,6 +15,3 @@ mod weight;
 pub use compared::{Compared, Difference};
 pub use comparing::compare;
 pub use sheet_order::PairPlace;
-
-#[cfg(test)]
-mod tests;

@@ -6,6 +6,3 @@ mod scan;
 mod side;
 
 pub use least::{Siblings, least_siblings};
-
-#[cfg(test)]
-mod tests;

@@ -4,7 +4,7 @@ use Rattle.std.specs.Prelude.{Contains}
 use Rattle.std.specs.List.{list_any}
 use Rattle.std.proofs.lemmas.List.Elements.{Contains-append_right, Contains-get_or}
 use Rattle.css_model.specs.declared.selector.Simple.{Simple}
-use Rattle.document_laws.specs.SlotElements.{asks_for_content}
+use Rattle.shape_laws.specs.Document.SlotElements.{asks_for_content}
 use Rattle.element_laws.proofs.ForCallers.{any_some}
 use Rattle.slot_plan.specs.ValidShape.{EmptyFits, is_empty_test}
 use Rattle.single_examples.specs.Trying.{asks_for_none}

@@ -8,7 +8,7 @@ use Rattle.css_model.specs.Documents.FeatureParts.{FeatureParts}
 use Rattle.css_model.specs.Documents.Features.{element_of}
 use Rattle.css_model.specs.Documents.RunDocuments.{AreRunFeatures}
 use Rattle.compound_fit.specs.Fitting.{AreFeatures}
-use Rattle.document_laws.specs.SlotElements.{SuitsSlot}
+use Rattle.shape_laws.specs.Document.SlotElements.{SuitsSlot}
 use Rattle.element_laws.proofs.ForCallers.{kind_full, names_full, suits_same}
 use Rattle.element_laws.specs.Names.{HaveNames}
 use Rattle.single_examples.specs.Examples.{with_text}

@@ -7,8 +7,8 @@ use Rattle.css_model.specs.declared.selector.Simple.{Simple}
 use Rattle.css_model.specs.Documents.FeatureParts.{FeatureParts}
 use Rattle.css_model.specs.Documents.Features.{CanSuit}
 use Rattle.css_model.specs.Documents.SelectorParts.{SelectorParts}
-use Rattle.document_laws.specs.SlotElements.{AreSlotElements, SuitsSlot, own_id}
-use Rattle.document_laws.specs.Trees.{example_of}
+use Rattle.shape_laws.specs.Document.SlotElements.{AreSlotElements, SuitsSlot, own_id}
+use Rattle.shape_laws.specs.Document.Trees.{example_of}
 use Rattle.slot_plan.specs.Positions.{PositionFits}
 use Rattle.slot_plan.specs.ShapeParts.{ShapeParts}
 use Rattle.slot_plan.specs.Steps.{is_parent}

@@ -7,7 +7,7 @@ use Rattle.css_model.specs.declared.selector.Simple.{Simple}
 use Rattle.css_model.specs.Documents.FeatureParts.{FeatureParts}
 use Rattle.css_model.specs.Documents.Features.{CanSuit, element_of}
 use Rattle.compound_fit.specs.Fitting.{AreFeatures}
-use Rattle.document_laws.specs.Laws.{ShapesShowMeeting, ShowsMeeting}
+use Rattle.shape_laws.specs.Document.Laws.{ShapesShowMeeting, ShowsMeeting}
 use Rattle.element_laws.specs.Names.{HasName, HaveNames}
 use Rattle.slot_plan.specs.ValidShape.{EmptyFits}
 use Rattle.sibling_counts.specs.Places.{AreLeast, ChildPasses, NoChildPasses}

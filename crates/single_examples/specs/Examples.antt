@@ -8,8 +8,8 @@ use Rattle.css_model.specs.declared.selector.Pseudo.{Pseudo}
 use Rattle.css_model.specs.declared.selector.Simple.{Simple}
 use Rattle.css_model.specs.Documents.FeatureParts.{FeatureParts}
 use Rattle.compound_fit.specs.Fitting.{AreFeatures}
-use Rattle.document_laws.specs.SlotElements.{asks_for_content}
-use Rattle.document_laws.specs.Trees.{plain}
+use Rattle.shape_laws.specs.Document.SlotElements.{asks_for_content}
+use Rattle.shape_laws.specs.Document.Trees.{plain}
 use Rattle.slot_plan.specs.Positions.{PositionFits}
 use Rattle.sibling_counts.specs.Places.{AreLeast, NoChildPasses}
 

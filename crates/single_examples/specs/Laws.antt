@@ -6,7 +6,7 @@ use Rattle.css_model.specs.declared.selector.Pseudo.{Pseudo}
 use Rattle.css_model.specs.declared.selector.Simple.{Simple}
 use Rattle.css_model.specs.Documents.Features.{CanSuit}
 use Rattle.css_model.specs.Documents.SelectorParts.{SelectorParts}
-use Rattle.document_laws.specs.Laws.{ShowsMeeting}
+use Rattle.shape_laws.specs.Document.Laws.{ShowsMeeting}
 use Rattle.element_laws.specs.Names.{HaveNames}
 use Rattle.sibling_counts.specs.Places.{ChildPasses}
 use Rattle.slot_plan.specs.ValidShape.{EmptyFits}

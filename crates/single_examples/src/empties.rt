@@ -1,7 +1,7 @@
 //! `:empty` and its negation (Selectors 3, section 6.6.5.12).
 
 ghost use Rattle.std.specs.Prelude.{◌≡◌, ◌&&◌, ◌++◌, false, IsTrue, ◌↔◌};
-ghost use Rattle.document_laws.specs.SlotElements.{asks_for_content};
+ghost use Rattle.shape_laws.specs.Document.SlotElements.{asks_for_content};
 ghost use Rattle.slot_plan.specs.ValidShape.{EmptyFits, is_empty_test};
 ghost use Rattle.single_examples.specs.Trying.{asks_for_none};
 

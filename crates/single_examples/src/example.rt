@@ -1,7 +1,7 @@
 //! The first of three documents in which an element passes.
 
 ghost use Rattle.std.specs.Prelude.{◌≡◌, ◌++◌, ◌∷◌, [], ℕ, ◌<◌, ◌^◌, zero, suc, length, IfOk, OnOk};
-ghost use Rattle.document_laws.specs.Trees.{plain};
+ghost use Rattle.shape_laws.specs.Document.Trees.{plain};
 ghost use Rattle.sibling_counts.specs.Places.{AreFew};
 ghost use Rattle.single_examples.specs.Examples.{child_example, plain_lines, root_example, with_text};
 ghost use Rattle.single_examples.specs.Trying.{IsTried};

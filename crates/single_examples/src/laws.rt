@@ -2,8 +2,7 @@
 
 ghost use Rattle.single_examples.specs.Laws.{ExamplesShowMeeting, MeetingPasses};
 
-use document_laws::shapes_show_meeting;
-use shape_laws::selectors_that_meet_have_a_shape;
+use shape_laws::{selectors_that_meet_have_a_shape, shapes_show_meeting};
 
 /// The example for two selectors of one compound each shows that they meet.
 pub fn examples_show_meeting()

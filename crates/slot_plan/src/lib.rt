@@ -9,6 +9,3 @@ mod stepped;
 
 pub use plan::{PairPlan, PlanError};
 pub use shape::{Shape, SlotStep};
-
-#[cfg(test)]
-mod tests;

@@ -30,7 +30,7 @@ use Rattle.step_laws.specs.StepEdits.{shared}
 use Rattle.step_laws.specs.Steps.{IsStep, edit_of, first_item, last_item}
 use Rattle.step_savings.proofs.ForCallers.{edit_is}
 use Rattle.step_obstacles.proofs.Masked.{mask_at}
-use Rattle.window_laws.specs.StepWindows.{first_left, last_left}
+use Rattle.plan_laws.specs.Window.StepWindows.{first_left, last_left}
 use Rattle.window_order.specs.Left.{Covers}
 
 -- ---- Bits

@@ -33,9 +33,9 @@ use Rattle.step_obstacles.specs.Blocked.{AllPass, AreAnswered, IsFound, IsTold}
 use Rattle.step_obstacles.specs.declared.facing.Source.{Source}
 use Rattle.step_obstacles.specs.StepWindow.{AreMoving, IsOfSource, IsToldBy, IsWindowFor}
 use Rattle.step_obstacles.specs.Turns.{OfItem, OfNumber, OfSelectors, OfWindow, is_common, pair_of, with_kept}
-use Rattle.wall_laws.specs.Holding.{Hindrance, OfPair, OfKept, Hinders}
-use Rattle.window_laws.specs.StepWindows.{StepsHaveWindows, window_start, middle_start, first_left, last_left, first_part, middle_part, last_part}
-use Rattle.window_laws.specs.Windows.{IsWindow, WindowsTellPairs, WindowsTellKept}
+use Rattle.plan_laws.specs.Wall.Holding.{Hindrance, OfPair, OfKept, Hinders}
+use Rattle.plan_laws.specs.Window.StepWindows.{StepsHaveWindows, window_start, middle_start, first_left, last_left, first_part, middle_part, last_part}
+use Rattle.plan_laws.specs.Window.Windows.{IsWindow, WindowsTellPairs, WindowsTellKept}
 use Rattle.window_order.proofs.ForCallers.{at_range}
 use Rattle.window_order.specs.declared.window.Window.{Window}
 use Rattle.window_order.specs.Reversed.{IsReversed, IsKeptReversed, behind_of, first_of, kept_number, middle_of, new_of, old_of}

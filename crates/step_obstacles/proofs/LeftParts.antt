@@ -16,7 +16,7 @@ use Rattle.step_laws.specs.declared.step.Step.{Step}
 use Rattle.step_laws.specs.RuleParting.{common_decls, rule_or_none, without_decls}
 use Rattle.step_laws.specs.Steps.{IsStep, edit_of, first_item, last_item}
 use Rattle.step_savings.proofs.ForCallers.{edit_is}
-use Rattle.window_laws.specs.StepWindows.{first_left, last_left}
+use Rattle.plan_laws.specs.Window.StepWindows.{first_left, last_left}
 
 -- ---- Lists
 

@@ -14,7 +14,7 @@ use Rattle.step_laws.specs.declared.step.Step.{Step}
 use Rattle.step_laws.specs.declared.step.Step.TheVariants.{CutDecl, CutSel, JoinSelUp, JoinSelDown, JoinDeclUp, JoinDeclDown, Share}
 use Rattle.step_laws.specs.RuleParting.{common_decls, item_if_any, rule_or_none, without_decls}
 use Rattle.step_laws.specs.Steps.{IsStep, last_item}
-use Rattle.window_laws.specs.StepWindows.{window_start, middle_start, first_left}
+use Rattle.plan_laws.specs.Window.StepWindows.{window_start, middle_start, first_left}
 use Rattle.window_order.specs.Between.{AreBetween}
 
 -- ---- Lists

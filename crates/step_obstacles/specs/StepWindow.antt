@@ -17,7 +17,7 @@ use Rattle.sheet_order.specs.declared.places.Moved.{Moved}
 use Rattle.sheet_order.specs.declared.places.Moved.TheVariants as moved
 use Rattle.step_obstacles.specs.Blocked.{IsToldOf}
 use Rattle.step_obstacles.specs.Turns.{OfWindow, is_common}
-use Rattle.window_laws.specs.StepWindows.{window_start, middle_start, first_left, last_left}
+use Rattle.plan_laws.specs.Window.StepWindows.{window_start, middle_start, first_left, last_left}
 use Rattle.window_order.specs.declared.window.Window.{Window}
 use Rattle.window_order.specs.Left.{items_of}
 

@@ -28,7 +28,7 @@ use Rattle.step_obstacles.specs.declared.facing.Met.{Met}
 use Rattle.step_obstacles.specs.declared.facing.MovedDecl.{MovedDecl}
 use Rattle.step_obstacles.specs.declared.facing.Source.{Source}
 use Rattle.step_obstacles.specs.declared.window_search.Span.{Span}
-use Rattle.wall_laws.specs.Holding.{Hindrance, OfPair, OfKept}
+use Rattle.plan_laws.specs.Wall.Holding.{Hindrance, OfPair, OfKept}
 use Rattle.window_order.specs.declared.window.Window.{Window}
 use Rattle.window_order.specs.Weighing.{DeclsWeigh}
 

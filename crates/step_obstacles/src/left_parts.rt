@@ -8,7 +8,7 @@ ghost use Rattle.step_laws.specs.RuleParting as parting;
 ghost use Rattle.step_laws.specs.StepEdits as edits;
 ghost use Rattle.step_laws.specs.Steps.{HasStep, IsStep, edit_of};
 ghost use Rattle.step_savings.specs.CutParts.{HasPart};
-ghost use Rattle.window_laws.specs.StepWindows as windows;
+ghost use Rattle.plan_laws.specs.Window.StepWindows as windows;
 ghost use Rattle.window_order.specs.Left as left;
 
 use css_model::{DeclItem, Rule, SelItem, Sheet};

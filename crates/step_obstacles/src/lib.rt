@@ -20,6 +20,3 @@ mod window_search;
 
 pub use pair_obstacles::PairObstacles;
 pub use step_search::window_of;
-
-#[cfg(test)]
-mod tests;

@@ -9,7 +9,7 @@ ghost use Rattle.step_obstacles.specs.Blocked.{IsToldOf};
 ghost use Rattle.step_obstacles.specs.Among.{Among};
 ghost use Rattle.step_obstacles.specs.Known.{FacedStands, IsKnown, IsNoted};
 ghost use Rattle.step_obstacles.specs.Turns as turns;
-ghost use Rattle.wall_laws.specs.Holding.{OfPair};
+ghost use Rattle.plan_laws.specs.Wall.Holding.{OfPair};
 ghost use Rattle.window_order.specs.Weighing.{DeclsWeigh};
 
 use crate::answering::blocks;

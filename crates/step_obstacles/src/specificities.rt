@@ -9,7 +9,7 @@ ghost use Rattle.step_obstacles.specs.Turns as turns;
 
 use crate::facing::Source;
 use css_model::{Item, SelItem, Selector, Specificity, specificity};
-use profile_laws::profile_keeps_the_limits;
+use pair_laws::profile_keeps_the_limits;
 use std::alloc::{AllocError, Global};
 use window_order::Window;
 

@@ -18,8 +18,8 @@ ghost use Rattle.step_obstacles.specs.Hinted.{IsFirstOf};
 ghost use Rattle.step_obstacles.specs.Spans.{IsEnoughFor, IsWithin};
 ghost use Rattle.step_obstacles.specs.StepWindow.{AreThere, IsToldBy, IsWindowFor};
 ghost use Rattle.step_obstacles.specs.Turns as turns;
-ghost use Rattle.window_laws.specs.Beside as beside;
-ghost use Rattle.window_laws.specs.StepWindows as windows;
+ghost use Rattle.plan_laws.specs.Window.Beside as beside;
+ghost use Rattle.plan_laws.specs.Window.StepWindows as windows;
 
 use crate::behind::{rule_is_behind, takes_rule};
 use crate::decl_masks::{bits_of, masks_of};
@@ -34,14 +34,12 @@ use css_model::{Rule, Sheet};
 use item_masks::ItemMask;
 use obstacles::Obstacle;
 use overlap::Pairs;
+use plan_laws::{reversed_stand_beside, steps_have_windows, windows_tell_kept, windows_tell_pairs};
 use print_laws::selectors_are_in_the_profile;
 use sheet_order::Moved;
 use std::alloc::{AllocError, Global};
 use step_laws::{Step, parts_are_few, steps_are_one_edit};
 use step_savings::{items_of, rule_at};
-use window_laws::{
-    reversed_stand_beside, steps_have_windows, windows_tell_kept, windows_tell_pairs,
-};
 use window_order::Window;
 
 /// Where the window of a step begins, and its middle part.

@@ -12,6 +12,3 @@ mod style;
 pub use fault::{DocFault, StyleError};
 pub use laws::{inputs_have_two_parts, winners_are_told};
 pub use style::style_lines;
-
-#[cfg(test)]
-mod tests;

@@ -5,6 +5,3 @@ mod draws;
 mod sheet;
 
 pub use sheet::make_sheet;
-
-#[cfg(test)]
-mod tests;

@@ -7,7 +7,7 @@ use Rattle.css_model.specs.declared.example.Example.{Example}
 use Rattle.css_model.specs.Documents.Matching.{same_pseudo}
 use Rattle.css_model.specs.Documents.SelectorParts.{SelectorParts}
 use Rattle.css_model.specs.Sheets.Limits.{max_stepped}
-use Rattle.document_laws.specs.Laws.{ShowsMeeting}
+use Rattle.shape_laws.specs.Document.Laws.{ShowsMeeting}
 use Rattle.overlap.specs.Answers.{IsFewAnswer, IsTrueAnswer, pair_stepped, too_many_stepped}
 use Rattle.overlap.specs.Combined.{IsEvidence}
 use Rattle.overlap.specs.PairsParts.{Answered, PairsParts}

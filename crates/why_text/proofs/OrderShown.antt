@@ -23,7 +23,7 @@ use Rattle.css_model.specs.Documents.Matching.{matches}
 use Rattle.css_model.specs.Documents.RunDocuments.{expand, target_of}
 use Rattle.css_model.specs.Documents.SelectorParts.{SelectorParts}
 use Rattle.css_model.specs.Documents.Specificity.{specificity_of}
-use Rattle.document_laws.specs.Laws.{ShowsMeeting}
+use Rattle.shape_laws.specs.Document.Laws.{ShowsMeeting}
 use Rattle.order_laws.specs.Keeping.{AreRelated}
 use Rattle.order_laws.specs.Members.{has_number}
 use Rattle.order_laws.specs.Reversed.{ListedIsReversed}

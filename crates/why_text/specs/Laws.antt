@@ -22,7 +22,7 @@ use Rattle.why_text.specs.PairTexts.{StandAt, rule_of}
 
 -- ---- A move that is free
 
--- By true answers a move that is told to be free keeps the sheet, so that no page changes.
+-- By true answers a move that is told to be free keeps the sheet, so that every winner stays.
 abbrev pub FreeMovesKeep : Type 0
 FreeMovesKeep = (source : List ℕ) (items : List Item) (from to : ℕ) (item other : Item) (pairs : PairsParts) → ∥ IsTrueList pairs ∥₁ →
     slice_get items from ≡ Some item → slice_get items to ≡ Some other → IsExplained pairs.answers items from to item Free →

@@ -13,6 +13,3 @@ pub use explaining::{Explained, explain};
 pub use laws::{blocked_moves_show_order, free_moves_keep};
 pub use lines::why_lines;
 pub use pair::print_pair;
-
-#[cfg(test)]
-mod tests;

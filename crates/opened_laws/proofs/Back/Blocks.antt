@@ -28,7 +28,7 @@ use Rattle.list_facts.proofs.Zips.{some_not_none, zip_any}
 use Rattle.media_groups.specs.declared.media.Media.{Media}
 use Rattle.media_groups.specs.Opened.{body_of, head_of, is_media, media_of, opened_rule, sheet_of_body}
 use Rattle.media_groups.specs.Printed.{block_text}
-use Rattle.block_laws.specs.Blocks.{IsMediaText}
+use Rattle.opened_laws.specs.Block.Blocks.{IsMediaText}
 use Rattle.print_laws.specs.Replaced.{whole_piece}
 use Rattle.print_laws.proofs.ForCallers.{Ground, IsItemOf, IsKeptBack, ground-of, member, whole-stands}
 use Rattle.sheet_laws.specs.Twins.{AreTwins}

@@ -26,7 +26,8 @@ use Rattle.selector_text_laws.specs.Back.{is_selector_kind}
 use Rattle.sheet_laws.specs.Sourced.{all_of_source, printed_sourced, sourced_text}
 use Rattle.sheet_laws.specs.Twins.{AreTwins}
 use Rattle.sheet_laws.proofs.ForCallers.{IsFrom, Shown, sheet_shown, shown, text_of_source, twins_of_source}
-use Rattle.block_laws.proofs.ForCallers.{IsSpared, none_sheet, printed_body}
+use Rattle.opened_laws.proofs.Block.Body.{printed_body}
+use Rattle.opened_laws.proofs.Block.Spared.{IsSpared, none_sheet}
 use Rattle.opened_laws.proofs.Alike.Bodies.{IsSheetOfBody, body_facts, body_is_sheet}
 use Rattle.opened_laws.proofs.Back.Kept.{any_follow, kept_tops}
 

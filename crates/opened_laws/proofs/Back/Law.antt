@@ -14,7 +14,7 @@ use Rattle.css_model.specs.Sheets.Sheet.{sheet_of, sheet_of_stream}
 use Rattle.css_model.specs.Sheets.SheetParts.{SheetParts}
 use Rattle.css_model.specs.Text.Characters.{space}
 use Rattle.css_model.specs.Text.Tokens.{byte_order_mark, tokens}
-use Rattle.block_laws.specs.Blocks.{BlocksReadBack, ReadsBackAsBlock}
+use Rattle.opened_laws.specs.Block.Blocks.{BlocksReadBack, ReadsBackAsBlock}
 use Rattle.media_groups.specs.declared.media.Media.{Media}
 use Rattle.media_groups.specs.Laws.{BlocksStay, PrintedByOldBlocks, unnumbered}
 use Rattle.media_groups.specs.Opened.{opened_of}

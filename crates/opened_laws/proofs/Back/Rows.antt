@@ -10,7 +10,7 @@ use Rattle.css_model.specs.Sheets.Printed.{printed_item}
 use Rattle.css_model.specs.Sheets.SheetParts.{SheetParts}
 use Rattle.css_model.specs.Sheets.Sound.{IsSoundItem}
 use Rattle.css_model.specs.Sheets.Spelling.{tokens_in}
-use Rattle.block_laws.specs.Blocks.{ReadsBackAsBlock}
+use Rattle.opened_laws.specs.Block.Blocks.{ReadsBackAsBlock}
 use Rattle.media_groups.specs.declared.media.Media.{Media}
 use Rattle.media_groups.specs.Opened.{opened_from}
 use Rattle.media_groups.specs.Printed.{block_text, texts_with}

@@ -13,7 +13,7 @@ use Rattle.css_model.specs.Sheets.Spelling.{tokens_in}
 use Rattle.media_groups.specs.declared.media.Media.{Media}
 use Rattle.media_groups.specs.Opened.{is_import_item, opened_from, opened_item, opened_rule}
 use Rattle.media_groups.specs.Printed.{begins_at, block_text, blocks_at, next_text, texts_with}
-use Rattle.media_laws.specs.Scenes.{block_at}
+use Rattle.opened_laws.specs.Media.Scenes.{block_at}
 use Rattle.print_laws.specs.Replaced.{whole_piece}
 use Rattle.print_laws.proofs.ForCallers.{Ground}
 use Rattle.sheet_laws.specs.Sourced.{SourcedItem, of_source}

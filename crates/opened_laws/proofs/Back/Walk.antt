@@ -16,11 +16,11 @@ use Rattle.css_model.specs.Sheets.Spelling.{kept_text, tokens_in}
 use Rattle.css_model.specs.Text.Characters.{close_curly, open_curly}
 use Rattle.css_model.specs.Text.Source.{text_at}
 use Rattle.list_facts.proofs.Zips.{some_not_none}
-use Rattle.block_laws.specs.Blocks.{ReadsBackAsBlock}
+use Rattle.opened_laws.specs.Block.Blocks.{ReadsBackAsBlock}
 use Rattle.media_groups.specs.declared.media.Media.{Media}
 use Rattle.media_groups.specs.Opened.{is_import_item, opened_from, opened_item, opened_rule}
 use Rattle.media_groups.specs.Printed.{block_text, texts_with}
-use Rattle.media_laws.specs.Scenes.{block_at}
+use Rattle.opened_laws.specs.Media.Scenes.{block_at}
 use Rattle.print_laws.specs.Replaced.{whole_piece}
 use Rattle.print_laws.proofs.ForCallers.{AreKeptBack, Ground, IsKeptBack, IsSourcedKeptBack}
 use Rattle.sheet_laws.specs.Sourced.{IsTwinOfSourced}

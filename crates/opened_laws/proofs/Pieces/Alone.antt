@@ -6,7 +6,7 @@ use Rattle.std.specs.Option.{option_map}
 use Rattle.std.specs.Str.{IsUtf8}
 use Rattle.std.proofs.lemmas.Bool.{cond-false}
 use Rattle.std.proofs.lemmas.List.{drop-drop, drop-take, length-append, take-take}
-use Rattle.block_laws.proofs.ForCallers.{IsMoved, IsMovedInner, IsMovedLast, end_gap, token_at}
+use Rattle.opened_laws.proofs.Block.Moved.{IsMoved, IsMovedInner, IsMovedLast, end_gap, token_at}
 use Rattle.css_model.specs.declared.token.Bracket.{Bracket}
 use Rattle.css_model.specs.declared.token.Gap.{Gap}
 use Rattle.css_model.specs.declared.token.Gap.TheVariants as gap

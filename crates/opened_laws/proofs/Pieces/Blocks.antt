@@ -4,7 +4,9 @@ use Rattle.std.specs.List.{AllByRecursion, list_any, position_or_len}
 use Rattle.std.proofs.Math.Seq.{take-append_seam}
 use Rattle.std.proofs.lemmas.Bool.{and_parts, eqb-true, false≢true}
 use Rattle.std.proofs.lemmas.List.{append_assoc}
-use Rattle.block_laws.proofs.ForCallers.{IsBetween, body_is, first_of, inside_behind, sign_is, stay_inside}
+use Rattle.opened_laws.proofs.Block.AtRules.{body_is, first_of, sign_is}
+use Rattle.opened_laws.proofs.Block.Between.{IsBetween, inside_behind}
+use Rattle.opened_laws.proofs.Block.Moved.{stay_inside}
 use Rattle.css_model.specs.declared.token.Lexeme.{Lexeme}
 use Rattle.css_model.specs.Sheets.Items.{closes_block, opens_block}
 use Rattle.css_model.specs.Sheets.Spelling.{lexemes_of}

@@ -4,7 +4,9 @@ use Rattle.std.specs.Prelude.{◌&&◌}
 use Rattle.std.specs.List.{AllByRecursion, AllZip, list_any}
 use Rattle.std.proofs.lemmas.Bool.{cond-false, cond-true, false≢true}
 use Rattle.std.proofs.lemmas.List.{append_assoc, length-drop, length-take-le}
-use Rattle.block_laws.proofs.ForCallers.{IsInside, IsMovedInner, IsMovedLast, StayInside, inside_from, sign_is}
+use Rattle.opened_laws.proofs.Block.AtRules.{sign_is}
+use Rattle.opened_laws.proofs.Block.Between.{IsInside, inside_from}
+use Rattle.opened_laws.proofs.Block.Moved.{IsMovedInner, IsMovedLast, StayInside}
 use Rattle.css_model.specs.declared.sheet.Piece.{Piece}
 use Rattle.css_model.specs.declared.token.Gap.{Gap}
 use Rattle.css_model.specs.declared.token.Lexeme.{Lexeme}

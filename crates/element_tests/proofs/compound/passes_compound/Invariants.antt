@@ -1,6 +1,6 @@
 use Rattle.std.proofs.Common.{◌≡◌, drop}
 use Rattle.css_model.specs.Documents.Features.{element_of}
-use Rattle.eval_laws.specs.Surrounded.{compound_among}
+use Rattle.cascade_laws.specs.Eval.Surrounded.{compound_among}
 use Rattle.element_tests.specs.Whereabouts.{surroundings_of}
 use Rattle.element_tests.proofs.compound.passes_compound.Given as goal
 

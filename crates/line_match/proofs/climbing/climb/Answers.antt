@@ -1,8 +1,8 @@
 use Rattle.std.proofs.Common.{◌≡◌, ◌≢◌, ℕ, suc, ◌+◌, ◌-◌, List, map, sym, ap, ◌∙◌, arith}
 use Rattle.css_model.specs.declared.example.RunLine.{RunLine}
-use Rattle.eval_laws.specs.declared.types.Reached.{Reached}
-use Rattle.eval_laws.specs.Climbing.{climbed, count_at, has_one_at, standings_of}
-use Rattle.eval_laws.specs.Reaching.{from_child, located, passed}
+use Rattle.cascade_laws.specs.declared.reaching.Reached.{Reached}
+use Rattle.cascade_laws.specs.Eval.Climbing.{climbed, count_at, has_one_at, standings_of}
+use Rattle.cascade_laws.specs.Eval.Reaching.{from_child, located, passed}
 use Rattle.line_match.specs.Runs.{run_tests}
 use Rattle.line_match.proofs.Climbed.{climbed_above, climbed_beside, climbed_apart}
 use Rattle.line_match.proofs.climbing.climb.Goals as goal

@@ -1,5 +1,5 @@
 use Rattle.std.proofs.Common.{◌≡◌, ◌+◌, ◌*◌, ◌≤◌, length}
-use Rattle.eval_laws.specs.Climbing.{climbed, standings_of}
+use Rattle.cascade_laws.specs.Eval.Climbing.{climbed, standings_of}
 use Rattle.line_match.proofs.climbing.climb.Given as goal
 
 abbrev pub invariant-loop-line : goal.invariant-loop-line

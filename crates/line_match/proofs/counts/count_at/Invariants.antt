@@ -1,5 +1,5 @@
 use Rattle.std.proofs.Common.{◌≡◌, ◌+◌, ◌*◌, ◌≤◌, length}
-use Rattle.eval_laws.specs.Climbing.{count_at}
+use Rattle.cascade_laws.specs.Eval.Climbing.{count_at}
 use Rattle.line_match.proofs.counts.count_at.Given as goal
 
 abbrev pub invariant-loop-line : goal.invariant-loop-line

@@ -1,5 +1,5 @@
 use Rattle.std.proofs.Common.{◌≡◌, ℕ, ◌+◌, ◌-◌, ◌≤◌, refl, sym, ap, ◌∙◌, arith}
-use Rattle.eval_laws.specs.Reaching.{passed}
+use Rattle.cascade_laws.specs.Eval.Reaching.{passed}
 use Rattle.line_match.specs.Runs.{run_tests}
 use Rattle.line_match.proofs.Passed.{passed_first, passed_on}
 use Rattle.line_match.proofs.passing.behind_run.Goals as goal

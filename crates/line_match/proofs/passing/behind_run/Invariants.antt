@@ -1,5 +1,5 @@
 use Rattle.std.proofs.Common.{◌≡◌, ◌+◌, ◌≤◌}
-use Rattle.eval_laws.specs.Reaching.{passed}
+use Rattle.cascade_laws.specs.Eval.Reaching.{passed}
 use Rattle.line_match.specs.Runs.{run_tests}
 use Rattle.line_match.proofs.passing.behind_run.Given as goal
 

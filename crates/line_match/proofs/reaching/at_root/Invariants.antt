@@ -1,5 +1,5 @@
 use Rattle.std.proofs.Common.{◌≡◌, ◌++◌, map, length}
-use Rattle.eval_laws.specs.Reaching.{from_root}
+use Rattle.cascade_laws.specs.Eval.Reaching.{from_root}
 use Rattle.line_match.proofs.reaching.at_root.Given as goal
 
 abbrev pub invariant-loop-left : goal.invariant-loop-left

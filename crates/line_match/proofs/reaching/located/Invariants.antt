@@ -1,8 +1,8 @@
 use Rattle.std.proofs.Common.{◌≡◌, ◌++◌, length}
 use Rattle.css_model.specs.Documents.Features.{element_of}
 use Rattle.element_tests.specs.Whereabouts.{surroundings_of}
-use Rattle.eval_laws.specs.Reaching.{located}
-use Rattle.eval_laws.specs.Surrounded.{chain_among}
+use Rattle.cascade_laws.specs.Eval.Reaching.{located}
+use Rattle.cascade_laws.specs.Eval.Surrounded.{chain_among}
 use Rattle.line_match.proofs.reaching.located.Given as goal
 
 abbrev pub invariant-loop-chain : goal.invariant-loop-chain

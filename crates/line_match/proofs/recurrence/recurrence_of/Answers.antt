@@ -1,6 +1,6 @@
 use Rattle.std.proofs.Common.{◌<◌, Bool, subst, sym}
 use Rattle.css_model.specs.Documents.FeatureParts.{FeatureParts}
-use Rattle.eval_laws.specs.Repeating.{Repeats}
+use Rattle.cascade_laws.specs.Eval.Repeating.{Repeats}
 use Rattle.line_match.specs.declared.recurrence.Recurrence.{Recurrence}
 use Rattle.line_match.specs.Runs.{run_tests}
 use Rattle.line_match.proofs.Recurring.{recurrence_moves, recurrence_repeats}

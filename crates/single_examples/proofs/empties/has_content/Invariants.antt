@@ -1,5 +1,5 @@
 use Rattle.std.proofs.Common.{◌≡◌, drop}
-use Rattle.document_laws.specs.SlotElements.{asks_for_content}
+use Rattle.shape_laws.specs.Document.SlotElements.{asks_for_content}
 use Rattle.single_examples.proofs.empties.has_content.Given as goal
 
 abbrev pub invariant-loop-simple : goal.invariant-loop-simple

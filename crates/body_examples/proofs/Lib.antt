@@ -1,0 +1,9 @@
+pub mod Answers
+pub mod Cascade
+pub mod Meeting
+pub mod Order
+pub mod Solving
+pub mod Steps
+pub mod Texts
+pub mod Values
+pub mod Words

@@ -1,0 +1,5 @@
+pub mod Climbing
+pub mod Numbers
+pub mod Repeating
+pub mod Rows
+pub mod Seeing

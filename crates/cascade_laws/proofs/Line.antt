@@ -1,0 +1,4 @@
+pub mod Elements
+pub mod Expanding
+pub mod Paths
+pub mod Rules

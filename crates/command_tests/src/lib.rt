@@ -1,0 +1,23 @@
+//! Tests of the commands, from words and bytes to bytes and a status.
+#![tactic(auto)]
+
+#[cfg(test)]
+mod comparing;
+#[cfg(test)]
+mod dead;
+#[cfg(test)]
+mod faults;
+#[cfg(test)]
+mod minifying;
+#[cfg(test)]
+mod runs;
+#[cfg(test)]
+mod same;
+#[cfg(test)]
+mod style;
+#[cfg(test)]
+mod texts;
+#[cfg(test)]
+mod why;
+#[cfg(test)]
+mod words;

@@ -1,0 +1,208 @@
+//! Words of each form, and words of none.
+
+use crate::runs::{FAULTLESS, SHEET, run_line, words_of};
+use command_words::command_of;
+use cssmin_run::Status;
+
+/// Lines with the commands that they are, as `Debug` shows them.
+const FORMS: &[(&str, &str)] = &[
+    ("cssmin min", "Min { budget: None, report: false }"),
+    (
+        "cssmin min --budget 9",
+        "Min { budget: Some(9), report: false }",
+    ),
+    (
+        "cssmin min --budget=20000",
+        "Min { budget: Some(20000), report: false }",
+    ),
+    ("cssmin min --report", "Min { budget: None, report: true }"),
+    (
+        "cssmin min --budget 9 --report",
+        "Min { budget: Some(9), report: true }",
+    ),
+    (
+        "cssmin min --report --budget 9",
+        "Min { budget: Some(9), report: true }",
+    ),
+    ("cssmin trial 0", "Trial { rules: RuleCount { number: 0 } }"),
+    (
+        "cssmin trial 2000",
+        "Trial { rules: RuleCount { number: 2000 } }",
+    ),
+    ("cssmin trial -h", "Help(Trial)"),
+    ("cssmin style", "Style"),
+    ("cssmin style -h", "Help(Style)"),
+    ("cssmin dead", "Dead { budget: None }"),
+    ("cssmin dead --budget 9", "Dead { budget: Some(9) }"),
+    ("cssmin dead --help", "Help(Dead)"),
+    (
+        "cssmin cmp a b",
+        "Cmp { left: \"a\", right: \"b\", budget: None, log: false }",
+    ),
+    // An empty word is a text.
+    (
+        "cssmin cmp  ",
+        "Cmp { left: \"\", right: \"\", budget: None, log: false }",
+    ),
+    (
+        "cssmin cmp a b --budget 0",
+        "Cmp { left: \"a\", right: \"b\", budget: Some(0), log: false }",
+    ),
+    (
+        "cssmin cmp a --budget 20000 b",
+        "Cmp { left: \"a\", right: \"b\", budget: Some(20000), log: false }",
+    ),
+    (
+        "cssmin cmp --budget 2000 a>b .c",
+        "Cmp { left: \"a>b\", right: \".c\", budget: Some(2000), log: false }",
+    ),
+    (
+        "cssmin cmp a b --budget=7",
+        "Cmp { left: \"a\", right: \"b\", budget: Some(7), log: false }",
+    ),
+    (
+        "cssmin cmp a --budget=70 b",
+        "Cmp { left: \"a\", right: \"b\", budget: Some(70), log: false }",
+    ),
+    (
+        "cssmin cmp --budget=1 min cmp",
+        "Cmp { left: \"min\", right: \"cmp\", budget: Some(1), log: false }",
+    ),
+    (
+        "cssmin cmp --log a --budget 7 b",
+        "Cmp { left: \"a\", right: \"b\", budget: Some(7), log: true }",
+    ),
+    ("cssmin --help", "Help(Program)"),
+    ("cssmin -h", "Help(Program)"),
+    ("cssmin help", "Help(Program)"),
+    ("cssmin check", "Check"),
+    ("cssmin check -h", "Help(Check)"),
+    (
+        "cssmin why 0 4294967295",
+        "Why { from: 0, to: 4294967295, budget: None }",
+    ),
+    (
+        "cssmin why --budget=5 20 17",
+        "Why { from: 20, to: 17, budget: Some(5) }",
+    ),
+    ("cssmin why -h", "Help(Why)"),
+    (
+        "cssmin same 4294967295",
+        "Same { split: 4294967295, budget: None }",
+    ),
+    (
+        "cssmin same --budget 5 0",
+        "Same { split: 0, budget: Some(5) }",
+    ),
+    ("cssmin same -h", "Help(Same)"),
+    ("cssmin min --help", "Help(Min)"),
+    ("cssmin min -h", "Help(Min)"),
+    ("cssmin cmp --help", "Help(Cmp)"),
+    ("cssmin cmp -h", "Help(Cmp)"),
+    ("cssmin --version", "Version"),
+    ("cssmin -V", "Version"),
+];
+
+/// Lines that are no command.
+const WRONG: &[&str] = &[
+    "cssmin",
+    // One empty word.
+    "cssmin ",
+    "cssmin mim",
+    "cssmin Min",
+    "cssmin --report",
+    "cssmin min min",
+    "cssmin min --report --report",
+    "cssmin min --log --report",
+    "cssmin min --budget 20001",
+    "cssmin min --budget 07",
+    "cssmin min --budget --report",
+    "cssmin min --budget 1 --budget=1",
+    "cssmin min --log",
+    "cssmin min --help --report",
+    "cssmin min --version",
+    "cssmin min help",
+    "cssmin --help min",
+    "cssmin help min",
+    "cssmin help help",
+    "cssmin -V -V",
+    "cssmin --budget 3",
+    "cssmin trial",
+    "cssmin trial 03",
+    "cssmin trial 2001",
+    "cssmin trial 3 3",
+    "cssmin trial 3 --budget 3",
+    "cssmin trial 3 --report",
+    "cssmin dead --report",
+    "cssmin cmp a b --report",
+    "cssmin why 1 2 --report",
+    "cssmin why 1",
+    "cssmin why 1 02",
+    "cssmin why 1 4294967296",
+    "cssmin same",
+    "cssmin same 01",
+    "cssmin same 4294967296",
+    "cssmin same 1 2",
+    "cssmin same 1 --report",
+    "cssmin cmp",
+    "cssmin cmp a",
+    "cssmin cmp a b c",
+    "cssmin style a",
+    "cssmin style --budget 3",
+    "cssmin dead a",
+    "cssmin dead --budget",
+    "cssmin cmp a b c d",
+    "cssmin cmp a b c d e",
+    "cssmin cmp a b --budget",
+    "cssmin cmp a b --budget 07",
+    "cssmin cmp a b --budget 20001",
+    "cssmin cmp a b --budget +1",
+    "cssmin cmp a b --budget -1",
+    "cssmin cmp a b --budget 1x",
+    "cssmin cmp a b --budget=",
+    "cssmin cmp a b --budget=00",
+    "cssmin cmp a b --budget=20001",
+    "cssmin cmp a b --budget=4294967296",
+    "cssmin cmp a b --bud=3",
+    "cssmin cmp a b --Budget=3",
+    "cssmin cmp a b --budget 1 --budget 2",
+    "cssmin cmp a b --budget=1 --budget=2",
+    "cssmin cmp --budget a b 1",
+    "cssmin cmp a --budget=3",
+    "cssmin cmp -- a b",
+    "cssmin cmp a b --log --log",
+    "cssmin cmp a b --budget --log",
+    "cssmin cmp a --log",
+    "cssmin dead --log",
+    "cssmin check a",
+    "cssmin check --budget 1",
+    "cssmin cmp -a b",
+    "cssmin cmp a -b",
+    "cssmin cmp a --help",
+    "cssmin cmp --help a",
+];
+
+#[test]
+fn have_a_form(rt: HostRuntime) {
+    let alloc = rt.alloc();
+    for row in FORMS {
+        let (line, form) = *row;
+        let words = words_of(&rt, alloc, line);
+        let command = command_of(&words).expect(&rt, line);
+        let shown = format!(in alloc; "{command:?}").expect(&rt, line);
+        assert_eq!(rt; shown.as_str(), form, "{line}");
+    }
+}
+
+/// Why it is so is told, in whole lines.
+#[test]
+fn have_no_form(rt: HostRuntime) {
+    let alloc = rt.alloc();
+    for line in WRONG {
+        let ran = run_line(&rt, alloc, line, SHEET, FAULTLESS);
+        assert_eq!(rt; ran.status, Status::Usage, "{line}");
+        assert!(rt; ran.out.bytes().is_empty(), "{line}");
+        assert!(rt; ran.err.bytes().ends_with(b"\n"), "{line}");
+        assert_eq!(rt; ran.left, SHEET.len(), "{line}");
+    }
+}

@@ -1,0 +1,319 @@
+-- What a run did, by what its words ask for.
+use Rattle.std.proofs.Common.{Bool, ◌≡◌, ◌⊎◌, ◌↔◌, inl, inr, ℕ, List, [], true, false, Option, Some, None, IsSomeAnd, refl, sym, ◌∙◌, ap, subst}
+use Rattle.std.proofs.lemmas.Bool.{false≢true}
+use Rattle.std.specs.Prelude.{IsNone}
+use Rattle.command_words.specs.Forms.{Form, Min, Style, Dead, Cmp, Check, Why, Same, Trial, Help, Version, form_of}
+use Rattle.css_model.specs.declared.fault.SheetFault.{SheetFault}
+use Rattle.css_model.specs.Sheets.Limits.{max_bytes}
+use Rattle.log_text.specs.CheckedTexts.{max_log_bytes}
+use Rattle.overlap.specs.PairsParts.{PairsParts}
+use Rattle.same_text.specs.SameTexts.{max_both}
+use Rattle.cssmin_run.specs.Change.{Change, HasFailed}
+use Rattle.cssmin_run.specs.Commands.Check.{CheckDoes, CheckRefuses, Checks}
+use Rattle.cssmin_run.specs.Commands.Cmp.{CmpDoes}
+use Rattle.cssmin_run.specs.Commands.Dead.{DeadDoes, TellsLives}
+use Rattle.cssmin_run.specs.Commands.Min.{Merges, MinDoes, MinRefuses}
+use Rattle.cssmin_run.specs.Commands.Same.{ComparesSheets, SameDoes, SameRefuses}
+use Rattle.cssmin_run.specs.Commands.Style.{StyleDoes, StyleRefuses, TellsWinners}
+use Rattle.cssmin_run.specs.Commands.Trial.{TrialDoes}
+use Rattle.cssmin_run.specs.Commands.Why.{ExplainsMove, WhyDoes, WhyRefuses}
+use Rattle.cssmin_run.specs.Run.{Answers, Outcome, Ran, needs_input}
+use Rattle.cssmin_run.specs.SheetFaults.{HasFault, HasNoFault}
+use Rattle.cssmin_run.specs.Tasks.{Began, Did, IsRefused, Silent}
+use Rattle.cssmin_run.specs.Telling.{Tells}
+use Rattle.cssmin_run.specs.Writing.{Stops, WritesSome}
+use Rattle.trial_gen.specs.Made.{made_sheet}
+use Rattle.cssmin_run.specs.declared.status.Status.{Status}
+use Rattle.cssmin_run.specs.declared.status.Status.TheVariants.{Done, Usage, SheetRefused, NoItem, DocRefused, LogRefused, NoSplit, SecondRefused, ReadFault, WriteFault, NoMemory}
+use Rattle.cssmin_run.proofs.Faults.{one_fault, fault_or_none, merged_no_fault}
+use Rattle.cssmin_run.proofs.Outcomes.{completes, completes_silent, refuses, silent_out, stops_failed, stops_out, told_of_does}
+
+-- ---- What the words ask for
+
+-- what was done, where the form of the words is known
+did : (words : List (List ℕ)) (form : Option Form) (status : Status) (input output err : Change) (held : Option PairsParts) → Ran words status input output err held → form_of words ≡ form → Answers form status input output err held
+did words form status input output err held ran is = subst (λ (f : Option Form). Answers f status input output err held) is ran.answers
+
+pub min_did : (words : List (List ℕ)) (budget : Option ℕ) (asked : Bool) (status : Status) (input output err : Change) (held : Option PairsParts) → Ran words status input output err held → form_of words ≡ Some (Min budget asked) → MinDoes budget asked status input output err held
+min_did words budget asked status input output err held ran is = did words (Some (Min budget asked)) status input output err held ran is
+
+pub cmp_did : (words : List (List ℕ)) (left right : List ℕ) (budget : Option ℕ) (log : Bool) (status : Status) (input output err : Change) (held : Option PairsParts) → Ran words status input output err held
+    → form_of words ≡ Some (Cmp left right budget log) → CmpDoes left right budget log status output err held
+cmp_did words left right budget log status input output err held ran is = did words (Some (Cmp left right budget log)) status input output err held ran is
+
+pub check_did : (words : List (List ℕ)) (status : Status) (input output err : Change) (held : Option PairsParts) → Ran words status input output err held → form_of words ≡ Some Check → CheckDoes status input output err held
+check_did words status input output err held ran is = did words (Some Check) status input output err held ran is
+
+pub dead_did : (words : List (List ℕ)) (budget : Option ℕ) (status : Status) (input output err : Change) (held : Option PairsParts) → Ran words status input output err held → form_of words ≡ Some (Dead budget) → DeadDoes budget status input output err held
+dead_did words budget status input output err held ran is = did words (Some (Dead budget)) status input output err held ran is
+
+pub style_did : (words : List (List ℕ)) (status : Status) (input output err : Change) (held : Option PairsParts) → Ran words status input output err held → form_of words ≡ Some Style → StyleDoes status input output err held
+style_did words status input output err held ran is = did words (Some Style) status input output err held ran is
+
+pub why_did : (words : List (List ℕ)) (from to : ℕ) (budget : Option ℕ) (status : Status) (input output err : Change) (held : Option PairsParts) → Ran words status input output err held → form_of words ≡ Some (Why from to budget) → WhyDoes from to budget status input output err held
+why_did words from to budget status input output err held ran is = did words (Some (Why from to budget)) status input output err held ran is
+
+pub same_did : (words : List (List ℕ)) (split : ℕ) (budget : Option ℕ) (status : Status) (input output err : Change) (held : Option PairsParts) → Ran words status input output err held → form_of words ≡ Some (Same split budget) → SameDoes split budget status input output err held
+same_did words split budget status input output err held ran is = did words (Some (Same split budget)) status input output err held ran is
+
+pub trial_did : (words : List (List ℕ)) (rules : ℕ) (status : Status) (input output err : Change) (held : Option PairsParts) → Ran words status input output err held → form_of words ≡ Some (Trial rules) → TrialDoes rules status output err held
+trial_did words rules status input output err held ran is = did words (Some (Trial rules)) status input output err held ran is
+
+-- ---- Usage
+
+no_usage : (form : Form) (input output err : Change) (held : Option PairsParts) → Outcome form Usage input output err held → ⊥
+no_usage (Min budget asked) input output err held h = h.0
+no_usage (Cmp left right budget log) input output err held h = h
+no_usage Check input output err held h = h.0
+no_usage (Dead budget) input output err held h = h.0
+no_usage Style input output err held h = h.0
+no_usage (Why from to budget) input output err held h = h.0
+no_usage (Same split budget) input output err held h = h.0
+no_usage (Trial rules) input output err held h = h
+no_usage (Help about) input output err held h = h.0
+no_usage Version input output err held h = h.0
+
+usage_of : (form : Option Form) (status : Status) (input output err : Change) (held : Option PairsParts) → Answers form status input output err held → (status ≡ Usage) ↔ IsNone form
+usage_of None status input output err held h = (λ usage. refl, λ none. h.0)
+usage_of (Some form) status input output err held h =
+    (λ usage. absurd (no_usage form input output err held (subst (λ (s : Status). Outcome form s input output err held) usage h)), λ none. absurd (let bad : ⊥ = cc in bad))
+
+pub usage_is : (words : List (List ℕ)) (status : Status) (input output err : Change) (held : Option PairsParts) → Ran words status input output err held → (status ≡ Usage) ↔ IsNone (form_of words)
+usage_is words status input output err held ran = usage_of (form_of words) status input output err held ran.answers
+
+-- ---- Causes
+
+read_fault_of : (form : Option Form) (input output err : Change) (held : Option PairsParts) → Answers form ReadFault input output err held → HasFailed input
+read_fault_of None input output err held h = absurd (let bad : ⊥ = let same : ReadFault ≡ Usage = h.0 in cc in bad)
+read_fault_of (Some (Min budget asked)) input output err held h = h.0
+read_fault_of (Some (Cmp left right budget log)) input output err held h = absurd h
+read_fault_of (Some Check) input output err held h = h.0
+read_fault_of (Some (Dead budget)) input output err held h = h.0
+read_fault_of (Some Style) input output err held h = h.0
+read_fault_of (Some (Why from to budget)) input output err held h = h.0
+read_fault_of (Some (Same split budget)) input output err held h = h.0
+read_fault_of (Some (Trial rules)) input output err held h = absurd h
+read_fault_of (Some (Help about)) input output err held h = absurd h.0
+read_fault_of (Some Version) input output err held h = absurd h.0
+
+pub read_fault_is : (words : List (List ℕ)) (status : Status) (input output err : Change) (held : Option PairsParts) → Ran words status input output err held → status ≡ ReadFault → HasFailed input
+read_fault_is words status input output err held ran is = read_fault_of (form_of words) input output err held (subst (λ (s : Status). Answers (form_of words) s input output err held) is ran.answers)
+
+write_fault_of : (form : Option Form) (input output err : Change) (held : Option PairsParts) → Answers form WriteFault input output err held → HasFailed output ⊎ HasFailed err
+write_fault_of None input output err held h = absurd (let bad : ⊥ = let same : WriteFault ≡ Usage = h.0 in cc in bad)
+write_fault_of (Some (Min budget asked)) input output err held h = stops_failed h.text h.report output err h.stopped
+write_fault_of (Some (Cmp left right budget log)) input output err held h = stops_failed h.0 [] output err h.2
+write_fault_of (Some Check) input output err held h = stops_failed h.text h.report output err h.stopped
+write_fault_of (Some (Dead budget)) input output err held h = stops_failed h.text h.report output err h.stopped
+write_fault_of (Some Style) input output err held h = stops_failed h.text h.report output err h.stopped
+write_fault_of (Some (Why from to budget)) input output err held h = stops_failed h.text h.report output err h.stopped
+write_fault_of (Some (Same split budget)) input output err held h = stops_failed h.text h.report output err h.stopped
+write_fault_of (Some (Trial rules)) input output err held h = stops_failed h.0 [] output err h.2
+write_fault_of (Some (Help about)) input output err held h = stops_failed h.0.0 [] output err h.0.2
+write_fault_of (Some Version) input output err held h = stops_failed h.0.0 [] output err h.0.2
+
+pub write_fault_is : (words : List (List ℕ)) (status : Status) (input output err : Change) (held : Option PairsParts) → Ran words status input output err held → status ≡ WriteFault → HasFailed output ⊎ HasFailed err
+write_fault_is words status input output err held ran is = write_fault_of (form_of words) input output err held (subst (λ (s : Status). Answers (form_of words) s input output err held) is ran.answers)
+
+-- `min` by its status
+by_status : (words : List (List ℕ)) (budget : Option ℕ) (asked : Bool) (wanted status : Status) (input output err : Change) (held : Option PairsParts) → Ran words status input output err held → form_of words ≡ Some (Min budget asked) → status ≡ wanted → MinDoes budget asked wanted input output err held
+by_status words budget asked wanted status input output err held ran min is = subst (λ (s : Status). MinDoes budget asked s input output err held) is (min_did words budget asked status input output err held ran min)
+
+pub done_is : (words : List (List ℕ)) (budget : Option ℕ) (asked : Bool) (status : Status) (input output err : Change) (held : Option PairsParts) → Ran words status input output err held → form_of words ≡ Some (Min budget asked) → status ≡ Done → Did (Merges budget asked) input output err held
+done_is words budget asked status input output err held ran min is = by_status words budget asked Done status input output err held ran min is
+
+pub refused_is : (words : List (List ℕ)) (budget : Option ℕ) (asked : Bool) (status : Status) (input output err : Change) (held : Option PairsParts) (fault : SheetFault) → Ran words status input output err held → form_of words ≡ Some (Min budget asked) → status ≡ SheetRefused fault → IsRefused max_bytes (λ read. HasFault read fault) input
+refused_is words budget asked status input output err held fault ran min is = (by_status words budget asked (SheetRefused fault) status input output err held ran min is).1
+
+pub front_is : (words : List (List ℕ)) (budget : Option ℕ) (asked : Bool) (status : Status) (input output err : Change) (held : Option PairsParts) → Ran words status input output err held → form_of words ≡ Some (Min budget asked) → status ≡ WriteFault → Began (Merges budget asked) input output err held
+front_is words budget asked status input output err held ran min is = by_status words budget asked WriteFault status input output err held ran min is
+
+-- ---- Which status comes
+
+-- a sheet is refused for one fault at most
+one_refusal : (read : List ℕ) (other : Status) (fault : SheetFault) → MinRefuses other read → HasFault read fault → other ≡ SheetRefused fault
+one_refusal read Done fault cause has = absurd cause
+one_refusal read Usage fault cause has = absurd cause
+one_refusal read (SheetRefused found) fault cause has = ap SheetRefused (one_fault read found fault cause has)
+one_refusal read (NoItem found) fault cause has = absurd cause
+one_refusal read (DocRefused found) fault cause has = absurd cause
+one_refusal read (LogRefused found) fault cause has = absurd cause
+one_refusal read (NoSplit found) fault cause has = absurd cause
+one_refusal read (SecondRefused found) fault cause has = absurd cause
+one_refusal read ReadFault fault cause has = absurd cause
+one_refusal read WriteFault fault cause has = absurd cause
+one_refusal read NoMemory fault cause has = absurd cause
+
+-- a sheet without a fault is not refused
+no_refusal : (read : List ℕ) (other : Status) → HasNoFault read → MinRefuses other read → ⊥
+no_refusal read Done none cause = cause
+no_refusal read Usage none cause = cause
+no_refusal read (SheetRefused found) none cause = fault_or_none read found cause none
+no_refusal read (NoItem found) none cause = cause
+no_refusal read (DocRefused found) none cause = cause
+no_refusal read (LogRefused found) none cause = cause
+no_refusal read (NoSplit found) none cause = cause
+no_refusal read (SecondRefused found) none cause = cause
+no_refusal read ReadFault none cause = cause
+no_refusal read WriteFault none cause = cause
+no_refusal read NoMemory none cause = cause
+
+unrefused : (left : Option (List ℕ)) → IsSomeAnd left HasNoFault → IsSomeAnd left (λ read. (other : Status) → MinRefuses other read → ⊥)
+unrefused None has = absurd has
+unrefused (Some read) has = λ other cause. no_refusal read other has cause
+
+pub refused_for : (words : List (List ℕ)) (budget : Option ℕ) (asked : Bool) (status : Status) (input output err : Change) (held : Option PairsParts) (fault : SheetFault) → Ran words status input output err held
+    → form_of words ≡ Some (Min budget asked) → IsSomeAnd input.old (λ bytes. HasFault bytes fault) → (HasFailed input → ⊥) → (status ≡ SheetRefused fault) ⊎ (status ≡ NoMemory)
+refused_for words budget asked status input output err held fault ran min has sure =
+    refuses max_bytes (Merges budget asked) MinRefuses (SheetRefused fault) status input output err held (min_did words budget asked status input output err held ran min)
+    (λ read text report held made has. merged_no_fault _ read text fault made.merged has) (λ read other cause has. one_refusal read other fault cause has) has sure
+
+-- no write of `min` failed, where its report did not fail if one is asked for
+unfailed : (budget : Option ℕ) (asked : Bool) (input output err : Change) (held : Option PairsParts) → (HasFailed output → ⊥) → (asked ≡ true → HasFailed err → ⊥) → Began (Merges budget asked) input output err held → ⊥
+unfailed budget true input output err held safe told began = which (stops_failed began.text began.report output err began.stopped)
+  where
+    which : HasFailed output ⊎ HasFailed err → ⊥
+    which (inl h) = safe h
+    which (inr h) = told refl h
+unfailed budget false input output err held safe told began = safe (stops_out began.text output err (subst (λ (report : List ℕ). Stops began.text report output err) began.made.told began.stopped))
+
+pub completed : (words : List (List ℕ)) (budget : Option ℕ) (asked : Bool) (status : Status) (input output err : Change) (held : Option PairsParts) → Ran words status input output err held
+    → form_of words ≡ Some (Min budget asked) → IsSomeAnd input.old HasNoFault → (HasFailed input → ⊥) → (HasFailed output → ⊥) → (asked ≡ true → HasFailed err → ⊥) → (status ≡ Done) ⊎ (status ≡ NoMemory)
+completed words budget asked status input output err held ran min has sure safe told =
+    completes max_bytes (Merges budget asked) MinRefuses status input output err held (min_did words budget asked status input output err held ran min) (unrefused input.old has) sure (unfailed budget asked input output err held safe told)
+
+pub checked : (words : List (List ℕ)) (status : Status) (input output err : Change) (held : Option PairsParts) → Ran words status input output err held
+    → form_of words ≡ Some Check → IsSomeAnd input.old (λ read. (other : Status) → CheckRefuses other read → ⊥) → (HasFailed input → ⊥) → (HasFailed output → ⊥) → (status ≡ Done) ⊎ (status ≡ NoMemory)
+checked words status input output err held ran check none sure safe = completes_silent max_log_bytes Checks CheckRefuses status input output err held (check_did words status input output err held ran check) none sure safe
+
+pub told_dead : (words : List (List ℕ)) (budget : Option ℕ) (status : Status) (input output err : Change) (held : Option PairsParts) → Ran words status input output err held
+    → form_of words ≡ Some (Dead budget) → IsSomeAnd input.old (λ read. (other : Status) → MinRefuses other read → ⊥) → (HasFailed input → ⊥) → (HasFailed output → ⊥) → (status ≡ Done) ⊎ (status ≡ NoMemory)
+told_dead words budget status input output err held ran is none sure safe = completes_silent max_bytes (TellsLives budget) MinRefuses status input output err held (dead_did words budget status input output err held ran is) none sure safe
+
+pub told_style : (words : List (List ℕ)) (status : Status) (input output err : Change) (held : Option PairsParts) → Ran words status input output err held
+    → form_of words ≡ Some Style → IsSomeAnd input.old (λ read. (other : Status) → StyleRefuses other read → ⊥) → (HasFailed input → ⊥) → (HasFailed output → ⊥) → (status ≡ Done) ⊎ (status ≡ NoMemory)
+told_style words status input output err held ran is none sure safe = completes_silent max_bytes TellsWinners StyleRefuses status input output err held (style_did words status input output err held ran is) none sure safe
+
+pub told_why : (words : List (List ℕ)) (from to : ℕ) (budget : Option ℕ) (status : Status) (input output err : Change) (held : Option PairsParts) → Ran words status input output err held
+    → form_of words ≡ Some (Why from to budget) → IsSomeAnd input.old (λ read. (other : Status) → WhyRefuses from to other read → ⊥) → (HasFailed input → ⊥) → (HasFailed output → ⊥) → (status ≡ Done) ⊎ (status ≡ NoMemory)
+told_why words from to budget status input output err held ran is none sure safe = completes_silent max_bytes (ExplainsMove from to budget) (WhyRefuses from to) status input output err held (why_did words from to budget status input output err held ran is) none sure safe
+
+pub told_same : (words : List (List ℕ)) (split : ℕ) (budget : Option ℕ) (status : Status) (input output err : Change) (held : Option PairsParts) → Ran words status input output err held
+    → form_of words ≡ Some (Same split budget) → IsSomeAnd input.old (λ read. (other : Status) → SameRefuses split other read → ⊥) → (HasFailed input → ⊥) → (HasFailed output → ⊥) → (status ≡ Done) ⊎ (status ≡ NoMemory)
+told_same words split budget status input output err held ran is none sure safe = completes_silent max_both (ComparesSheets split budget) (SameRefuses split) status input output err held (same_did words split budget status input output err held ran is) none sure safe
+
+writes_done : (kind : List ℕ → Type 0) (status : Status) (output err : Change) → WritesSome kind status output err → (HasFailed output → ⊥) → (status ≡ Done) ⊎ (status ≡ NoMemory)
+writes_done kind Done output err h safe = inl refl
+writes_done kind Usage output err h safe = absurd h
+writes_done kind (SheetRefused fault) output err h safe = absurd h
+writes_done kind (NoItem fault) output err h safe = absurd h
+writes_done kind (DocRefused fault) output err h safe = absurd h
+writes_done kind (LogRefused fault) output err h safe = absurd h
+writes_done kind (NoSplit fault) output err h safe = absurd h
+writes_done kind (SecondRefused fault) output err h safe = absurd h
+writes_done kind ReadFault output err h safe = absurd h
+writes_done kind WriteFault output err h safe = absurd (safe (stops_out h.0 output err h.2))
+writes_done kind NoMemory output err h safe = inr refl
+
+cmp_done : (left right : List ℕ) (budget : Option ℕ) (log : Bool) (status : Status) (output err : Change) (held : Option PairsParts) → CmpDoes left right budget log status output err held → (HasFailed output → ⊥) → (status ≡ Done) ⊎ (status ≡ NoMemory)
+cmp_done left right budget log Done output err held h safe = inl refl
+cmp_done left right budget log Usage output err held h safe = absurd h
+cmp_done left right budget log (SheetRefused fault) output err held h safe = absurd h
+cmp_done left right budget log (NoItem fault) output err held h safe = absurd h
+cmp_done left right budget log (DocRefused fault) output err held h safe = absurd h
+cmp_done left right budget log (LogRefused fault) output err held h safe = absurd h
+cmp_done left right budget log (NoSplit fault) output err held h safe = absurd h
+cmp_done left right budget log (SecondRefused fault) output err held h safe = absurd h
+cmp_done left right budget log ReadFault output err held h safe = absurd h
+cmp_done left right budget log WriteFault output err held h safe = absurd (safe (stops_out h.0 output err h.2))
+cmp_done left right budget log NoMemory output err held h safe = inr refl
+
+trial_done : (rules : ℕ) (status : Status) (output err : Change) (held : Option PairsParts) → TrialDoes rules status output err held → HasNoFault (made_sheet rules) → (HasFailed output → ⊥) → (status ≡ Done) ⊎ (status ≡ NoMemory)
+trial_done rules Done output err held h none safe = inl refl
+trial_done rules Usage output err held h none safe = absurd h
+trial_done rules (SheetRefused fault) output err held h none safe = absurd (fault_or_none (made_sheet rules) fault h.0 none)
+trial_done rules (NoItem fault) output err held h none safe = absurd h
+trial_done rules (DocRefused fault) output err held h none safe = absurd h
+trial_done rules (LogRefused fault) output err held h none safe = absurd h
+trial_done rules (NoSplit fault) output err held h none safe = absurd h
+trial_done rules (SecondRefused fault) output err held h none safe = absurd h
+trial_done rules ReadFault output err held h none safe = absurd h
+trial_done rules WriteFault output err held h none safe = absurd (safe (stops_out h.0 output err h.2))
+trial_done rules NoMemory output err held h none safe = inr refl
+
+other_done : (form : Form) (status : Status) (input output err : Change) (held : Option PairsParts) → Outcome form status input output err held → needs_input (Some form) ≡ false → ((rules : ℕ) → form ≡ Trial rules → HasNoFault (made_sheet rules)) → (HasFailed output → ⊥) → (status ≡ Done) ⊎ (status ≡ NoMemory)
+other_done (Min budget asked) status input output err held h unneeded none safe = absurd (false≢true (sym unneeded))
+other_done (Cmp left right budget log) status input output err held h unneeded none safe = cmp_done left right budget log status output err held h safe
+other_done Check status input output err held h unneeded none safe = absurd (false≢true (sym unneeded))
+other_done (Dead budget) status input output err held h unneeded none safe = absurd (false≢true (sym unneeded))
+other_done Style status input output err held h unneeded none safe = absurd (false≢true (sym unneeded))
+other_done (Why from to budget) status input output err held h unneeded none safe = absurd (false≢true (sym unneeded))
+other_done (Same split budget) status input output err held h unneeded none safe = absurd (false≢true (sym unneeded))
+other_done (Trial rules) status input output err held h unneeded none safe = trial_done rules status output err held h (none rules refl) safe
+other_done (Help about) status input output err held h unneeded none safe = writes_done _ status output err h.0 safe
+other_done Version status input output err held h unneeded none safe = writes_done _ status output err h.0 safe
+
+pub others_done : (words : List (List ℕ)) (status : Status) (input output err : Change) (held : Option PairsParts) (form : Form) → Ran words status input output err held
+    → form_of words ≡ Some form → needs_input (Some form) ≡ false → ((rules : ℕ) → form ≡ Trial rules → HasNoFault (made_sheet rules)) → (HasFailed output → ⊥) → (status ≡ Done) ⊎ (status ≡ NoMemory)
+others_done words status input output err held form ran is unneeded none safe = other_done form status input output err held (did words (Some form) status input output err held ran is) unneeded none safe
+
+-- ---- What is told
+
+some_told : (kind : List ℕ → Type 0) (status : Status) (output err : Change) → WritesSome kind status output err → (status ≡ Done → ⊥) → (status ≡ WriteFault → ⊥) → Tells status err
+some_told kind Done output err h undone unfailed = absurd (undone refl)
+some_told kind Usage output err h undone unfailed = absurd h
+some_told kind (SheetRefused fault) output err h undone unfailed = absurd h
+some_told kind (NoItem fault) output err h undone unfailed = absurd h
+some_told kind (DocRefused fault) output err h undone unfailed = absurd h
+some_told kind (LogRefused fault) output err h undone unfailed = absurd h
+some_told kind (NoSplit fault) output err h undone unfailed = absurd h
+some_told kind (SecondRefused fault) output err h undone unfailed = absurd h
+some_told kind ReadFault output err h undone unfailed = absurd h
+some_told kind WriteFault output err h undone unfailed = absurd (unfailed refl)
+some_told kind NoMemory output err h undone unfailed = h
+
+cmp_told : (left right : List ℕ) (budget : Option ℕ) (log : Bool) (status : Status) (output err : Change) (held : Option PairsParts) → CmpDoes left right budget log status output err held → (status ≡ Done → ⊥) → (status ≡ WriteFault → ⊥) → Tells status err
+cmp_told left right budget log Done output err held h undone unfailed = absurd (undone refl)
+cmp_told left right budget log Usage output err held h undone unfailed = absurd h
+cmp_told left right budget log (SheetRefused fault) output err held h undone unfailed = absurd h
+cmp_told left right budget log (NoItem fault) output err held h undone unfailed = absurd h
+cmp_told left right budget log (DocRefused fault) output err held h undone unfailed = absurd h
+cmp_told left right budget log (LogRefused fault) output err held h undone unfailed = absurd h
+cmp_told left right budget log (NoSplit fault) output err held h undone unfailed = absurd h
+cmp_told left right budget log (SecondRefused fault) output err held h undone unfailed = absurd h
+cmp_told left right budget log ReadFault output err held h undone unfailed = absurd h
+cmp_told left right budget log WriteFault output err held h undone unfailed = absurd (unfailed refl)
+cmp_told left right budget log NoMemory output err held h undone unfailed = h.1
+
+trial_told : (rules : ℕ) (status : Status) (output err : Change) (held : Option PairsParts) → TrialDoes rules status output err held → (status ≡ Done → ⊥) → (status ≡ WriteFault → ⊥) → Tells status err
+trial_told rules Done output err held h undone unfailed = absurd (undone refl)
+trial_told rules Usage output err held h undone unfailed = absurd h
+trial_told rules (SheetRefused fault) output err held h undone unfailed = h.2
+trial_told rules (NoItem fault) output err held h undone unfailed = absurd h
+trial_told rules (DocRefused fault) output err held h undone unfailed = absurd h
+trial_told rules (LogRefused fault) output err held h undone unfailed = absurd h
+trial_told rules (NoSplit fault) output err held h undone unfailed = absurd h
+trial_told rules (SecondRefused fault) output err held h undone unfailed = absurd h
+trial_told rules ReadFault output err held h undone unfailed = absurd h
+trial_told rules WriteFault output err held h undone unfailed = absurd (unfailed refl)
+trial_told rules NoMemory output err held h undone unfailed = h.1
+
+told_of : (form : Option Form) (status : Status) (input output err : Change) (held : Option PairsParts) → Answers form status input output err held → (status ≡ Done → ⊥) → (status ≡ WriteFault → ⊥) → Tells status err
+told_of None status input output err held h undone unfailed = subst (λ (s : Status). Tells s err) (sym h.0) h.2
+told_of (Some (Min budget asked)) status input output err held h undone unfailed = told_of_does max_bytes (Merges budget asked) MinRefuses status input output err held h undone unfailed
+told_of (Some (Cmp left right budget log)) status input output err held h undone unfailed = cmp_told left right budget log status output err held h undone unfailed
+told_of (Some Check) status input output err held h undone unfailed = told_of_does max_log_bytes (Silent Checks) CheckRefuses status input output err held h undone unfailed
+told_of (Some (Dead budget)) status input output err held h undone unfailed = told_of_does max_bytes (Silent (TellsLives budget)) MinRefuses status input output err held h undone unfailed
+told_of (Some Style) status input output err held h undone unfailed = told_of_does max_bytes (Silent TellsWinners) StyleRefuses status input output err held h undone unfailed
+told_of (Some (Why from to budget)) status input output err held h undone unfailed = told_of_does max_bytes (Silent (ExplainsMove from to budget)) (WhyRefuses from to) status input output err held h undone unfailed
+told_of (Some (Same split budget)) status input output err held h undone unfailed = told_of_does max_both (Silent (ComparesSheets split budget)) (SameRefuses split) status input output err held h undone unfailed
+told_of (Some (Trial rules)) status input output err held h undone unfailed = trial_told rules status output err held h undone unfailed
+told_of (Some (Help about)) status input output err held h undone unfailed = some_told _ status output err h.0 undone unfailed
+told_of (Some Version) status input output err held h undone unfailed = some_told _ status output err h.0 undone unfailed
+
+pub told_is : (words : List (List ℕ)) (status : Status) (input output err : Change) (held : Option PairsParts) → Ran words status input output err held → (status ≡ Done → ⊥) → (status ≡ WriteFault → ⊥) → Tells status err
+told_is words status input output err held ran undone unfailed = told_of (form_of words) status input output err held ran.answers undone unfailed
+
+-- what was done by a command that has the form of the words
+pub answered : (form found : Option Form) (status : Status) (input output err : Change) (held : Option PairsParts) → found ≡ form → Answers found status input output err held → Answers form status input output err held
+answered form found status input output err held is h = subst (λ (f : Option Form). Answers f status input output err held) is h

@@ -1,0 +1,62 @@
+-- What a command did that writes a text which it made.
+use Rattle.std.proofs.Common.{Bool, ◌≡◌, ◌⊎◌, inl, inr, ℕ, List, [], Option, None, sym, subst}
+use Rattle.css_model.specs.declared.fault.SheetFault.{SheetFault}
+use Rattle.overlap.specs.PairsParts.{PairsParts}
+use Rattle.trial_gen.specs.Made.{made_sheet}
+use Rattle.cssmin_run.specs.Change.{Change}
+use Rattle.cssmin_run.specs.Commands.Cmp.{CmpDoes, IsAnswer}
+use Rattle.cssmin_run.specs.Commands.Trial.{TrialDoes, Tries}
+use Rattle.cssmin_run.specs.SheetFaults.{HasFault}
+use Rattle.cssmin_run.specs.Status.{IsRefusal}
+use Rattle.cssmin_run.specs.Telling.{Tells}
+use Rattle.cssmin_run.specs.Writing.{Writes, WritesSome}
+use Rattle.cssmin_run.specs.declared.status.Status.{Status}
+use Rattle.cssmin_run.specs.declared.status.Status.TheVariants.{Done, Usage, SheetRefused, NoItem, DocRefused, LogRefused, NoSplit, SecondRefused, ReadFault, WriteFault, NoMemory}
+
+pub wrote_some : (kind : List ℕ → Type 0) (text : List ℕ) (status : Status) (output err : Change) → kind text → Writes text [] status output err → WritesSome kind status output err
+wrote_some kind text Done output err is wrote = (text, is, wrote)
+wrote_some kind text Usage output err is wrote = absurd wrote
+wrote_some kind text (SheetRefused fault) output err is wrote = absurd wrote
+wrote_some kind text (NoItem fault) output err is wrote = absurd wrote
+wrote_some kind text (DocRefused fault) output err is wrote = absurd wrote
+wrote_some kind text (LogRefused fault) output err is wrote = absurd wrote
+wrote_some kind text (NoSplit fault) output err is wrote = absurd wrote
+wrote_some kind text (SecondRefused fault) output err is wrote = absurd wrote
+wrote_some kind text ReadFault output err is wrote = absurd wrote
+wrote_some kind text WriteFault output err is wrote = (text, is, wrote)
+wrote_some kind text NoMemory output err is wrote = absurd wrote
+
+pub wrote_answer : (left right : List ℕ) (budget : Option ℕ) (log : Bool) (held : Option PairsParts) (text : List ℕ) (status : Status) (output err : Change) → IsAnswer left right budget log held text → Writes text [] status output err
+    → CmpDoes left right budget log status output err held
+wrote_answer left right budget log held text Done output err is wrote = (text, is, wrote)
+wrote_answer left right budget log held text Usage output err is wrote = absurd wrote
+wrote_answer left right budget log held text (SheetRefused fault) output err is wrote = absurd wrote
+wrote_answer left right budget log held text (NoItem fault) output err is wrote = absurd wrote
+wrote_answer left right budget log held text (DocRefused fault) output err is wrote = absurd wrote
+wrote_answer left right budget log held text (LogRefused fault) output err is wrote = absurd wrote
+wrote_answer left right budget log held text (NoSplit fault) output err is wrote = absurd wrote
+wrote_answer left right budget log held text (SecondRefused fault) output err is wrote = absurd wrote
+wrote_answer left right budget log held text ReadFault output err is wrote = absurd wrote
+wrote_answer left right budget log held text WriteFault output err is wrote = (text, is, wrote)
+wrote_answer left right budget log held text NoMemory output err is wrote = absurd wrote
+
+pub wrote_trial : (rules : ℕ) (held : Option PairsParts) (text : List ℕ) (status : Status) (output err : Change) → Tries rules text held → Writes text [] status output err → TrialDoes rules status output err held
+wrote_trial rules held text Done output err is wrote = (text, is, wrote)
+wrote_trial rules held text Usage output err is wrote = absurd wrote
+wrote_trial rules held text (SheetRefused fault) output err is wrote = absurd wrote
+wrote_trial rules held text (NoItem fault) output err is wrote = absurd wrote
+wrote_trial rules held text (DocRefused fault) output err is wrote = absurd wrote
+wrote_trial rules held text (LogRefused fault) output err is wrote = absurd wrote
+wrote_trial rules held text (NoSplit fault) output err is wrote = absurd wrote
+wrote_trial rules held text (SecondRefused fault) output err is wrote = absurd wrote
+wrote_trial rules held text ReadFault output err is wrote = absurd wrote
+wrote_trial rules held text WriteFault output err is wrote = (text, is, wrote)
+wrote_trial rules held text NoMemory output err is wrote = absurd wrote
+
+-- a made sheet was refused
+pub refused_trial : (rules : ℕ) (fault : SheetFault) (status : Status) (output err : Change) (held : Option PairsParts) → HasFault (made_sheet rules) fault → held ≡ None
+    → (status ≡ SheetRefused fault) ⊎ (IsRefusal (SheetRefused fault) × (status ≡ NoMemory)) → Tells status err → TrialDoes rules status output err held
+refused_trial rules fault status output err held has none (inl same) told =
+    subst (λ (s : Status). TrialDoes rules s output err held) (sym same) (has, none, subst (λ (s : Status). Tells s err) same told)
+refused_trial rules fault status output err held has none (inr (refused, short)) told =
+    subst (λ (s : Status). TrialDoes rules s output err held) (sym short) (none, subst (λ (s : Status). Tells s err) short told)

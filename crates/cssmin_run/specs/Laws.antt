@@ -1,0 +1,163 @@
+-- What follows from the contract of a run.
+use Rattle.std.specs.Prelude.{Bool, true, ◌≡◌, ◌⊎◌, ◌↔◌, ℕ, ◌<◌, false, List, Option, Some, None, IsSomeAnd, IsNone}
+use Rattle.css_io.specs.Io.{Rose, last_count}
+use Rattle.css_model.specs.declared.fault.SheetFault.{SheetFault}
+use Rattle.css_model.specs.Sheets.Limits.{max_bytes}
+use Rattle.cnf.specs.declared.lit.Lit.{Lit}
+use Rattle.css_model.specs.Documents.SelectorParts.{SelectorParts}
+use Rattle.overlap.specs.declared.answer.Answer.TheVariants.{Spent}
+use Rattle.overlap.specs.Remembered.{IsAnswered}
+use Rattle.command_words.specs.Forms.{Form, Min, Style, Dead, Cmp, Check, Why, Same, Trial, form_of}
+use Rattle.overlap.specs.PairsParts.{PairsParts}
+use Rattle.cssmin_run.specs.Change.{Change, HasFailed}
+use Rattle.cssmin_run.specs.Commands.Check.{CheckDoes, CheckRefuses}
+use Rattle.cssmin_run.specs.Commands.Cmp.{CmpDoes}
+use Rattle.cssmin_run.specs.Commands.Dead.{DeadDoes}
+use Rattle.cssmin_run.specs.Commands.Min.{Merges, MinDoes, MinRefuses}
+use Rattle.cssmin_run.specs.Commands.Same.{SameDoes, SameRefuses}
+use Rattle.cssmin_run.specs.Commands.Style.{StyleDoes, StyleRefuses}
+use Rattle.cssmin_run.specs.Commands.Trial.{TrialDoes}
+use Rattle.cssmin_run.specs.Commands.Why.{WhyDoes, WhyRefuses}
+use Rattle.cssmin_run.specs.Run.{Ran, needs_input}
+use Rattle.cssmin_run.specs.SheetFaults.{HasFault, HasNoFault}
+use Rattle.cssmin_run.specs.Tasks.{Began, Did, IsRefused}
+use Rattle.cssmin_run.specs.Telling.{Tells}
+use Rattle.trial_gen.specs.Made.{made_sheet}
+use Rattle.cssmin_run.specs.declared.status.Status.{Status}
+use Rattle.cssmin_run.specs.declared.status.Status.TheVariants.{Done, Usage, SheetRefused, ReadFault, WriteFault, NoMemory}
+
+-- ---- Words
+
+-- exactly words without a form are refused
+abbrev pub OtherWordsAreUsage : Type 0
+OtherWordsAreUsage = (words : List (List ℕ)) (status : Status) (input output err : Change) (held : Option PairsParts) → Ran words status input output err held → (status ≡ Usage) ↔ IsNone (form_of words)
+
+-- words that minify do what `min` says
+abbrev pub MinDoesItsWord : Type 0
+MinDoesItsWord = (words : List (List ℕ)) (budget : Option ℕ) (asked : Bool) (status : Status) (input output err : Change) (held : Option PairsParts) → Ran words status input output err held → form_of words ≡ Some (Min budget asked) → MinDoes budget asked status input output err held
+
+-- words that compare do what `cmp` says
+abbrev pub CmpDoesItsWord : Type 0
+CmpDoesItsWord =
+    (words : List (List ℕ)) (left right : List ℕ) (budget : Option ℕ) (log : Bool) (status : Status) (input output err : Change) (held : Option PairsParts) → Ran words status input output err held
+    → form_of words ≡ Some (Cmp left right budget log) → CmpDoes left right budget log status output err held
+
+-- words that check do what `check` says
+abbrev pub CheckDoesItsWord : Type 0
+CheckDoesItsWord = (words : List (List ℕ)) (status : Status) (input output err : Change) (held : Option PairsParts) → Ran words status input output err held → form_of words ≡ Some Check → CheckDoes status input output err held
+
+-- words that ask for it do what `dead` says
+abbrev pub DeadDoesItsWord : Type 0
+DeadDoesItsWord = (words : List (List ℕ)) (budget : Option ℕ) (status : Status) (input output err : Change) (held : Option PairsParts) → Ran words status input output err held → form_of words ≡ Some (Dead budget) → DeadDoes budget status input output err held
+
+-- words that ask for it do what `style` says
+abbrev pub StyleDoesItsWord : Type 0
+StyleDoesItsWord = (words : List (List ℕ)) (status : Status) (input output err : Change) (held : Option PairsParts) → Ran words status input output err held → form_of words ≡ Some Style → StyleDoes status input output err held
+
+-- words that ask for it do what `why` says
+abbrev pub WhyDoesItsWord : Type 0
+WhyDoesItsWord = (words : List (List ℕ)) (from to : ℕ) (budget : Option ℕ) (status : Status) (input output err : Change) (held : Option PairsParts) → Ran words status input output err held → form_of words ≡ Some (Why from to budget) → WhyDoes from to budget status input output err held
+
+-- words that ask for it do what `same` says
+abbrev pub SameDoesItsWord : Type 0
+SameDoesItsWord = (words : List (List ℕ)) (split : ℕ) (budget : Option ℕ) (status : Status) (input output err : Change) (held : Option PairsParts) → Ran words status input output err held → form_of words ≡ Some (Same split budget) → SameDoes split budget status input output err held
+
+-- words that try merging do what `trial` says
+abbrev pub TrialDoesItsWord : Type 0
+TrialDoesItsWord =
+    (words : List (List ℕ)) (rules : ℕ) (status : Status) (input output err : Change) (held : Option PairsParts) → Ran words status input output err held → form_of words ≡ Some (Trial rules) → TrialDoes rules status output err held
+
+-- but for what is done and for failed writes each status is told on standard error
+abbrev pub StatusIsTold : Type 0
+StatusIsTold =
+    (words : List (List ℕ)) (status : Status) (input output err : Change) (held : Option PairsParts) → Ran words status input output err held → (status ≡ Done → ⊥) → (status ≡ WriteFault → ⊥) → Tells status err
+
+-- ---- `min`, by its status
+
+-- the text that was written is that of the sheet that was read, all that was left, merged by the answers that are held
+abbrev pub DoneIsMerged : Type 0
+DoneIsMerged = (words : List (List ℕ)) (budget : Option ℕ) (asked : Bool) (status : Status) (input output err : Change) (held : Option PairsParts) → Ran words status input output err held → form_of words ≡ Some (Min budget asked) → status ≡ Done → Did (Merges budget asked) input output err held
+
+-- where the words name no budget, no pair is answered so that the budget was spent
+abbrev pub NoBudgetIsSpent : Type 0
+NoBudgetIsSpent =
+    (words : List (List ℕ)) (asked : Bool) (status : Status) (input output err : Change) (held : Option PairsParts) (pairs : PairsParts) (x y : SelectorParts) (ledger : List (List Lit)) → Ran words status input output err held
+    → form_of words ≡ Some (Min None asked) → held ≡ Some pairs → IsAnswered pairs.answers x y (Spent ledger) → ⊥
+
+-- a sheet is refused only for a fault that it has
+abbrev pub RefusedHasTheFault : Type 0
+RefusedHasTheFault =
+    (words : List (List ℕ)) (budget : Option ℕ) (asked : Bool) (status : Status) (input output err : Change) (held : Option PairsParts) (fault : SheetFault) → Ran words status input output err held → form_of words ≡ Some (Min budget asked) → status ≡ SheetRefused fault → IsRefused max_bytes (λ read. HasFault read fault) input
+
+-- a read fault comes only where the count of faults of the input rose, or has its last value
+abbrev pub ReadFaultHasFailed : Type 0
+ReadFaultHasFailed = (words : List (List ℕ)) (status : Status) (input output err : Change) (held : Option PairsParts) → Ran words status input output err held → status ≡ ReadFault → HasFailed input
+
+-- a write fault comes only where the count of faults of the output or of standard error rose, or has its last value
+abbrev pub WriteFaultHasFailed : Type 0
+WriteFaultHasFailed = (words : List (List ℕ)) (status : Status) (input output err : Change) (held : Option PairsParts) → Ran words status input output err held → status ≡ WriteFault → HasFailed output ⊎ HasFailed err
+
+-- after a write fault of `min` a front of the text stands there, or all of it and a front of the report
+abbrev pub WriteFaultLeavesAFront : Type 0
+WriteFaultLeavesAFront =
+    (words : List (List ℕ)) (budget : Option ℕ) (asked : Bool) (status : Status) (input output err : Change) (held : Option PairsParts) → Ran words status input output err held → form_of words ≡ Some (Min budget asked) → status ≡ WriteFault → Began (Merges budget asked) input output err held
+
+-- ---- Which status comes
+
+-- a sheet with a fault is refused for it, where no read failed and the memory sufficed
+abbrev pub FaultIsRefused : Type 0
+FaultIsRefused =
+    (words : List (List ℕ)) (budget : Option ℕ) (asked : Bool) (status : Status) (input output err : Change) (held : Option PairsParts) (fault : SheetFault) → Ran words status input output err held
+    → form_of words ≡ Some (Min budget asked) → IsSomeAnd input.old (λ bytes. HasFault bytes fault) → (HasFailed input → ⊥) → (status ≡ SheetRefused fault) ⊎ (status ≡ NoMemory)
+
+-- a sheet without a fault is merged, where no read or write failed and the memory sufficed
+abbrev pub FaultlessIsDone : Type 0
+FaultlessIsDone =
+    (words : List (List ℕ)) (budget : Option ℕ) (asked : Bool) (status : Status) (input output err : Change) (held : Option PairsParts) → Ran words status input output err held
+    → form_of words ≡ Some (Min budget asked) → IsSomeAnd input.old HasNoFault → (HasFailed input → ⊥) → (HasFailed output → ⊥) → (asked ≡ true → HasFailed err → ⊥) → (status ≡ Done) ⊎ (status ≡ NoMemory)
+
+-- a log that is not refused is checked, where no read or write failed and the memory sufficed
+abbrev pub LogIsChecked : Type 0
+LogIsChecked =
+    (words : List (List ℕ)) (status : Status) (input output err : Change) (held : Option PairsParts) → Ran words status input output err held
+    → form_of words ≡ Some Check → IsSomeAnd input.old (λ read. (other : Status) → CheckRefuses other read → ⊥) → (HasFailed input → ⊥) → (HasFailed output → ⊥) → (status ≡ Done) ⊎ (status ≡ NoMemory)
+
+-- a sheet that is not refused is told of, where no read or write failed and the memory sufficed
+abbrev pub SheetIsTold : Type 0
+SheetIsTold =
+    (words : List (List ℕ)) (budget : Option ℕ) (status : Status) (input output err : Change) (held : Option PairsParts) → Ran words status input output err held
+    → form_of words ≡ Some (Dead budget) → IsSomeAnd input.old (λ read. (other : Status) → MinRefuses other read → ⊥) → (HasFailed input → ⊥) → (HasFailed output → ⊥) → (status ≡ Done) ⊎ (status ≡ NoMemory)
+
+-- a page and a sheet that are not refused are told of, where no read or write failed and the memory sufficed
+abbrev pub PageIsTold : Type 0
+PageIsTold =
+    (words : List (List ℕ)) (status : Status) (input output err : Change) (held : Option PairsParts) → Ran words status input output err held
+    → form_of words ≡ Some Style → IsSomeAnd input.old (λ read. (other : Status) → StyleRefuses other read → ⊥) → (HasFailed input → ⊥) → (HasFailed output → ⊥) → (status ≡ Done) ⊎ (status ≡ NoMemory)
+
+-- a move that is not refused is explained, where no read or write failed and the memory sufficed
+abbrev pub MoveIsExplained : Type 0
+MoveIsExplained =
+    (words : List (List ℕ)) (from to : ℕ) (budget : Option ℕ) (status : Status) (input output err : Change) (held : Option PairsParts) → Ran words status input output err held
+    → form_of words ≡ Some (Why from to budget) → IsSomeAnd input.old (λ read. (other : Status) → WhyRefuses from to other read → ⊥) → (HasFailed input → ⊥) → (HasFailed output → ⊥) → (status ≡ Done) ⊎ (status ≡ NoMemory)
+
+-- two sheets that are not refused are compared, where no read or write failed and the memory sufficed
+abbrev pub SheetsAreCompared : Type 0
+SheetsAreCompared =
+    (words : List (List ℕ)) (split : ℕ) (budget : Option ℕ) (status : Status) (input output err : Change) (held : Option PairsParts) → Ran words status input output err held
+    → form_of words ≡ Some (Same split budget) → IsSomeAnd input.old (λ read. (other : Status) → SameRefuses split other read → ⊥) → (HasFailed input → ⊥) → (HasFailed output → ⊥) → (status ≡ Done) ⊎ (status ≡ NoMemory)
+
+-- what needs no input is done, where a made sheet has no fault, no write failed and the memory sufficed
+abbrev pub OthersAreDone : Type 0
+OthersAreDone =
+    (words : List (List ℕ)) (status : Status) (input output err : Change) (held : Option PairsParts) (form : Form) → Ran words status input output err held
+    → form_of words ≡ Some form → needs_input (Some form) ≡ false → ((rules : ℕ) → form ≡ Trial rules → HasNoFault (made_sheet rules)) → (HasFailed output → ⊥) → (status ≡ Done) ⊎ (status ≡ NoMemory)
+
+-- over a source whose count of faults stays, below its last value, no read fault is answered
+abbrev pub ConstantCountHasNoReadFault : Type 0
+ConstantCountHasNoReadFault =
+    (words : List (List ℕ)) (input output err : Change) (held : Option PairsParts) → input.new_faults ≡ input.old_faults → input.old_faults < last_count → Ran words ReadFault input output err held → ⊥
+
+-- over sinks whose counts of faults stay, below their last value, no write fault is answered
+abbrev pub ConstantCountHasNoWriteFault : Type 0
+ConstantCountHasNoWriteFault =
+    (words : List (List ℕ)) (input output err : Change) (held : Option PairsParts) → output.new_faults ≡ output.old_faults → output.old_faults < last_count → err.new_faults ≡ err.old_faults → err.old_faults < last_count → Ran words WriteFault input output err held → ⊥

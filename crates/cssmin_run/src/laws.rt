@@ -1,0 +1,45 @@
+//! What follows from the contract of a run, as functions that do nothing.
+
+ghost use Rattle.cssmin_run.specs.Laws as laws;
+
+/// Exactly words without a form are refused, and what other words ask for was done.
+pub fn words_decide_usage()
+    ensures usage { laws.OtherWordsAreUsage }
+    ensures min { laws.MinDoesItsWord }
+    ensures cmp { laws.CmpDoesItsWord }
+    ensures why { laws.WhyDoesItsWord }
+    ensures style { laws.StyleDoesItsWord }
+    ensures dead { laws.DeadDoesItsWord }
+    ensures check { laws.CheckDoesItsWord }
+    ensures same { laws.SameDoesItsWord }
+    ensures trial { laws.TrialDoesItsWord }
+{}
+
+/// What each status says of the input and the output.
+pub fn each_status_has_its_cause()
+    ensures done { laws.DoneIsMerged }
+    ensures unspent { laws.NoBudgetIsSpent }
+    ensures refused { laws.RefusedHasTheFault }
+    ensures read_fault { laws.ReadFaultHasFailed }
+    ensures write_fault { laws.WriteFaultHasFailed }
+    ensures front { laws.WriteFaultLeavesAFront }
+    ensures told { laws.StatusIsTold }
+{}
+
+/// Which status comes, but for want of memory, where no stream failed.
+pub fn each_sheet_has_its_status()
+    ensures refuses { laws.FaultIsRefused }
+    ensures complete { laws.FaultlessIsDone }
+    ensures checked { laws.LogIsChecked }
+    ensures told_dead { laws.SheetIsTold }
+    ensures told_style { laws.PageIsTold }
+    ensures told_why { laws.MoveIsExplained }
+    ensures told_same { laws.SheetsAreCompared }
+    ensures others { laws.OthersAreDone }
+{}
+
+/// Over streams whose counts of faults stay, no fault of reading or writing is answered.
+pub fn constant_counts_answer_no_fault()
+    ensures no_read_fault { laws.ConstantCountHasNoReadFault }
+    ensures no_write_fault { laws.ConstantCountHasNoWriteFault }
+{}

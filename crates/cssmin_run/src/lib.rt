@@ -1,0 +1,19 @@
+//! The program as a call: from the words of a command line, and from streams, to a status.
+#![tactic(auto)]
+
+mod commands;
+mod laws;
+mod running;
+mod status;
+mod tasks;
+mod telling;
+mod words;
+mod writing;
+
+pub use laws::{
+    constant_counts_answer_no_fault, each_sheet_has_its_status, each_status_has_its_cause,
+    words_decide_usage,
+};
+pub use running::{run, run_words};
+pub use status::{LogFault, Status};
+pub use words::words_after_name;

@@ -1,0 +1,180 @@
+//! The program's top call.
+
+ghost use Rattle.std.specs.Prelude.{◌≡◌, ◌≢◌, ◌⊎◌, ◌≤◌, ◌+◌, ℕ, List, Some, None, false, map, string_bytes, IfOk, IsErr};
+ghost use Rattle.command_words.specs.Forms.{form_of};
+ghost use Rattle.command_words.specs.Views.{form_if_some};
+ghost use Rattle.cssmin_run.specs.Change.{change_of, TakesAtMost};
+ghost use Rattle.cssmin_run.specs.Run.{most_taken, needs_input, Answers, Ran};
+ghost use Rattle.cssmin_run.specs.Telling.{Tells};
+
+use crate::commands::about::{help, version};
+use crate::commands::check::Check;
+use crate::commands::cmp::cmp;
+use crate::commands::dead::Dead;
+use crate::commands::min::Min;
+use crate::commands::same::Same;
+use crate::commands::style::Style;
+use crate::commands::trial::trial;
+use crate::commands::why::Why;
+use crate::status::Status;
+use crate::tasks::perform;
+use crate::telling::{tell, tell_no_memory};
+use command_words::{Command, command_of};
+use css_io::{Sink, Source};
+use overlap::Pairs;
+use std::alloc::{AllocError, Global};
+
+/// What a run does, by the command that the words are. Nothing is `held` before.
+fn obey<S: Source, O: Sink, E: Sink>(
+    alloc: Global,
+    words: &Vec<String>,
+    command: Option<Command<'_>>,
+    input: &mut S,
+    out: &mut O,
+    err: &mut E,
+    held: &mut Option<Pairs>,
+) -> Status
+    requires out_fits { (bytes : List ℕ) → O.fits out.old bytes }
+    requires err_fits { (bytes : List ℕ) → E.fits err.old bytes }
+    requires unheld { held.old ≡ None }
+    ensures answers { Answers (form_if_some command.entry) result
+        (change_of S.left S.faults input.old input.new)
+        (change_of O.written O.faults out.old out.new)
+        (change_of E.written E.faults err.old err.new) held.new }
+    ensures untouched { result ≢ Status.Done → result ≢ Status.WriteFault → out.new ≡ out.old }
+    ensures bounded { TakesAtMost (most_taken (form_if_some command.entry))
+        (change_of S.left S.faults input.old input.new) }
+    ensures unread { needs_input (form_if_some command.entry) ≡ false → input.new ≡ input.old }
+    ensures input_later { S.faults input.old ≤ S.faults input.new }
+    ensures out_later { O.faults out.old ≤ O.faults out.new }
+    ensures err_later { E.faults err.old ≤ E.faults err.new }
+{
+    match command {
+        Some(Command::Min { budget, report }) => {
+            let asked = report;
+            perform(alloc, words, &Min { budget, asked }, input, out, err, held)
+        }
+        Some(Command::Dead { budget }) => {
+            perform(alloc, words, &Dead { budget }, input, out, err, held)
+        }
+        Some(Command::Style) => perform(alloc, words, &Style, input, out, err, held),
+        Some(
+            Command::Cmp {
+                left,
+                right,
+                budget,
+                log,
+            },
+        ) => cmp(alloc, left, right, budget, log, out, err, held),
+        Some(Command::Check) => perform(alloc, words, &Check, input, out, err, held),
+        Some(Command::Why { from, to, budget }) => {
+            perform(
+                alloc,
+                words,
+                &Why { from, to, budget },
+                input,
+                out,
+                err,
+                held,
+            )
+        }
+        Some(Command::Same { split, budget }) => {
+            perform(alloc, words, &Same { split, budget }, input, out, err, held)
+        }
+        Some(Command::Trial { rules }) => trial(alloc, words, rules.number(), out, err, held),
+        Some(Command::Help(about)) => help(alloc, about, out, err),
+        Some(Command::Version) => version(alloc, out, err),
+        None => tell(alloc, words, Status::Usage, err),
+    }
+}
+
+/// Runs the program on the words after its name.
+///
+/// - `min` reads a style sheet from `input` to its end, and writes it to `out` with the same winners of the cascade in
+///   every legal document, in no more bytes; its report is told on `err`, where it is asked for, behind the text.
+/// - `cmp LEFT RIGHT` compares two selectors, and writes to `out` whether one element of a legal
+///   document can match both.
+/// - `dead` reads a sheet, and writes to `out` which of its selectors match nothing in any legal document.
+/// - `style` reads a document and a sheet, and writes to `out` which declarations win.
+/// - `why FROM TO` reads a sheet, and writes to `out` what hinders the move of one rule to another. `NoItem` comes
+///   exactly where there is no item of one of these numbers.
+/// - `same N` reads two sheets, the first one of N bytes, and writes to `out` what is found in them. `NoSplit` comes
+///   exactly where there are fewer bytes, and `SecondRefused` where the second sheet has a fault.
+/// - `check` reads a log, and writes to `out` whether it refutes its formula.
+/// - `trial N` merges a made sheet of N rules, and writes to `out` what came of it.
+///
+/// Words that ask for help or the version have it written to `out`. What else happened is told on `err`.
+///
+/// `Usage` comes exactly of words that have no form. A sheet with a fault is refused (`SheetRefused`), and so is one of
+/// more than 1,048,576 bytes, after one byte more, or two of more than 2,097,152; so is a document (`DocRefused`), and a
+/// log (`LogRefused`), whose bound is 134,217,728 bytes. `ReadFault` comes only where a read failed, `WriteFault` only
+/// where a write failed, each by a count that rose or has its last value, and after the latter a front of the text stands on `out`. No clause tells when memory is short: it
+/// may be at any point before the first byte is written, and a body that always answered so for words that have a form
+/// would meet them all. Tests stand against that. What follows for each status is told by the laws.
+///
+/// `held` is a place for the answers for pairs of selectors. What it holds is dropped. Afterwards it holds those
+/// that the run asked for, with its budget, where it asked and the status is `Done` or `WriteFault`, and else
+/// none.
+#[tactic(auto, using(crate::proofs::Forms::answered))]
+pub fn run<S: Source, O: Sink, E: Sink>(
+    alloc: Global,
+    words: &Vec<String>,
+    input: &mut S,
+    out: &mut O,
+    err: &mut E,
+    held: &mut Option<Pairs>,
+) -> Status
+    // Every text may be written.
+    requires out_fits { (bytes : List ℕ) → O.fits out.old bytes }
+    requires err_fits { (bytes : List ℕ) → E.fits err.old bytes }
+
+    // Exactly words without a form are refused; else what they ask for was done, and what came of it was told.
+    ensures ran { Ran (map string_bytes words.now.items) result
+        (change_of S.left S.faults input.old input.new)
+        (change_of O.written O.faults out.old out.new)
+        (change_of E.written E.faults err.old err.new) held.new }
+
+    // What stays, and how much was read.
+    ensures untouched { result ≢ Status.Done → result ≢ Status.WriteFault → out.new ≡ out.old }
+    ensures unread { needs_input (form_of (map string_bytes words.now.items)) ≡ false
+        → input.new ≡ input.old }
+    ensures bounded { TakesAtMost (most_taken (form_of (map string_bytes words.now.items)))
+        (change_of S.left S.faults input.old input.new) }
+
+    // No count of faults falls.
+    ensures later { (S.faults input.old ≤ S.faults input.new) × (O.faults out.old ≤ O.faults out.new)
+        × (E.faults err.old ≤ E.faults err.new) }
+{
+    *held = None;
+    obey(alloc, words, command_of(words), input, out, err, held)
+}
+
+/// Runs the program on its words, where there was room for them; else it tells that there was none.
+pub fn run_words<S: Source, O: Sink, E: Sink>(
+    alloc: Global,
+    words: Result<Vec<String>, AllocError>,
+    input: &mut S,
+    out: &mut O,
+    err: &mut E,
+    held: &mut Option<Pairs>,
+) -> Status
+    requires out_fits { (bytes : List ℕ) → O.fits out.old bytes }
+    requires err_fits { (bytes : List ℕ) → E.fits err.old bytes }
+    ensures ran { IfOk words (λ words. Ran (map string_bytes words.items) result
+        (change_of S.left S.faults input.old input.new)
+        (change_of O.written O.faults out.old out.new)
+        (change_of E.written E.faults err.old err.new) held.new) }
+    ensures no_room { IsErr words → result ≡ Status.NoMemory }
+    ensures unread { IsErr words → input.new ≡ input.old }
+    ensures unheld { IsErr words → held.new ≡ None }
+    ensures told { IsErr words → Tells result (change_of E.written E.faults err.old err.new) }
+    ensures untouched { result ≢ Status.Done → result ≢ Status.WriteFault → out.new ≡ out.old }
+{
+    match words {
+        Ok(words) => run(alloc, &words, input, out, err, held),
+        Err(AllocError) => {
+            *held = None;
+            tell_no_memory(err)
+        }
+    }
+}

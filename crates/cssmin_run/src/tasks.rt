@@ -1,0 +1,105 @@
+//! Commands that read all of their input, make a text of it and perhaps a report, and write these.
+
+ghost use Rattle.std.specs.Prelude.{◌≡◌, ◌≢◌, ◌+◌, ◌-◌, ◌^◌, ◌<◌, ◌≤◌, ℕ, List, Option, None, length};
+ghost use Rattle.cssmin_run.specs.Change.{change_of, TakesAtMost};
+ghost use Rattle.cssmin_run.specs.Status.{IsRefusal};
+ghost use Rattle.cssmin_run.specs.Tasks.{Does, IsAnswered, Reads};
+ghost use Rattle.cssmin_run.specs.declared.status.Status.{Status};
+ghost use Rattle.overlap.specs.PairsParts.{PairsParts};
+
+use crate::status::Status;
+use crate::telling::tell;
+use crate::writing::write_text;
+use css_io::{ReadError, Sink, Source, read_all};
+use overlap::Pairs;
+use std::alloc::Global;
+
+/// What is made of an input.
+#[derive(Drop)]
+pub(crate) struct Answer {
+    /// The text that is to be written.
+    pub(crate) text: Vec<u8>,
+    /// The report that is to be told on standard error, which may be empty.
+    pub(crate) report: Vec<u8>,
+    /// The answers for pairs of selectors that were asked for, if the command asks for any.
+    pub(crate) held: Option<Pairs>,
+}
+
+/// What a command makes of its input.
+pub(crate) trait Task {
+    // The most bytes that an input may have.
+    ghost most: { Self → ℕ };
+
+    // The text and the report that are made of the bytes that were read, and the answers that are held then.
+    ghost makes: { Self → List ℕ → List ℕ → List ℕ → Option PairsParts → Type 0 };
+
+    // Which bytes are refused, by the status that tells it.
+    ghost refuses: { Self → Status → List ℕ → Type 0 };
+
+    /// The most bytes that an input may have.
+    fn limit(&self) -> u32
+        ensures is { result ≡ most self.now }
+        ensures below { result < 2 ^ 32 - 1 };
+
+    /// How an input of more bytes is refused.
+    fn too_long(&self) -> Status
+        ensures refusal { IsRefusal result }
+        ensures cause { (read : List ℕ) → most self.now < length read
+            → refuses self.now result read };
+
+    /// What is made of an input, or the status that tells why it is refused, or that memory was short.
+    fn answer(&self, alloc: Global, bytes: &[u8]) -> Result<Answer, Status>
+        ensures { IsAnswered (makes self.now) (refuses self.now) bytes.now result };
+}
+
+/// Reads an input to its end, and makes what a command makes of it.
+#[tactic(auto, using(crate::proofs::Reading::reads_answered, crate::proofs::Reading::reads_too_long, crate::proofs::Reading::all_taken))]
+fn read_answer<T: Task, S: Source>(alloc: Global, task: &T, input: &mut S) -> Result<Answer, Status>
+    ensures read { Reads (T.most task.now) (T.makes task.now) (T.refuses task.now) result
+        (change_of S.left S.faults input.old input.new) }
+    ensures bounded { TakesAtMost (T.most task.now + 1)
+        (change_of S.left S.faults input.old input.new) }
+    ensures later { S.faults input.old ≤ S.faults input.new }
+{
+    let bytes = match read_all(alloc, input, task.limit()) {
+        Ok(bytes) => bytes,
+        Err(ReadError::ReadFault) => return Err(Status::ReadFault),
+        Err(ReadError::TooLong) => return Err(task.too_long()),
+        Err(ReadError::NoMemory) => return Err(Status::NoMemory),
+    };
+    task.answer(alloc, bytes.as_slice())
+}
+
+/// Reads `input` to its end, writes to `out` what the command makes of it, and tells on `err` its report, or why it is
+/// refused. Nothing is written before the whole text and the report are made. The answers that were asked for are `held`
+/// afterwards, and none where nothing was written. The status is never `Usage`.
+pub(crate) fn perform<T: Task, S: Source, O: Sink, E: Sink>(
+    alloc: Global,
+    words: &Vec<String>,
+    task: &T,
+    input: &mut S,
+    out: &mut O,
+    err: &mut E,
+    held: &mut Option<Pairs>,
+) -> Status
+    requires out_fits { (bytes : List ℕ) → O.fits out.old bytes }
+    requires err_fits { (bytes : List ℕ) → E.fits err.old bytes }
+    requires unheld { held.old ≡ None }
+    ensures outcome { Does (T.most task.now) (T.makes task.now) (T.refuses task.now) result
+        (change_of S.left S.faults input.old input.new)
+        (change_of O.written O.faults out.old out.new)
+        (change_of E.written E.faults err.old err.new) held.new }
+    ensures untouched { result ≢ Status.Done → result ≢ Status.WriteFault → out.new ≡ out.old }
+    ensures bounded { TakesAtMost (T.most task.now + 1)
+        (change_of S.left S.faults input.old input.new) }
+    ensures input_later { S.faults input.old ≤ S.faults input.new }
+    ensures out_later { O.faults out.old ≤ O.faults out.new }
+    ensures err_later { E.faults err.old ≤ E.faults err.new }
+{
+    let answer = match read_answer(alloc, task, input) {
+        Ok(answer) => answer,
+        Err(status) => return tell(alloc, words, status, err),
+    };
+    *held = answer.held;
+    write_text(answer.text.as_slice(), answer.report.as_slice(), out, err)
+}

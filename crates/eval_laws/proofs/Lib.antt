@@ -1,6 +1,0 @@
-mod Climbing
-mod Numbers
-mod Repeating
-mod Rows
-mod Seeing
-pub mod ForCallers

@@ -1,5 +1,0 @@
-mod Elements
-mod Expanding
-mod Paths
-mod Rules
-pub mod ForCallers

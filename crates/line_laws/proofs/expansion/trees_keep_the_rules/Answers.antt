@@ -1,5 +1,0 @@
-use Rattle.line_laws.proofs.Rules.{keeps_rules}
-use Rattle.line_laws.proofs.expansion.trees_keep_the_rules.Goals as goal
-
-pub returns : goal.returns
-returns c = keeps_rules

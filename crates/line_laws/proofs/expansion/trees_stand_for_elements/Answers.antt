@@ -1,5 +1,0 @@
-use Rattle.line_laws.proofs.Expanding.{expands, expands_document}
-use Rattle.line_laws.proofs.expansion.trees_stand_for_elements.Goals as goal
-
-pub returns : goal.returns
-returns c = (expands, expands_document)

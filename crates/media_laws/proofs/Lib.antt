@@ -1,3 +1,0 @@
-mod Meaning
-mod OpenedRoom
-mod Reading

@@ -1,0 +1,116 @@
+//! What blocks steps of small sheets, worked by hand.
+
+use crate::sheets::{DOWN, UP, sheet};
+use item_masks::item_masks;
+use merge_steps::{Step, is_step};
+use obstacles::{Obstacle, Obstacles, Other, PairPlace};
+use overlap::Pairs;
+use std::alloc::Global;
+use std::process::Abort;
+use step_obstacles::PairObstacles;
+
+/// What blocks a step of the sheet of a source.
+fn obstacle(
+    rt: &impl Abort,
+    alloc: Global,
+    obstacles: &mut PairObstacles,
+    source: &str,
+    step: &Step,
+) -> Option<Obstacle> {
+    let sheet = sheet(rt, alloc, source.as_bytes());
+    let is_step = is_step(&sheet, step);
+    assert!(rt; is_step, "{source}");
+    let masks = item_masks(alloc, &sheet.items).expect(rt, "memory");
+    obstacles
+        .obstacle(&sheet, &masks, step)
+        .expect(rt, "memory")
+}
+
+/// The first pair of a sheet.
+const FIRST: PairPlace = PairPlace {
+    item: 0,
+    sel: 0,
+    decl: 0,
+};
+
+/// The first pair of the second item.
+const NEXT: PairPlace = PairPlace { item: 1, ..FIRST };
+
+/// The second declaration of it.
+const NEXT_SECOND: PairPlace = PairPlace { decl: 1, ..NEXT };
+
+/// The first pair of the third item.
+const THIRD: PairPlace = PairPlace { item: 2, ..FIRST };
+
+/// The second declaration of it.
+const THIRD_SECOND: PairPlace = PairPlace { decl: 1, ..THIRD };
+
+/// A step that shares what the rules of the first and the third item have in common.
+const SHARE: Step = Step::Share { upper: 0, lower: 2 };
+
+/// A source, a step, and what blocks it: the moved pair and the other one.
+const ROWS: [(&str, Step, Option<(PairPlace, Other)>); 14] = [
+    (
+        ".a{top:0}.b{top:1px}.a{color:red;top:2px}",
+        UP,
+        Some((THIRD_SECOND, Other::Pair(NEXT))),
+    ),
+    (".a{top:0}@x;.a{left:0}", UP, Some((THIRD, Other::Kept(1)))),
+    (
+        ".a{top:0}:is(b){top:1px}.a{top:2px}",
+        UP,
+        Some((THIRD, Other::Kept(1))),
+    ),
+    // a kept rule that sets something else
+    (".a{top:0}:is(b){color:red}.a{top:2px}", UP, None),
+    // no element is a link that is visited and one that is not
+    ("a:link{top:0}a:visited{top:1px}a:link{top:2px}", UP, None),
+    // the pair stands again behind
+    (".a{top:0}.b{top:1px}.a{top:2px}.a{top:2px}", UP, None),
+    // so does the other one
+    (".a{top:0}.b{top:1px}.a{top:2px}.b{top:1px}", UP, None),
+    (
+        ".a{top:0}.b{color:red;top:1px}.a{left:0}",
+        DOWN,
+        Some((FIRST, Other::Pair(NEXT_SECOND))),
+    ),
+    (".a{top:0}.b{color:red}.a{left:0}", DOWN, None),
+    (
+        ".a{top:0;color:red}.c{top:1px}.b{top:0;margin:0}",
+        SHARE,
+        Some((FIRST, Other::Pair(NEXT))),
+    ),
+    (
+        ".a{top:0;color:red}.c{margin:0}.b{top:0;margin:0}",
+        SHARE,
+        None,
+    ),
+    (
+        ".a{top:0}.b{top:1px}.a{top:0}",
+        Step::CutDecl { item: 2, decl: 0 },
+        Some((THIRD, Other::Pair(NEXT))),
+    ),
+    (
+        ".a{top:0}.b{color:red}.a{top:0}",
+        Step::CutDecl { item: 2, decl: 0 },
+        None,
+    ),
+    (
+        ".a{top:0}.b{top:1px}.a{top:0}",
+        Step::CutDecl { item: 0, decl: 0 },
+        None,
+    ),
+];
+
+#[test]
+fn steps_are_blocked(rt: HostRuntime) {
+    let alloc = rt.alloc();
+    let mut obstacles = PairObstacles::new(alloc, Pairs::new(alloc, 0));
+    for (source, step, want) in &ROWS {
+        let found = match obstacle(&rt, alloc, &mut obstacles, source, step) {
+            Some(Obstacle { moved, other }) => Some((moved, other)),
+            None => None,
+        };
+        assert!(rt; found == *want, "{source}");
+    }
+}

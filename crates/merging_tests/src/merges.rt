@@ -1,0 +1,175 @@
+//! What sheets become, worked by hand, and that the plan by turns that lead is the plan by a look at each step.
+
+use crate::sheets::{PAGE, sheet};
+use cnf::NO_LIMIT;
+use merge_text::merge_text;
+use overlap::Pairs;
+use step_obstacles::PairObstacles;
+use trial_gen::make_sheet;
+
+/// What the page's sheet becomes, an item on each line here.
+const MERGED_PAGE: &str = "@font-face { font-family: \"Icon\"; src: url(icon.woff) }\
+html{font-size:16px;-webkit-text-size-adjust:100%}\
+body{color:#222}\
+body,h1,h2,ul{margin:0}\
+a:hover{color:#048}\
+img{border:0}\
+.row{margin:0 -8px}\
+.row::before,.row::after{content:\"\";display:table}\
+.row::after{clear:both}\
+.col{float:left;padding:0 8px;box-sizing:border-box}\
+.half{width:50%}\
+.third{width:33%}\
+.note{color:#555}\
+.btn{color:#fff;background:#06c}\
+.btn:hover{background:#048}\
+.btn:focus-visible { outline: 2px solid }\
+a,.link{color:#06c;text-decoration:none}\
+.hide{display:none}\
+@media print{.hide{display:block}}\
+.note{padding:4px}\
+@media (max-width: 600px){.half{width:100%}}";
+
+/// A source, its merged text, how many items both have, and how many steps are taken.
+const ROWS: [(&str, &str, u32, u32, u32); 20] = [
+    (PAGE, MERGED_PAGE, 27, 23, 5),
+    // Up is blocked, since both properties are of one family; down is free.
+    (
+        ".a{color:red}.b{top:0}.a{left:0}",
+        ".b{top:0}.a{color:red;left:0}",
+        3,
+        2,
+        1,
+    ),
+    // Up and down are free and save the same; up is first.
+    (
+        "div{color:red}span{color:blue}div{color:green}",
+        "div{color:red;color:green}span{color:blue}",
+        3,
+        2,
+        1,
+    ),
+    ("a{top:0}b{top:0}", "a,b{top:0}", 2, 1, 1),
+    (".a{color:red;color:red}", ".a{color:red}", 1, 1, 1),
+    (
+        ".a{color:red}.c:focus-visible{top:0}.a{color:green}",
+        ".a{color:red;color:green}.c:focus-visible{top:0}",
+        3,
+        2,
+        1,
+    ),
+    // Both cuts save the same; the first is taken.
+    ("a,b,a{top:0}", "b,a{top:0}", 1, 1, 1),
+    (".a,.b{top:0}.a{top:0}", ".a,.b{top:0}", 2, 1, 1),
+    (
+        ".a{top:0;color:red;clear:both}.b{color:red;clear:both;width:1px}",
+        ".a{top:0}.a,.b{color:red;clear:both}.b{width:1px}",
+        2,
+        3,
+        1,
+    ),
+    (
+        "@media print { a{top:0} b{top:0} }",
+        "@media print{a,b{top:0}}",
+        3,
+        2,
+        1,
+    ),
+    // In the body down is free; no rule moves across the block.
+    (
+        ".a{top:0}@media print{.a{color:red}.b{top:0}.a{left:0}}.a{top:2px}",
+        ".a{top:0}@media print{.b{top:0}.a{color:red;left:0}}.a{top:2px}",
+        6,
+        5,
+        1,
+    ),
+    // The root has no parent, so the two selectors do not meet.
+    (
+        ".a>.b{top:0}.c:root{top:1px}.a>.b{top:2px}",
+        ".a>.b{top:0;top:2px}.c:root{top:1px}",
+        3,
+        2,
+        1,
+    ),
+    // These stay as they stand.
+    ("", "", 0, 0, 0),
+    (
+        ".a{top:0}.b{top:1px}.a{top:2px}",
+        ".a{top:0}.b{top:1px}.a{top:2px}",
+        3,
+        3,
+        0,
+    ),
+    (
+        ".a{background:red;background:linear-gradient(red,blue)}",
+        ".a{background:red;background:linear-gradient(red,blue)}",
+        1,
+        1,
+        0,
+    ),
+    (
+        ".a{color:red}.c:focus-visible{color:blue}.a{color:green}",
+        ".a{color:red}.c:focus-visible{color:blue}.a{color:green}",
+        3,
+        3,
+        0,
+    ),
+    (
+        ".a{top:0}@media print{.b{top:1px}}.a{top:2px}",
+        ".a{top:0}@media print{.b{top:1px}}.a{top:2px}",
+        4,
+        4,
+        0,
+    ),
+    // An `@import` in the body: it is not opened.
+    (
+        "@media print{@import \"x\";a{top:0}b{top:0}}",
+        "@media print{@import \"x\";a{top:0}b{top:0}}",
+        1,
+        1,
+        0,
+    ),
+    (
+        ".a>.b{top:0}.c.d{top:1px}.a>.b{top:2px}",
+        ".a>.b{top:0}.c.d{top:1px}.a>.b{top:2px}",
+        3,
+        3,
+        0,
+    ),
+    (
+        ".a{margin:0;margin-left:1px}.b{margin:0}",
+        ".a{margin:0;margin-left:1px}.b{margin:0}",
+        2,
+        2,
+        0,
+    ),
+];
+
+#[test]
+fn what_sheets_become(rt: HostRuntime) {
+    let alloc = rt.alloc();
+    assert_eq!(rt; MERGED_PAGE.len(), 625);
+    for (source, text, read, written, taken) in &ROWS {
+        let mut obstacles = PairObstacles::new(alloc, Pairs::new(alloc, NO_LIMIT));
+        let merged = merge_text(alloc, &mut obstacles, source.as_bytes()).expect(&rt, "a text");
+        assert!(rt; merged.text.as_slice() == text.as_bytes(), "{source}");
+        let found = (merged.read_items, merged.written_items, merged.taken);
+        assert_eq!(rt; found, (*read, *written, *taken), "{source}");
+    }
+}
+
+#[test]
+fn leads_plan_as_the_plain_loop_does(rt: HostRuntime) {
+    let alloc = rt.alloc();
+    for (rules, taken) in [(0, 0), (10, 2), (20, 4), (40, 9), (60, 13)] {
+        let source = make_sheet(alloc, rules).expect(&rt, "memory");
+        let old = sheet(&rt, alloc, &source);
+        let mut obstacles = PairObstacles::new(alloc, Pairs::new(alloc, NO_LIMIT));
+        let plain = merge_plan::merge(alloc, &mut obstacles, &source, old).expect(&rt, "memory");
+        let old = sheet(&rt, alloc, &source);
+        let mut obstacles = PairObstacles::new(alloc, Pairs::new(alloc, NO_LIMIT));
+        let by_leads = lead_merge::merge(alloc, &mut obstacles, &source, old).expect(&rt, "memory");
+        assert!(rt; by_leads.sheet == plain.sheet, "at {rules}");
+        assert_eq!(rt; (by_leads.taken, plain.taken), (taken, taken), "at {rules}");
+    }
+}

@@ -1,4 +1,0 @@
-pub mod ForCallers
-pub mod Shapes
-pub mod Shortest
-pub mod Tokens

@@ -1,5 +1,0 @@
-use Rattle.notation_laws.proofs.Shapes.{text_is_notation, text_is_read}
-use Rattle.notation_laws.proofs.laws.notation_text_reads_back.Goals as goal
-
-pub returns : goal.returns
-returns c = record { notation = text_is_notation; read = text_is_read }

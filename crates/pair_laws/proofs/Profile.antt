@@ -1,0 +1,11 @@
+pub mod Compounds
+pub mod Decoded
+pub mod DerivedChains
+pub mod DerivedTests
+pub mod Fitted
+pub mod NamedChains
+pub mod NamedTests
+pub mod NamedTokens
+pub mod Sizes
+pub mod Spelled
+pub mod Wide

@@ -1,0 +1,12 @@
+pub mod Behind
+pub mod Between
+pub mod Coming
+pub mod Floors
+pub mod Held
+pub mod Hindering
+pub mod Hindrances
+pub mod KeptWalls
+pub mod Keys
+pub mod Neighbours
+pub mod Others
+pub mod Renumbers

@@ -1,0 +1,5 @@
+use Rattle.plan_laws.proofs.Wall.Coming.{savings_go_on}
+use Rattle.plan_laws.proofs.beside.savings_go_on.Goals as goal
+
+pub returns : goal.returns
+returns c = savings_go_on c.steps_weigh.ensures

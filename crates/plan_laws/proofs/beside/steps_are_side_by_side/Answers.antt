@@ -1,0 +1,5 @@
+use Rattle.plan_laws.proofs.Wall.Neighbours.{side_by_side}
+use Rattle.plan_laws.proofs.beside.steps_are_side_by_side.Goals as goal
+
+pub returns : goal.returns
+returns c = side_by_side c.steps_rearrange.ensures c.cuts_rearrange.ensures c.unmoved_keep_their_order.ensures

@@ -1,0 +1,5 @@
+use Rattle.plan_laws.proofs.Wall.Coming.{steps_come_back}
+use Rattle.plan_laws.proofs.beside.steps_come_back.Goals as goal
+
+pub returns : goal.returns
+returns c = steps_come_back

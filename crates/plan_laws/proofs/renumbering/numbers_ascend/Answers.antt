@@ -1,0 +1,5 @@
+use Rattle.plan_laws.proofs.Wall.Renumbers.{numbers_ascend}
+use Rattle.plan_laws.proofs.renumbering.numbers_ascend.Goals as goal
+
+pub returns : goal.returns
+returns c = numbers_ascend

@@ -1,0 +1,5 @@
+use Rattle.plan_laws.proofs.Wall.Hindrances.{kept_hindrances_stay}
+use Rattle.plan_laws.proofs.staying.kept_hindrances_stay.Goals as goal
+
+pub returns : goal.returns
+returns c = kept_hindrances_stay

@@ -1,0 +1,31 @@
+//! What a plan holds of the steps of a sheet.
+
+ghost use Rattle.plan_laws.specs.Wall.Holding.{HeldIsCovered, HinderedIsBlocked, HoldingGoesOn};
+
+use crate::beside::{savings_go_on, steps_are_side_by_side};
+use crate::renumbering::{hindrances_go_on, kept_hindrances_go_on};
+use step_laws::steps_stay_sound;
+
+/// What hinders an edit blocks it.
+pub fn hindered_is_blocked()
+    ensures { HinderedIsBlocked }
+{}
+
+/// Each join or share of a sheet that saves waits or is set aside with what blocks it: so it is behind a step,
+/// where what waits or is set aside of other items stays at its new numbers, where what was set aside for a
+/// moved pair waits again, and where the steps of new items wait.
+pub fn holding_goes_on()
+    ensures { HoldingGoesOn }
+{
+    steps_are_side_by_side();
+    savings_go_on();
+    hindrances_go_on();
+    kept_hindrances_go_on();
+    steps_stay_sound();
+}
+
+/// Where each join or share is held, and each cut that saves waits or is blocked, each step that saves is blocked
+/// or something waits that does not come later.
+pub fn held_is_covered()
+    ensures { HeldIsCovered }
+{}

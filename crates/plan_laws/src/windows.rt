@@ -1,0 +1,27 @@
+//! Laws by which what a step reverses is told from the part of the sheet that it changes.
+
+ghost use Rattle.plan_laws.specs.Window.Beside.{ReversedStandBeside};
+ghost use Rattle.plan_laws.specs.Window.StepWindows.{StepsHaveWindows};
+ghost use Rattle.plan_laws.specs.Window.Windows.{WindowsTellKept, WindowsTellPairs};
+
+/// Two pairs are reversed exactly where they are within a window, and neither stands behind it.
+pub fn windows_tell_pairs()
+    ensures { WindowsTellPairs }
+{}
+
+/// A pair and a kept item are reversed exactly where they are within a window, and the pair does not stand
+/// behind it.
+pub fn windows_tell_kept()
+    ensures { WindowsTellKept }
+{}
+
+/// Each step has a window: from its first item to its last one, and of a cut from the first item of the sheet.
+pub fn steps_have_windows()
+    ensures { StepsHaveWindows }
+{}
+
+/// What a step reverses with a moved pair stands in an item of its window that is not the receiver of a join by
+/// selectors.
+pub fn reversed_stand_beside()
+    ensures { ReversedStandBeside }
+{}

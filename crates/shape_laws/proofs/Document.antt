@@ -1,0 +1,9 @@
+pub mod Climbing
+pub mod Elements
+pub mod Marked
+pub mod Matching
+pub mod Paths
+pub mod Rows
+pub mod Showing
+pub mod Standing
+pub mod Tests

@@ -1,5 +1,0 @@
-use Rattle.wall_laws.proofs.Hindrances.{kept_hindrances_stay}
-use Rattle.wall_laws.proofs.staying.kept_hindrances_stay.Goals as goal
-
-pub returns : goal.returns
-returns c = kept_hindrances_stay

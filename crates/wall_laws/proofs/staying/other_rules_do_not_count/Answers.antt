@@ -1,5 +1,0 @@
-use Rattle.wall_laws.proofs.Hindrances.{other_rules_do_not_count}
-use Rattle.wall_laws.proofs.staying.other_rules_do_not_count.Goals as goal
-
-pub returns : goal.returns
-returns c = other_rules_do_not_count

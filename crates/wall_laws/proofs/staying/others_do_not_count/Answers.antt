@@ -1,5 +1,0 @@
-use Rattle.wall_laws.proofs.Others.{others_do_not_count}
-use Rattle.wall_laws.proofs.staying.others_do_not_count.Goals as goal
-
-pub returns : goal.returns
-returns c = others_do_not_count

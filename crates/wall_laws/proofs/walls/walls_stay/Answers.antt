@@ -1,5 +1,0 @@
-use Rattle.wall_laws.proofs.Others.{walls_stay}
-use Rattle.wall_laws.proofs.walls.walls_stay.Goals as goal
-
-pub returns : goal.returns
-returns c = walls_stay
