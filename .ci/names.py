@@ -3,11 +3,11 @@
 
 Usage: .ci/names.py
 
-Each name that a library gives out (`pub use` of its lib.rt) is to stand between backticks in
-docs/CLAIMS.md or on a page of docs/definitions. Each name and each path that stands between backticks
-there, and in docs/BELIEVE.md and docs/ARCHITECTURE.md, is to be one of the repository. Words with a
-hyphen are passed over, since they are mostly words of CSS. Prints file and line of each that is not
-so, and ends with 1 where there is one.
+Each name that a library gives out (`pub use` or `pub fn` of its lib.rt) is to stand between backticks
+in docs/CLAIMS.md or on a page of docs/definitions. Each name and each path that stands between backticks
+there, and in the documents of `OTHERS`, is to be one of the repository. Words with a hyphen are passed
+over, since they are mostly words of CSS. Prints file and line of each that is not so, and ends with 1
+where there is one.
 """
 
 import fnmatch
@@ -16,12 +16,16 @@ import os
 import re
 import sys
 
-GIVEN = re.compile(r"^pub use ([\w:]+?)::(?:\{([^}]*)\}|(\w+));", re.M)
+GIVEN = re.compile(r"^pub (?:use (?:\w+::)+(?:\{([^}]*)\}|(\w+));|(?:fn|struct|enum|trait|const|type) (\w+))", re.M)
 QUOTED = re.compile(r"(?<!`)`([^`\n]+)`(?!`)")
 NAME = re.compile(r"[^\W\d][\w'’-]*")
 NAMES = re.compile(r"[^\W\d][\w']*(?:(?:::|\.)[^\W\d][\w']*)*(?:\(\))?")
 PATH = re.compile(r"[\w-][\w.-]*(?:/[\w.*-]+)*/?")
 PLACEHOLDER = re.compile(r"\b[A-Z]+\b(?=/)")
+# The documents that are read besides the claims and the definitions.
+OTHERS = ["docs/BELIEVE.md", "docs/ARCHITECTURE.md", "docs/THEORY.md", "docs/TRUST.md", "docs/USING.md"]
+# Words of CSS, HTML and scripts that the documents name.
+FOREIGN = {"background", "cssRules", "cssText", "gold", "method", "transparent"}
 ENDINGS = (".rt", ".antt", ".md", ".py", ".css", ".txt", ".edit", ".mjs")
 
 
@@ -47,7 +51,7 @@ def given_names():
     for path in sorted(glob.glob("crates/*/src/lib.rt")):
         text = text_of(path)
         for use in GIVEN.finditer(text):
-            group = 2 if use[2] is not None else 3
+            group = next(number for number in (1, 2, 3) if use[number] is not None)
             for name in re.finditer(r"\w+", use[group]):
                 yield path, line_of(text, use.start(group) + name.start()), name[0]
 
@@ -101,14 +105,14 @@ def missing_names(files):
     """What stands between backticks in the documents and nowhere else: the file, the line, the text."""
     paths = paths_of(files)
     names = known_names(files)
-    for document in [*claims(), "docs/BELIEVE.md", "docs/ARCHITECTURE.md"]:
+    for document in [*claims(), *OTHERS]:
         text = text_of(document)
         for quoted in QUOTED.finditer(text):
             whole = quoted[1]
             if is_path(whole):
                 found = is_there(whole, paths)
             elif NAMES.fullmatch(whole):
-                found = all(name in names for name in NAME.findall(whole))
+                found = whole in FOREIGN or all(name in names for name in NAME.findall(whole))
             else:
                 continue
             if not found:

@@ -105,7 +105,7 @@ def unknown(word, tip=b""):
 
 def unexpected(word):
     """What is told of a word behind `min` that it does not take."""
-    return b"error: unexpected argument '%s' found\n\nUsage: cssmin min [OPTIONS]\n%s" % (word, MORE)
+    return b"error: unexpected argument '%s' found\n\nUsage: cssmin min [OPTIONS] <SHEET >TARGET\n%s" % (word, MORE)
 
 
 def try_words(tries):
@@ -113,6 +113,7 @@ def try_words(tries):
         ("no word", [], NO_WORD),
         ("another word", ["mim"], unknown(b"mim", b"  tip: a similar subcommand exists: 'min'\n\n")),
         ("a word too much", ["min", "min"], unexpected(b"min")),
+        ("the name of a file", ["min", "site.css"], unexpected(b"site.css")),
         ("a budget too great", ["cmp", "a", "b", "--budget", "20001"],
             b"error: invalid value '20001' for '--budget <N>': 20001 is not in 0..=20000\n" + MORE),
         ("a leading zero", ["cmp", "a", "b", "--budget", "07"], USAGE),
@@ -192,7 +193,7 @@ def try_wrong_lines(tries):
 def try_itself(tries):
     """Help and the version, which is that of README, of the man page and of the latest changes."""
     versions = set()
-    for path, line in [("README.md", r"^Version (\S+)\."), ("docs/cssmin.1", r'"cssmin (\S+)"'), ("CHANGELOG.md", r"^## (\S+)")]:
+    for path, line in [("README.md", r"^Version (\S+)\."), ("docs/cssmin.1", r'"cssmin (\S+)"'), ("CHANGELOG.md", r"^## (\d\S*)")]:
         with open(path, encoding="utf-8") as file:
             version = re.search(line, file.read(), re.MULTILINE)[1]
         versions.add(version)
@@ -211,10 +212,15 @@ def try_itself(tries):
         tries.check("help for a full output", ["--help"], SHEET, 5, b"", WRITE_FAULT, stdout=full)
 
 
-def try_readme(tries):
-    """Each example of README gives what stands below it. One that calls another tool is left out where that is not there."""
-    with open("README.md", encoding="utf-8") as file:
+# The documents with examples: lines that begin with four spaces and `$`, and below them what they write.
+DOCUMENTS = ["README.md", "docs/USING.md"]
+
+
+def try_document(tries, document):
+    """Each example gives what the document has below it. One that calls another tool is left out where that is not there."""
+    with open(document, encoding="utf-8") as file:
         blocks = re.findall(r"^    \$ (.*)\n((?:    (?!\$ ).*\n)*)", file.read(), re.MULTILINE)
+    tries.is_same(document, "whether it has examples", blocks != [], True)
     with tempfile.TemporaryDirectory() as folder:
         os.symlink(tries.program, os.path.join(folder, "cssmin"))
         os.symlink(os.path.abspath("examples"), os.path.join(folder, "examples"))
@@ -226,7 +232,7 @@ def try_readme(tries):
             ran = subprocess.run(
                 command, shell=True, cwd=folder, env=env, stdout=subprocess.PIPE, stderr=subprocess.STDOUT, timeout=60
             )
-            tries.is_same(command, "what it gives", ran.stdout.decode(), re.sub(r"^    ", "", below, flags=re.MULTILINE))
+            tries.is_same(f"{document}: {command}", "what it gives", ran.stdout.decode(), re.sub(r"^    ", "", below, flags=re.MULTILINE))
 
 
 def try_pages(tries):
@@ -500,7 +506,8 @@ def main():
     try_words(tries)
     try_wrong_lines(tries)
     try_itself(tries)
-    try_readme(tries)
+    for document in DOCUMENTS:
+        try_document(tries, document)
     try_pages(tries)
     try_pairs(tries)
     try_logs(tries)
