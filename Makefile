@@ -3,7 +3,7 @@
 # make install    installs it below PREFIX (/usr/local), with its man page and completions for bash, zsh and fish
 # make examples   checks that the program gives the outputs beside the examples, and that they style every page alike
 # make bench      measures it, its reading of tokens and its answers for pairs, against wc -c on the same files
-# make sizes      prints the sizes that it and esbuild give the examples
+# make sizes      prints the sizes of the examples, as they are and made smaller by it and by other tools
 # make recipes    tries the recipes for builds in examples/build
 
 PREFIX ?= /usr/local

@@ -238,7 +238,7 @@ def try_document(tries, document):
 def try_pages(tries):
     """The man page and the completions name the commands and the options of the help, and no others."""
     page = tries.run(["--help"], b"").stdout.decode()
-    commands = re.findall(r"^  (\w+) ", page, re.MULTILINE)
+    commands = re.findall(r"^  ([a-z]+) ", page, re.MULTILINE)
     helps = [page, *(tries.run([word, "--help"], b"").stdout.decode() for word in commands if word != "help")]
     options = set(re.findall(r"--[a-z]+", "".join(helps)))
     for path in ["docs/cssmin.1", "completions/cssmin.bash", "completions/_cssmin", "completions/cssmin.fish"]:

@@ -1,5 +1,5 @@
 #!/bin/sh
-# Tells whether another sheet styles every page as a sheet does, as what a minifier made of it.
+# Tells whether the same declarations win in another sheet, as what a minifier made of it.
 #
 #     same.sh SHEET OTHER
 #     esbuild --minify --loader=css <sheet.css | same.sh sheet.css -
