@@ -1,7 +1,7 @@
 # make            proves and builds the program, and puts it here as ./cssmin
 # make check      the whole gate: every proof, must-fail edit, test and program, and the process tried
 # make install    installs it below PREFIX (/usr/local), with its man page and completions for bash, zsh and fish
-# make examples   checks that the program gives the outputs beside the examples, and that they style every page alike
+# make examples   checks that the program gives the outputs beside the examples, and that both have the same winners
 # make bench      measures it, its reading of tokens and its answers for pairs, against wc -c on the same files
 # make sizes      prints the sizes of the examples, as they are and made smaller by it and by other tools
 # make recipes    tries the recipes for builds in examples/build
