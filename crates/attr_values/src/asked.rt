@@ -39,8 +39,8 @@ pub(crate) fn first_asked(tests: &[(AttrTest, bool)], op: Op) -> Option<&Text>
     None
 }
 
-/// The longest value of the tests of an operator that are asked to hold, of equally long ones the
-/// first; empty if there is none.
+/// The longest value of the tests of an operator that are asked to hold; empty where there is none. Of equally long
+/// ones it is the first.
 pub(crate) fn longest_asked(tests: &[(AttrTest, bool)], op: Op) -> &[char]
     ensures { result.now ≡ longest (asked (is_op op) tests.now) }
 {
@@ -53,7 +53,7 @@ pub(crate) fn longest_asked(tests: &[(AttrTest, bool)], op: Op) -> &[char]
     best
 }
 
-/// The longer of two texts, of equally long ones the first.
+/// The longer of two texts. Of equally long ones it is the first.
 fn longer<'a>(best: &'a [char], other: &'a [char]) -> &'a [char]
     ensures { result.now ≡ longer best.now other.now }
 {

@@ -1,4 +1,4 @@
-//! Values of one attribute that pass attribute tests, each of which is asked to hold or not to hold.
+//! Values of one attribute that pass attribute tests as they are asked. Each test is asked to hold, or not to hold.
 #![tactic(auto)]
 
 mod asked;

@@ -18,9 +18,9 @@ use css_model::{AttrTest, Op};
 use memchr::memmem;
 use std::alloc::{AllocError, Global};
 
-/// Whether a value of code points passes each test as it is asked: holds it where the flag is true, and
-/// does not hold it where the flag is false (Selectors 3, sections 6.3.1, 6.3.2 and 6.6.7). The names
-/// in the tests do not count.
+/// Whether a value passes each test as it is asked (Selectors 3, sections 6.3.1, 6.3.2 and 6.6.7). A test with the flag
+/// true has to hold, one with the flag false has not to hold. The value is a list of code points. The names in the
+/// tests do not count. `AllocError` where memory runs out.
 pub fn passes_as_asked(
     alloc: Global,
     tests: &[(AttrTest, bool)],
@@ -38,7 +38,7 @@ pub fn passes_as_asked(
     Ok(true)
 }
 
-/// Whether a value, which is handed in as UTF-8 too, passes a test.
+/// Whether a value passes a test. `bytes` is the value in UTF-8.
 fn passes(alloc: Global, test: &AttrTest, value: &[char], bytes: &str) -> Result<bool, AllocError>
     requires { bytes.now ≡ encode_utf8_all value.now }
     ensures { IfOk result (λ passed. passed ≡ passes test.now.op test.now.value value.now) }
@@ -69,7 +69,7 @@ fn passes_suffix(value: &[char], v: &[char]) -> bool
     !v.is_empty() && value.ends_with(v)
 }
 
-/// Whether a value, which is handed in as UTF-8 too, contains another one that is not empty.
+/// Whether a value contains another one that is not empty. `bytes` is the value in UTF-8.
 fn passes_part(alloc: Global, value: &[char], bytes: &str, v: &[char]) -> Result<bool, AllocError>
     requires { bytes.now ≡ encode_utf8_all value.now }
     ensures { IfOk result (λ passed. passed ≡ passes Op.Part v.now value.now) }
@@ -81,7 +81,7 @@ fn passes_part(alloc: Global, value: &[char], bytes: &str, v: &[char]) -> Result
     Ok(has_part(bytes, part.as_str()))
 }
 
-/// Whether a text has a part: in UTF-8 no character begins inside another one, so that the bytes say it.
+/// Whether a text has a part. In UTF-8 no character begins inside another one, so the bytes decide it.
 fn has_part(bytes: &str, part: &str) -> bool
     ensures { (text v : List ℕ) → v ≢ [] → bytes.now ≡ encode_utf8_all text
         → part.now ≡ encode_utf8_all v → result ≡ has_part text v }
@@ -89,7 +89,7 @@ fn has_part(bytes: &str, part: &str) -> bool
     memmem::find(bytes.as_bytes(), part.as_bytes()).is_some()
 }
 
-/// A text in UTF-8.
+/// The bytes of a text in UTF-8.
 fn utf8(alloc: Global, text: &[char]) -> Result<String, AllocError>
     ensures { IfOk result (λ bytes. string_bytes bytes ≡ encode_utf8_all text.now) }
 {
@@ -124,7 +124,7 @@ fn is_white(c: char) -> bool
     c <= ' ' && matches!(c, ' ' | '\t' | '\n' | '\r' | '\u{c}')
 }
 
-/// Whether a word stands behind white space.
+/// Whether a text has a word after white space.
 fn has_word_later(text: &[char], word: &[char]) -> bool
     ensures { result ≡ has_word_later text.now word.now }
 {
@@ -138,7 +138,7 @@ fn has_word_later(text: &[char], word: &[char]) -> bool
     false
 }
 
-/// Whether a text begins with a word, behind which white space or the end follows.
+/// Whether a text begins with a word that white space or the end follows.
 fn begins_with_word(text: &[char], word: &[char]) -> bool
     ensures { result ≡ begins_with_word text.now word.now }
 {

@@ -26,7 +26,7 @@ const FIRST_SEPARATOR: u32 = 'a' as u32;
 /// How many code points there are.
 const CODE_POINTS: u32 = char::MAX as u32 + 1;
 
-/// The least code point from `a` on that stands in the value of no test, if there is one.
+/// The least code point from `a` on that is in the value of no test, if there is one.
 pub(crate) fn first_unused(
     alloc: Global,
     tests: &[(AttrTest, bool)],
@@ -39,7 +39,7 @@ pub(crate) fn first_unused(
     Ok(first_unmarked(marks.as_slice()))
 }
 
-/// Marks the code points from `a` on that stand in the value of some test.
+/// Marks the code points from `a` on that are in the value of some test.
 fn marks(alloc: Global, tests: &[(AttrTest, bool)]) -> Result<Vec<bool>, AllocError>
     ensures { IfOk result (λ marks. AreMarks marks.items tests.now) }
 {
@@ -61,7 +61,7 @@ fn mark_all(marks: &mut Vec<bool>, text: &[char]) -> Result<(), AllocError>
     Ok(())
 }
 
-/// Marks a code point; nothing where it stands before `a`.
+/// Marks a code point; nothing where it is below `a`.
 fn mark(marks: &mut Vec<bool>, c: char) -> Result<(), AllocError>
     ensures { OnOk result ((k : ℕ) → slice_index_or marks.new.items k false
         ≡ (slice_index_or marks.old.items k false || (c == first_separator + k))) }
@@ -119,7 +119,7 @@ fn all_taken(tests: &[(AttrTest, bool)]) -> bool
         && is_taken('\r', tests)
 }
 
-/// Whether a code point stands in the value of a Part that is asked not to hold.
+/// Whether a code point is in the value of a Part that is asked not to hold.
 fn is_taken(c: char, tests: &[(AttrTest, bool)]) -> bool
     ensures { result ≡ is_taken c tests.now }
 {
@@ -131,7 +131,7 @@ fn is_taken(c: char, tests: &[(AttrTest, bool)]) -> bool
     false
 }
 
-/// The first white space that is not taken; a space where each is.
+/// The first white space that is not taken; a space where all are.
 pub(crate) fn free_space(tests: &[(AttrTest, bool)]) -> char
     ensures { result ≡ free_space tests.now }
 {

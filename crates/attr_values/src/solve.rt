@@ -27,7 +27,7 @@ pub enum Fits {
 /// Why there is no answer.
 #[derive(Clone, Copy, Debug, PartialEq, Eq, Error)]
 pub enum ValueError {
-    /// A word is asked for, and each white space that could stand beside it is refused.
+    /// A word is asked for, and each white space that could separate it is refused.
     SpacesTaken,
     /// There is not enough memory.
     NoMemory,
@@ -57,26 +57,30 @@ impl From<AllocError> for ValueError {
     }
 }
 
-/// Where a white space is left and some text passes tests as they are asked, the value that is tried
-/// passes them.
+/// The value that is tried passes the tests as they are asked, where a white space is left and some text passes them.
 pub fn candidate_passes()
     ensures { CandidatePasses }
 {}
 
-/// How one attribute passes tests as they are asked, each of which is asked to hold where its flag is
-/// true, and asked not to hold where it is false (Selectors 3, sections 6.3.1, 6.3.2 and 6.6.7). The
-/// names in the tests do not count. Some code point from `a` on has to stand in the value of no test.
+/// How one attribute passes its tests as they are asked (Selectors 3, sections 6.3.1, 6.3.2 and 6.6.7). A test with the
+/// flag true is asked to hold, one with the flag false not to hold. The names in the tests do not count. Some code
+/// point from `a` on has to be in the value of no test.
 ///
-/// `Absent` exactly where no test is asked to hold. `Nothing` exactly where some is and no text passes
-/// as asked. Otherwise a value that does, of code points: the value of the first Equal that is asked
-/// for; else, where each test is one of a word or of presence, the words that are asked for, each once,
-/// with a space between each two; else the value of the first Dash that is asked for and passes; else,
-/// one after the other and with the least unused code point between them, the longest text that a value
-/// has to begin with, each Part, the words between white spaces, and the longest Suffix.
+/// - `SpacesTaken`, before all others, exactly where a Word is asked to hold, no Equal is, and each white space is in
+///   the value of a Part that is asked not to hold.
+/// - `Absent` exactly where no test is asked to hold.
+/// - `Nothing` exactly where some test is asked to hold, and no text passes as asked.
+/// - `Value` otherwise, with a value of code points that passes.
+/// - `NoMemory` where memory is short.
 ///
-/// `SpacesTaken` comes before all of this, exactly where a Word is asked to hold, no Equal is, and each
-/// white space stands in the value of a Part that is asked not to hold. `NoMemory` comes where memory is
-/// short.
+/// The value is the first of these that applies:
+///
+/// - the value of the first Equal that is asked for;
+/// - where each test is one of a word or of presence: the words that are asked for, each once, with a space between
+///   each two;
+/// - the value of the first Dash that is asked for and passes;
+/// - one after the other, with the least unused code point between them: the longest text that a value has to begin
+///   with, each Part, the words between white spaces, and the longest Suffix.
 pub fn solve_value(alloc: Global, tests: &[(AttrTest, bool)]) -> Result<Fits, ValueError>
     requires { HasUnused tests.now }
     ensures { IsSolved result tests.now }

@@ -5,15 +5,15 @@ ghost use Rattle.attr_values.specs.Value.{longer, longest, start_text, start_of,
 
 use css_model::{AttrTest, Op};
 
-/// What a value has to begin with: a text, and `-` behind it where `dash` is true.
+/// What a value has to begin with: a text, with `-` after it where `dash` is true.
 #[derive(Clone, Copy)]
 pub(crate) struct Start<'a> {
     pub(crate) value: &'a [char],
     pub(crate) dash: bool,
 }
 
-/// The longest of the values of Prefix that are asked for and those of Dash with `-`, of equally long
-/// ones the first; empty if there is none.
+/// The longest of the values of Prefix that are asked for and those of Dash with `-`; empty where there is none. Of
+/// equally long ones it is the first.
 pub(crate) fn longest_start(tests: &[(AttrTest, bool)]) -> Start<'_>
     ensures { start_text result.value.now result.dash ≡ longest (starts tests.now) }
 {
@@ -27,7 +27,7 @@ pub(crate) fn longest_start(tests: &[(AttrTest, bool)]) -> Start<'_>
     best
 }
 
-/// The longest so far, with one test more.
+/// The longer of the best start so far and that of one test more.
 fn with_start<'a>(best: Start<'a>, test: &'a AttrTest, wanted: bool) -> Start<'a>
     ensures { (rest : List (List ℕ)) → longer (start_text result.value.now result.dash) (longest rest)
         ≡ longer (start_text best.entry.value.now best.entry.dash)
@@ -44,7 +44,7 @@ fn with_start<'a>(best: Start<'a>, test: &'a AttrTest, wanted: bool) -> Start<'a
     }
 }
 
-/// The longer one, of equally long ones the first.
+/// The longer of two starts. Of equally long ones it is the first.
 fn longer_start<'a>(best: Start<'a>, other: Start<'a>) -> Start<'a>
     ensures { start_text result.value.now result.dash
         ≡ longer (start_text best.entry.value.now best.entry.dash)
@@ -57,7 +57,7 @@ fn longer_start<'a>(best: Start<'a>, other: Start<'a>) -> Start<'a>
     }
 }
 
-/// How many code points it has.
+/// How many code points a start has.
 fn start_len(start: Start<'_>) -> usize
     ensures { result ≡ length (start_text start.entry.value.now start.entry.dash) }
 {

@@ -24,9 +24,13 @@ use crate::start::{Start, longest_start};
 use css_model::{AttrTest, Op, Text};
 use std::alloc::{AllocError, Global};
 
-/// The value that is tried: that of the first Equal that is asked for; else, where each test is one of
-/// a word or of presence, the words that are asked for, each once, with a space between each two; else
-/// the value of the first Dash that is asked for and passes; else what is built of all that is asked.
+/// The value that is tried for tests. It is the first of these that applies:
+///
+/// - the value of the first Equal that is asked for;
+/// - where each test is one of a word or of presence: the words that are asked for, each once, with a space between
+///   each two;
+/// - the value of the first Dash that is asked for and passes;
+/// - what is built of all that is asked.
 pub(crate) fn candidate(alloc: Global, tests: &[(AttrTest, bool)]) -> Result<Text, AllocError>
     requires { HasUnused tests.now }
     ensures { IfOk result (λ v. IsCandidate v tests.now) }
@@ -60,8 +64,8 @@ fn without_equal(alloc: Global, tests: &[(AttrTest, bool)]) -> Result<Text, Allo
     }
 }
 
-/// The value of the first Dash that is asked for and passes. It is the longest of those that are asked
-/// for, since a value that passes is each of them or begins with it.
+/// The value of the first Dash that is asked for and passes. It is the longest of those that are asked for: a value
+/// that passes is each of them or begins with it.
 fn passing_dash<'a>(
     alloc: Global,
     tests: &'a [(AttrTest, bool)],
@@ -142,7 +146,7 @@ fn built(alloc: Global, tests: &[(AttrTest, bool)], words: &[Text]) -> Result<Ve
     }
 }
 
-/// The same with the separator `f`.
+/// All that is asked for, with the separator `f` between its pieces.
 fn built_with(
     alloc: Global,
     tests: &[(AttrTest, bool)],
@@ -172,7 +176,7 @@ fn push_start(out: &mut Vec<char>, start: Start<'_>) -> Result<(), AllocError>
     Ok(())
 }
 
-/// Appends the parts that are asked for, and a separator behind each.
+/// Appends the parts that are asked for, and a separator after each.
 fn push_parts(out: &mut Vec<char>, f: char, tests: &[(AttrTest, bool)]) -> Result<(), AllocError>
     ensures { OnOk result (out.new.items ≡ out.old.items ++ followed f (asked is_part tests.now) []) }
 {
@@ -206,7 +210,7 @@ fn push_words(
     Ok(())
 }
 
-/// Appends a text, and a code point behind it.
+/// Appends a text, and a code point after it.
 fn push_then(out: &mut Vec<char>, text: &[char], c: char) -> Result<(), AllocError>
     ensures { OnOk result (out.new.items ≡ out.old.items ++ (text.now ++ c ∷ [])) }
 {

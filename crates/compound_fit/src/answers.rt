@@ -83,7 +83,7 @@ pub(crate) fn attributes(
     Ok(Some(pairs))
 }
 
-/// Whether an answer is that nothing passes.
+/// Whether an answer is `Nothing`: no value passes.
 fn is_nothing(fits: &Fits) -> bool
     ensures { result ≡ is_nothing fits.now }
 {
@@ -114,7 +114,7 @@ fn push_pair(pairs: &mut Vec<(Text, Text)>, name: &Text, value: &Text) -> Result
     Ok(())
 }
 
-/// Looks at a text, which is then known to be one.
+/// Shows that a text is one, by reading it.
 fn see(text: &Text)
     ensures { IsText text.now }
 {

@@ -19,10 +19,10 @@ use std::alloc::{AllocError, Global};
 use std::fmt;
 use thiserror::Error;
 
-/// Why there are no features to tell of.
+/// Why there are no features to answer.
 #[derive(Clone, Copy, Debug, PartialEq, Eq, Error)]
 pub enum FitError {
-    /// A word of an attribute is asked for, and each white space that could stand beside it is refused.
+    /// A word of an attribute is asked for, and each white space that could separate it is refused.
     SpacesTaken,
     /// There is not enough memory.
     NoMemory,
@@ -53,20 +53,28 @@ impl From<AllocError> for FitError {
     }
 }
 
-/// The features of an element that passes each simple selector of a compound, and of a second one if
-/// there is one, other than those of its place among its siblings, of being the root and of what stands
-/// in it (Selectors 3, sections 6.1 to 6.6.4). The attribute `id` may be tested for presence and for
-/// equality alone, and for each attribute some code point from `a` on has to stand in the value of none
-/// of its tests.
+/// The features of an element that passes a compound, and a second one where there is one (Selectors 3, sections 6.1 to
+/// 6.6.4). Tests of its place among its siblings, of being the root and of what is in it do not count.
 ///
-/// `None` exactly where no legal element passes. Otherwise the type is the one that is asked for, or the
-/// first of `x`, `x1`, `x2` and so on that is not refused; the flags are those that are asked for; each
-/// attribute has the value that `solve_value` gives for its tests, and stays away where it gives none.
-/// The attribute `id` has the value that is asked for; where any will do it is empty, or where the empty
-/// one is refused the first of those names that is not. The features have no text.
+/// The attribute `id` may be tested for presence and for equality alone. For each attribute some code point from `a` on
+/// has to be in the value of none of its tests.
 ///
-/// `SpacesTaken` comes before all of this, exactly where `solve_value` gives it for an attribute other
-/// than `id`. `NoMemory` comes where memory is short.
+/// | answer | exactly when |
+/// |---|---|
+/// | `SpacesTaken` | before all others: `solve_value` gives it for an attribute other than `id` |
+/// | `None` | no legal element passes |
+/// | features | otherwise |
+///
+/// `NoMemory` comes where memory is short.
+///
+/// The features are:
+///
+/// - The type is the one that is asked for, or the first of `x`, `x1`, `x2` .. that is not refused.
+/// - The flags are those that are asked for.
+/// - Each attribute has the value that `solve_value` gives for its tests, and is absent where it gives none.
+/// - The attribute `id` has the value that is asked for. Where any will do it is empty; where the empty one is refused,
+///   it is the first of those names that is not.
+/// - There is no text.
 pub fn fit(alloc: Global, x: &Compound, y: Option<&Compound>) -> Result<Option<Features>, FitError>
     requires ids { HasPlainIds (x.now ++ simples_of (option_copied y)) }
     requires unused { (name : List ℕ)
@@ -79,7 +87,7 @@ pub fn fit(alloc: Global, x: &Compound, y: Option<&Compound>) -> Result<Option<F
     }
 }
 
-/// The same for simple selectors.
+/// Features of an element that passes the simple selectors of two lists.
 pub(crate) fn fit_both(
     alloc: Global,
     x: &[Simple],
@@ -93,7 +101,7 @@ pub(crate) fn fit_both(
     fit_all(alloc, simples.as_slice())
 }
 
-/// The simple selectors of both.
+/// The simple selectors of two lists, one after the other.
 fn joined(alloc: Global, x: &[Simple], y: &[Simple]) -> Result<Vec<Simple>, AllocError>
     ensures { IfOk result (λ simples. simples.items ≡ x.now ++ y.now) }
 {
@@ -114,7 +122,7 @@ fn push_copies(simples: &mut Vec<Simple>, more: &[Simple]) -> Result<(), AllocEr
     Ok(())
 }
 
-/// The same for the simple selectors of both together.
+/// Features of an element that passes simple selectors.
 fn fit_all(alloc: Global, simples: &[Simple]) -> Result<Option<Features>, FitError>
     requires ids { HasPlainIds simples.now }
     requires unused { (name : List ℕ) → HasUnused (tests_of name (attribute_tests simples.now)) }

@@ -15,12 +15,12 @@ ghost use Rattle.compound_fit.specs.Fitting.{simples_of};
 
 use css_model::{Compound, Op, Simple, Test};
 
-/// How many code points may stand in the values of the tests: fewer than there are from U+10000 on.
+/// How many code points may be in the values of the tests: fewer than there are from U+10000 on.
 const MOST_VALUES: usize = 0xFFFFF;
 
-/// Whether `fit` may be asked of compounds: where the attribute `id` is tested for presence and equality
-/// alone, and at most 1,048,575 code points stand in the values of the tests of attributes, so that some
-/// code point from `a` on stands in none of them. Takes no memory.
+/// Whether `fit` may be asked of compounds. It may where the attribute `id` is tested for presence and equality alone,
+/// and the values of the tests of attributes have at most 1,048,575 code points together. Then some code point from `a`
+/// on is in none of them.
 pub fn is_fittable(x: &Compound, y: Option<&Compound>) -> bool
     ensures exact { result ≡ is_small (x.now ++ simples_of (option_copied y.entry)) }
     ensures enough { IsTrue result → IsFittable (x.now ++ simples_of (option_copied y.entry)) }
@@ -31,7 +31,7 @@ pub fn is_fittable(x: &Compound, y: Option<&Compound>) -> bool
     }
 }
 
-/// The same for simple selectors.
+/// Whether `fit` may be asked of the simple selectors of two lists.
 fn both_are_small(x: &[Simple], y: &[Simple]) -> bool
     ensures exact { result ≡ is_small (x.now ++ y.now) }
     ensures enough { IsTrue result → IsFittable (x.now ++ y.now) }
@@ -39,7 +39,7 @@ fn both_are_small(x: &[Simple], y: &[Simple]) -> bool
     are_small(x, y)
 }
 
-/// Whether the tests of the attribute `id` are plain, and few enough code points stand in values.
+/// Whether the tests of the attribute `id` are plain, and the values have few enough code points.
 fn are_small(x: &[Simple], y: &[Simple]) -> bool
     ensures { result ≡ is_small (x.now ++ y.now) }
 {
@@ -53,7 +53,7 @@ fn has_plain_tests(simples: &[Simple]) -> bool
     simples.iter().all(|simple| is_plain_id(&simple.test))
 }
 
-/// Whether a test of the attribute `id` is one of presence or equality; any other test is fine.
+/// Whether a test of the attribute `id` is one of presence or equality; true of any other test.
 fn is_plain_id(test: &Test) -> bool
     ensures { result ≡ is_plain_id test.now }
 {
@@ -70,7 +70,7 @@ fn is_id(name: &[char]) -> bool
     name == ['i', 'd'].as_slice()
 }
 
-/// Whether few enough code points stand in the values of both.
+/// Whether the values of two lists of simple selectors have few enough code points.
 fn have_room(x: &[Simple], y: &[Simple]) -> bool
     ensures { result ≡ nat_le (values_size (x.now ++ y.now)) most_values }
 {
@@ -80,7 +80,7 @@ fn have_room(x: &[Simple], y: &[Simple]) -> bool
     }
 }
 
-/// How many code points have room behind those in the values, where these have.
+/// How much room is left after the code points in the values; `None` where they do not fit.
 fn room_behind(simples: &[Simple], room: usize) -> Option<usize>
     ensures { MatchOption result (room < values_size simples.now) (λ left. left + values_size simples.now ≡ room) }
 {
@@ -95,7 +95,7 @@ fn room_behind(simples: &[Simple], room: usize) -> Option<usize>
     Some(left)
 }
 
-/// How many code points stand in the value of a test of an attribute.
+/// How many code points the value of a test of an attribute has.
 fn value_size(test: &Test) -> usize
     ensures { result ≡ value_size test.now }
 {

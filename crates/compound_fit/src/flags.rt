@@ -14,7 +14,7 @@ ghost use Rattle.compound_fit.specs.Flags.{
 
 use css_model::{Flag, Simple, Test};
 
-/// Whether no flags of a legal element pass. Where some do, those that are asked for do.
+/// Whether no flags of a legal element pass. Where some pass, those that are asked for pass.
 pub(crate) fn flags_clash(simples: &[Simple]) -> bool
     ensures { FlagsDecided result simples.now }
 {
@@ -90,7 +90,7 @@ fn flag_number(flag: Flag) -> u16
     }
 }
 
-/// The number of the flags that are asked for: bit k, from 0, for the k-th flag.
+/// The flags that are asked for, as a number: bit k, from 0, for the k-th flag.
 pub(crate) fn flags(simples: &[Simple]) -> u16
     ensures flags { (flag : Flag) → flags_of result flag ≡ is_flag_asked flag simples.now }
     ensures few { result < 2 ^ 9 }

@@ -1,4 +1,4 @@
-//! Names that no test refuses: `x`, `x1`, `x2` and so on.
+//! Names that no test refuses, of `x`, `x1`, `x2` ..
 
 ghost use Rattle.std.specs.Prelude.{◌≡◌, ◌++◌, not, IfOk, OnOk, decimal};
 ghost use Rattle.compound_fit.specs.FreeNames.{IsFirstFree, free_name, is_among};
@@ -7,8 +7,8 @@ use css_model::Text;
 use itoa::Buffer;
 use std::alloc::{AllocError, Global};
 
-/// The first of the names `x`, `x1`, `x2` and so on that is not refused. Only want of memory may come in its
-/// place.
+/// The first name that is not refused, of `x` and `x` with a number from 1: `x`, `x1`, `x2` .. `AllocError` where
+/// memory runs out.
 pub fn first_free(alloc: Global, refused: &[Text]) -> Result<Text, AllocError>
     ensures { IfOk result (λ v. IsFirstFree v refused.now) }
 {

@@ -23,7 +23,7 @@ pub(crate) fn solve_id(alloc: Global, tests: &[(AttrTest, bool)]) -> Result<Fits
     Ok(fits)
 }
 
-/// This id, if it passes each test as it is asked.
+/// An id, if it passes each test as it is asked.
 fn if_passes(alloc: Global, tests: &[(AttrTest, bool)], id: Text) -> Result<Fits, AllocError>
     ensures { IfOk result (λ fits. fits ≡ if_passes id (passes_as_asked tests.now id)) }
 {

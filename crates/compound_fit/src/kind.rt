@@ -18,7 +18,7 @@ use crate::free_name::first_free;
 use css_model::{Simple, Test, Text};
 use std::alloc::{AllocError, Global};
 
-/// The type of an element that passes, if there is one: that which is asked for, or a free name.
+/// The type of an element that passes, if there is one: the type that is asked for, or a free name.
 pub(crate) fn kind(alloc: Global, simples: &[Simple]) -> Result<Option<Text>, AllocError>
     ensures { IfOk result (λ kind. SolvesKind kind simples.now) }
 {

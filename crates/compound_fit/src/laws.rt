@@ -1,4 +1,4 @@
-//! The laws of fitting.
+//! The laws of fitting, as functions that do nothing.
 
 ghost use Rattle.compound_fit.specs.Laws.{EnoughLeft, PartsApart};
 
@@ -7,7 +7,7 @@ pub fn parts_are_apart()
     ensures { PartsApart }
 {}
 
-/// Where few code points from U+10000 on stand in the values of tests, some code point stands in none.
+/// Where the values of tests have few code points from U+10000 on, some code point is in none of them.
 pub fn enough_code_points_are_left()
     ensures { EnoughLeft }
 {}

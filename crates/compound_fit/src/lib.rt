@@ -1,4 +1,4 @@
-//! The features of an element that passes one or two compounds, apart from its place and what stands in it.
+//! The features of an element that passes one or two compounds, apart from its place and what is in it.
 #![tactic(auto)]
 
 mod answers;

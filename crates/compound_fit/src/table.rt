@@ -18,8 +18,8 @@ use css_model::{Compound, Features, Selector, Simple};
 use std::alloc::{AllocError, Global};
 use std::marker::Model;
 
-/// For each group of compounds of two selectors that one element may have to pass, features of such an
-/// element, or that there is none.
+/// For each group of compounds of two selectors that one element may have to pass: features of such an element, or that
+/// there is none.
 #[derive(Debug, Drop)]
 pub struct FitTable {
     left: Selector,
@@ -36,10 +36,15 @@ impl Model for FitTable {
 }
 
 impl FitTable {
-    /// The table of two selectors: what `fit` gives for both targets, then for each other compound of x
-    /// alone, for each other compound of y alone, and for each other compound of x with each other one
-    /// of y, in the order of their chains. What `fit` asks of compounds is asked of each of these.
-    /// `SpacesTaken` exactly where `fit` gives it for one of them; `NoMemory` where memory is short.
+    /// The table of two selectors: what `fit` gives for each group. The groups come in this order, by the chains:
+    ///
+    /// - both targets;
+    /// - each other compound of x alone;
+    /// - each other compound of y alone;
+    /// - each other compound of x with each other one of y.
+    ///
+    /// What `fit` asks of compounds is asked of each group. `SpacesTaken` exactly where `fit` gives it for one of them;
+    /// `NoMemory` where memory is short.
     pub fn new(alloc: Global, x: &Selector, y: &Selector) -> Result<FitTable, FitError>
         requires { All IsFittable (groups x.now.chain y.now.chain) }
         ensures ok { IfOk result (λ t. IsTable t x.now y.now) }
@@ -55,7 +60,7 @@ impl FitTable {
         Ok(FitTable { left, right, fits })
     }
 
-    /// What `fit` gives for each group, in the order that `new` tells. Takes no memory.
+    /// What `fit` gives for each group, in the order of the groups that `new` lists.
     pub fn fits(&self) -> &[Option<Features>]
         ensures { result.now ≡ self.now.fits }
     {
@@ -99,7 +104,7 @@ fn target(chain: &[Compound]) -> &[Simple]
     }
 }
 
-/// The compounds behind it.
+/// The compounds of a chain after the target's.
 fn others(chain: &[Compound]) -> &[Compound]
     ensures { result.now ≡ others chain.now }
 {

@@ -1,8 +1,8 @@
 //! The outside: where bytes come from and where they go to.
 //!
-//! A [`Source`] gives bytes, a [`Sink`] takes them, and each counts its faults. [`read_all`] and
-//! [`write_all`] stand on these two traits alone, so what is written over them is proved for every
-//! source and every sink: those in memory, those that never fail, and std's readers and writers.
+//! A [`Source`] gives bytes, a [`Sink`] takes them, and each counts its faults. [`read_all`] and [`write_all`] use
+//! these two traits alone. What is written over them is proved for every source and every sink: those in memory, those
+//! that never fail, and std's readers and writers.
 #![tactic(auto)]
 
 mod copying;

@@ -59,9 +59,13 @@ const PIECE: usize = 4096;
 
 /// Reads all that is left in `src`, at most `limit` bytes.
 ///
-/// All memory is taken before the first read. `ReadFault` comes where a read fails, and what was
-/// read before is lost; `TooLong` where there are more than `limit` bytes, of which `limit + 1`
-/// are then taken; `NoMemory` before anything is read.
+/// All memory is taken before the first read.
+///
+/// | error | when | what was taken from `src` |
+/// |---|---|---|
+/// | `NoMemory` | before the first read | nothing |
+/// | `ReadFault` | a read failed | at most `limit` bytes; they are lost |
+/// | `TooLong` | there are more than `limit` bytes | `limit + 1` bytes |
 pub fn read_all<S: Source>(alloc: Global, src: &mut S, limit: u32) -> Result<Vec<u8>, ReadError>
     requires { limit < u32.MAX }
 
@@ -102,9 +106,7 @@ pub fn read_all<S: Source>(alloc: Global, src: &mut S, limit: u32) -> Result<Vec
     Err(ReadError::TooLong)
 }
 
-/// Writes all of `bytes`. Takes no memory.
-///
-/// `WriteFault` comes where a write fails: then only the front of `bytes` was written.
+/// Writes all of `bytes`. `WriteFault` where a write fails: then only the front of `bytes` was written.
 pub fn write_all<O: Sink>(out: &mut O, bytes: &[u8]) -> Result<(), WriteFault>
     requires { O.fits out.old bytes.now }
     ensures ok { OnOk result (HasAdded bytes.now (O.written out.old) (O.written out.new)) }

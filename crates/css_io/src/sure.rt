@@ -30,7 +30,7 @@ impl Model for SureSource {
 }
 
 impl SureSource {
-    /// A source of these bytes. Takes no memory.
+    /// A source of these bytes.
     pub fn new(bytes: Vec<u8>) -> SureSource
         ensures { result ≡ bytes.items }
     {
@@ -52,7 +52,7 @@ impl Source for SureSource {
 
     ghost read_gives = { SureGives };
 
-    /// Reads as many bytes as are left and fit. Never fails, and takes no memory.
+    /// Reads as many bytes as are left and fit, and answers how many. It never fails.
     fn read(&mut self, into: &mut [u8]) -> Result<usize, Failed>
         // What every source says; its count of faults is always 0.
         ensures bytes { GivesFirst (Some self.old) (Some self.new) into.new result }
@@ -69,8 +69,8 @@ impl Source for SureSource {
     }
 }
 
-/// A sink in memory that never fails, with room for [`SURE_ROOM`] bytes: what is written has to
-/// fit. Contracts see it as the list of the bytes written.
+/// A sink in memory that never fails, with room for [`SURE_ROOM`] bytes. What is written has to fit. Contracts see it
+/// as the list of the bytes written.
 #[derive(Drop)]
 pub struct SureSink {
     bytes: Vec<u8>,
@@ -88,8 +88,8 @@ impl Model for SureSink {
 }
 
 impl SureSink {
-    /// An empty sink, which takes all its room at once: every list of at most [`SURE_ROOM`] bytes
-    /// fits.
+    /// An empty sink, which takes all its room at once: every list of at most [`SURE_ROOM`] bytes fits. `AllocError`
+    /// where memory runs out.
     pub fn new(alloc: Global) -> Result<SureSink, AllocError>
         ensures empty { IfOk result (λ sink. sink ≡ []) }
         ensures room { IfOk result (λ sink. (bytes : List ℕ) → length bytes ≤ sure_room
@@ -114,7 +114,7 @@ impl Sink for SureSink {
 
     ghost fits = { λ s piece. length s + length piece ≤ sure_room };
 
-    /// Writes all of `from`, which has to fit. Never fails, and takes no memory.
+    /// Writes all of `from`, which has to fit. It never fails.
     fn write(&mut self, from: &[u8]) -> Result<usize, Failed>
         requires { length self.old + length from.now ≤ sure_room }
         ensures sure { result ≡ Ok (length from.now) }

@@ -8,7 +8,7 @@ ghost use Rattle.css_io.specs.declared.traits.Failed.{Failed};
 use std::fmt;
 use thiserror::Error;
 
-/// A read or a write failed. The source or sink has counted it, if its count was not at its end.
+/// A read or a write failed. The source or sink has counted it, unless its count was at its last value.
 #[derive(Clone, Copy, Debug, PartialEq, Eq, Error)]
 pub struct Failed;
 
@@ -34,8 +34,8 @@ pub trait Source {
 
     /// Reads into the front of `into`, and answers how many bytes that were.
     ///
-    /// `Ok(0)` into a buffer with room comes exactly at the end of the input. `Failed` takes no
-    /// byte away, and raises the count of faults.
+    /// `Ok(0)` into a buffer with room comes exactly at the end of the input. `Failed` takes no byte away, and raises
+    /// the count of faults.
     fn read(&mut self, into: &mut [u8]) -> Result<usize, Failed>
         ensures bytes { GivesFirst (left self.old) (left self.new) into.new result }
         ensures bound { IfOk result (λ n. n ≤ length into.new) }
@@ -55,10 +55,8 @@ pub trait Sink {
     // That a piece may be written: always, but for a sink that never fails, where it has to fit.
     ghost fits: { Self → List ℕ → Type 0 };
 
-    /// Writes some bytes of the front of `from`, and answers how many.
-    ///
-    /// They are one at least, unless `from` is empty. `Failed` writes nothing, and raises the
-    /// count of faults.
+    /// Writes some bytes of the front of `from`, and answers how many: one at least, unless `from` is empty. `Failed`
+    /// writes nothing, and raises the count of faults.
     fn write(&mut self, from: &[u8]) -> Result<usize, Failed>
         requires { fits self.old from.now }
         ensures bytes { TakesFirst (written self.old) (written self.new) from.now result }

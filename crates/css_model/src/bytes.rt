@@ -43,21 +43,21 @@ impl Eq for Bytes {
 }
 
 impl Bytes {
-    /// The list of these bytes. Takes no memory.
+    /// The list of these bytes.
     pub fn new(bytes: Vec<u8>) -> Bytes
         ensures { result ≡ bytes.items }
     {
         Bytes { bytes }
     }
 
-    /// The bytes, in order. Takes no memory.
+    /// The bytes, in order.
     pub fn bytes(&self) -> &[u8]
         ensures { result.now ≡ self.now }
     {
         self.bytes.as_slice()
     }
 
-    /// A list of the same bytes, in the memory of this one's allocator.
+    /// A list of the same bytes, in the memory of this one's allocator. `AllocError` where memory runs out.
     pub fn copy(&self) -> Result<Bytes, AllocError>
         ensures { IfOk result (λ b. b ≡ self.now) }
     {

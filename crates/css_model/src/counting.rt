@@ -6,9 +6,8 @@ ghost use Rattle.css_model.specs.Documents.Specificity.{is_id, is_class, is_type
 
 use crate::selector::{Compound, Selector, Specificity, Test};
 
-/// The specificity of a selector (Selectors 3, section 9): how many ids it tests, how many classes,
-/// attributes and pseudo-classes, and how many types and pseudo-elements. `*` counts nothing. What
-/// stands in `:not()` counts as it does outside, and `:not()` itself does not. Takes no memory.
+/// The specificity of a selector (Selectors 3, section 9): ids; classes, attributes and pseudo-classes; types and
+/// pseudo-elements. `*` counts nothing. What is in `:not()` counts as it does outside; `:not()` itself counts nothing.
 pub fn specificity(selector: &Selector) -> Specificity
     requires compounds { length selector.now.chain ≤ 12 }
     requires simples { All (λ compound. length compound ≤ 32) selector.now.chain }

@@ -10,16 +10,16 @@ use std::marker::Model;
 /// A line of a document: some equal elements side by side. The deeper lines that follow are their children.
 #[derive(Debug, PartialEq, Eq, Drop)]
 pub struct RunLine {
-    /// How many steps they stand below the root.
+    /// How many steps the elements are below the root.
     pub depth: u32,
-    /// How many elements they are.
+    /// How many elements the line is for.
     pub count: u32,
     /// What each of them has.
     pub element: Features,
 }
 
 impl RunLine {
-    /// An equal line, in the memory of the allocators of this one's features.
+    /// An equal line, in the memory of the allocators of this one's features. `AllocError` where memory runs out.
     pub fn copy(&self) -> Result<RunLine, AllocError>
         ensures { IfOk result (λ line. line ≡ self.now) }
     {
@@ -76,7 +76,7 @@ impl Eq for RunDocument {
 }
 
 impl RunDocument {
-    /// An equal document, in the memory of the allocators of this one's lists.
+    /// An equal document, in the memory of the allocators of this one's lists. `AllocError` where memory runs out.
     pub fn copy(&self) -> Result<RunDocument, AllocError>
         ensures { IfOk result (λ doc. doc ≡ self.now) }
     {
@@ -111,7 +111,7 @@ pub struct Example {
 }
 
 impl Example {
-    /// An equal example, in the memory of the allocators of this one's lists.
+    /// An equal example, in the memory of the allocators of this one's lists. `AllocError` where memory runs out.
     pub fn copy(&self) -> Result<Example, AllocError>
         ensures { IfOk result (λ x. x ≡ self.now) }
     {

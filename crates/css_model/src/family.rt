@@ -12,13 +12,12 @@ pub enum Family {
     All,
     /// A custom property, by its name: a family of its own.
     Custom(Text),
-    /// The family of this name, which is one of the table or the first part of its properties'
-    /// names.
+    /// The family of a name: one of the table, or the first part of its properties' names.
     Named(Text),
 }
 
 impl Family {
-    /// An equal family, in the memory of the allocator of this one's text.
+    /// An equal family, in the memory of the allocator of this one's text. `AllocError` where memory runs out.
     pub fn copy(&self) -> Result<Family, AllocError>
         ensures { IfOk result (λ f. f ≡ self.now) }
     {

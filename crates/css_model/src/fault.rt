@@ -12,9 +12,9 @@ pub enum FaultKind {
     TooLong,
     /// The sheet is not UTF-8.
     NotUtf8,
-    /// A newline stands inside a string, without a backslash before it.
+    /// A newline is inside a string, without a backslash before it.
     BadString,
-    /// A code point stands inside a url that no url may hold.
+    /// A url holds a code point that no url may hold.
     BadUrl,
     /// The sheet ends inside a comment, a string, a url, an escape or an open bracket.
     EndInside,
@@ -51,7 +51,7 @@ impl fmt::Display for FaultKind {
 pub struct SheetFault {
     /// What is wrong.
     pub kind: FaultKind,
-    /// Where, in bytes from 0.
+    /// Where the fault is, in bytes from 0.
     pub at: u32,
 }
 

@@ -62,7 +62,8 @@ impl Eq for Features {
 }
 
 impl Features {
-    /// Equal features, in the memory of the allocators of this one's texts and list.
+    /// Equal features, in the memory of the allocators of this one's texts and list. `AllocError` where memory runs
+    /// out.
     pub fn copy(&self) -> Result<Features, AllocError>
         ensures { IfOk result (λ f. f ≡ self.now) }
     {

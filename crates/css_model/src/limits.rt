@@ -23,7 +23,7 @@ pub const MAX_SIMPLES: usize = 32;
 /// How many of a selector's positions may have a step of 2 or more in size.
 pub const MAX_STEPPED: usize = 4;
 
-/// These numbers are those of the definition of what is read.
+/// The limits of this crate are those of the definition of what is read.
 pub fn limits_are_defined()
     ensures { LimitsAreDefined }
 {}

@@ -7,11 +7,11 @@ ghost use Rattle.std.specs.Prelude.{◌≡◌};
 pub enum Reason {
     /// A pseudo-class that is not among those of the profile.
     PseudoClass = 1,
-    /// A pseudo-element behind `::` that is none of the four of CSS 2.1.
+    /// A pseudo-element after `::` that is none of the four of CSS 2.1.
     PseudoElement = 2,
     /// A `|` that is not the first sign of `|=`, as that of a namespace.
     Namespace = 3,
-    /// An ident behind the value in an attribute test, as the case flag `i`.
+    /// An ident after the value in an attribute test, as the case flag `i`.
     CaseFlag = 4,
     /// A test on the attribute `id` other than those for presence and equality.
     IdTest = 5,
@@ -30,7 +30,7 @@ pub enum Reason {
 impl Reason {
     ghost use Rattle.css_model.specs.Selectors.Reasons.{number_of};
 
-    /// The number by which the reason is shown, from 1 to 10. Takes no memory.
+    /// The number by which the reason is shown, from 1 to 10.
     pub fn number(self) -> u32
         ensures { result ≡ number_of self }
     {

@@ -41,7 +41,7 @@ pub struct AttrTest {
 }
 
 impl AttrTest {
-    /// An equal test, in the memory of the allocators of this one's texts.
+    /// An equal test, in the memory of the allocators of this one's texts. `AllocError` where memory runs out.
     pub fn copy(&self) -> Result<AttrTest, AllocError>
         ensures { IfOk result (λ t. t ≡ self.now) }
     {
@@ -112,7 +112,7 @@ impl Default for Test {
 }
 
 impl Test {
-    /// An equal test, in the memory of the allocators of this one's texts.
+    /// An equal test, in the memory of the allocators of this one's texts. `AllocError` where memory runs out.
     pub fn copy(&self) -> Result<Test, AllocError>
         ensures { IfOk result (λ t. t ≡ self.now) }
     {
@@ -134,14 +134,15 @@ impl Test {
 /// A simple selector: a test, or the negation of one by `:not()` (Selectors 3, section 6.6.7).
 #[derive(Debug, Default, PartialEq, Eq, Hash, Drop)]
 pub struct Simple {
-    /// Whether the test stands in `:not()`.
+    /// Whether the test is in `:not()`.
     pub negated: bool,
     /// The test.
     pub test: Test,
 }
 
 impl Simple {
-    /// An equal simple selector, in the memory of the allocators of this one's texts.
+    /// An equal simple selector, in the memory of the allocators of this one's texts. `AllocError` where memory runs
+    /// out.
     pub fn copy(&self) -> Result<Simple, AllocError>
         ensures { IfOk result (λ s. s ≡ self.now) }
     {
@@ -207,7 +208,7 @@ impl Hash for Compound {
 }
 
 impl Compound {
-    /// An equal compound, in the memory of this one's allocator.
+    /// An equal compound, in the memory of this one's allocator. `AllocError` where memory runs out.
     pub fn copy(&self) -> Result<Compound, AllocError>
         ensures { IfOk result (λ c. c ≡ self.now) }
     {
@@ -219,7 +220,7 @@ impl Compound {
     }
 }
 
-/// How the element at the right of a combinator stands to the one at its left (Selectors 3, section 8).
+/// How the element at the right of a combinator is related to the one at its left (Selectors 3, section 8).
 #[derive(Clone, Copy, Debug, PartialEq, Eq, Hash)]
 pub enum Combinator {
     /// White space: it is inside, at any depth.
@@ -248,9 +249,9 @@ pub enum Pseudo {
 /// A selector: compounds with combinators between them, and perhaps a pseudo-element.
 #[derive(Debug, Drop)]
 pub struct Selector {
-    /// The compounds from right to left: the first one is that of the element which is selected.
+    /// The compounds from right to left: the first one is that of the selected element.
     pub chain: Vec<Compound>,
-    /// The combinators from right to left: the k-th stands between the compounds k and k + 1.
+    /// The combinators from right to left: the k-th is between the compounds k and k + 1.
     pub links: Vec<Combinator>,
     /// The pseudo-element.
     pub pseudo: Option<Pseudo>,
@@ -324,7 +325,7 @@ impl Hash for Selector {
 }
 
 impl Selector {
-    /// An equal selector, in the memory of the allocators of this one's lists.
+    /// An equal selector, in the memory of the allocators of this one's lists. `AllocError` where memory runs out.
     pub fn copy(&self) -> Result<Selector, AllocError>
         ensures { IfOk result (λ s. s ≡ self.now) }
     {

@@ -13,7 +13,7 @@ use std::marker::Model;
 pub struct Piece {
     /// Where it begins.
     pub start: u32,
-    /// Where it ends: the place of the first byte behind it.
+    /// Where it ends: the place of the first byte after it.
     pub end: u32,
 }
 
@@ -29,7 +29,7 @@ pub struct Decl {
 }
 
 impl Decl {
-    /// An equal declaration, in the memory of the allocators of this one's texts.
+    /// An equal declaration, in the memory of the allocators of this one's texts. `AllocError` where memory runs out.
     pub fn copy(&self) -> Result<Decl, AllocError>
         ensures { IfOk result (λ d. d ≡ self.now) }
     {
@@ -41,7 +41,7 @@ impl Decl {
     }
 }
 
-/// A selector of a rule, and where it stands.
+/// A selector of a rule, and where it is in the source.
 #[derive(Debug, PartialEq, Eq, Drop)]
 pub struct SelItem {
     /// The selector.
@@ -51,7 +51,7 @@ pub struct SelItem {
 }
 
 impl SelItem {
-    /// An equal item, in the memory of the allocators of this one's selector.
+    /// An equal item, in the memory of the allocators of this one's selector. `AllocError` where memory runs out.
     pub fn copy(&self) -> Result<SelItem, AllocError>
         ensures { IfOk result (λ s. s ≡ self.now) }
     {
@@ -62,7 +62,7 @@ impl SelItem {
     }
 }
 
-/// A declaration of a rule, and where it stands.
+/// A declaration of a rule, and where it is in the source.
 #[derive(Debug, PartialEq, Eq, Drop)]
 pub struct DeclItem {
     /// The declaration.
@@ -74,7 +74,7 @@ pub struct DeclItem {
 }
 
 impl DeclItem {
-    /// An equal item, in the memory of the allocators of this one's declaration.
+    /// An equal item, in the memory of the allocators of this one's declaration. `AllocError` where memory runs out.
     pub fn copy(&self) -> Result<DeclItem, AllocError>
         ensures { IfOk result (λ d. d ≡ self.now) }
     {
@@ -136,7 +136,7 @@ impl Eq for Rule {
 }
 
 impl Rule {
-    /// An equal rule, in the memory of the allocators of this one's lists.
+    /// An equal rule, in the memory of the allocators of this one's lists. `AllocError` where memory runs out.
     pub fn copy(&self) -> Result<Rule, AllocError>
         ensures { IfOk result (λ r. r ≡ self.now) }
     {
@@ -166,14 +166,15 @@ fn copy_decl_items(decls: &Vec<DeclItem>) -> Result<Vec<DeclItem>, AllocError>
     Ok(copies)
 }
 
-/// A rule with a selector outside the profile. It is printed as it stands, and is never merged.
+/// A rule with a selector outside the profile. It is printed as it is, up to white space and comments, and is never
+/// merged.
 #[derive(Debug, Drop)]
 pub struct KeptRule {
     /// Its text in the source.
     pub piece: Piece,
     /// Its declarations, in the order of the source.
     pub decls: Vec<Decl>,
-    /// Why its first selector outside the profile is outside: the number of the reason, from 1 to 10.
+    /// Why the rule is kept: the number of the reason for its first selector outside the profile, from 1 to 10.
     pub reason: u32,
 }
 
@@ -221,7 +222,7 @@ impl Eq for KeptRule {
 }
 
 impl KeptRule {
-    /// An equal rule, in the memory of the allocators of this one's lists.
+    /// An equal rule, in the memory of the allocators of this one's lists. `AllocError` where memory runs out.
     pub fn copy(&self) -> Result<KeptRule, AllocError>
         ensures { IfOk result (λ k. k ≡ self.now) }
     {
@@ -244,20 +245,20 @@ fn copy_decls(decls: &Vec<Decl>) -> Result<Vec<Decl>, AllocError>
     Ok(copies)
 }
 
-/// One of the parts that stand one after the other in a sheet.
+/// A part of a sheet: a style rule, a kept rule or a kept block.
 #[derive(Debug, PartialEq, Eq, Drop)]
 pub enum Item {
     /// A style rule.
     Rule(Rule),
-    /// A rule that applies its own declarations, to what nobody here can tell.
+    /// A rule that applies its own declarations, to elements that nobody here knows.
     KeptRule(KeptRule),
-    /// An at-rule, a rule with a nested entry, or what stands before an `@import`, by its text in the
-    /// source. It may apply anything.
+    /// An at-rule, a rule with a nested entry, or what comes before an `@import`, by its text in the source. It may
+    /// apply anything.
     KeptBlock(Piece),
 }
 
 impl Item {
-    /// An equal item, in the memory of the allocators of this one's lists.
+    /// An equal item, in the memory of the allocators of this one's lists. `AllocError` where memory runs out.
     pub fn copy(&self) -> Result<Item, AllocError>
         ensures { IfOk result (λ i. i ≡ self.now) }
     {
@@ -311,7 +312,7 @@ impl Eq for Sheet {
 }
 
 impl Sheet {
-    /// An equal sheet, in the memory of the allocators of this one's lists.
+    /// An equal sheet, in the memory of the allocators of this one's lists. `AllocError` where memory runs out.
     pub fn copy(&self) -> Result<Sheet, AllocError>
         ensures { IfOk result (λ s. s ≡ self.now) }
     {

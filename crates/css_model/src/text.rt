@@ -49,8 +49,8 @@ impl Eq for Text {
     ghost laws = { nat_list_eq_equiv };
 }
 
-/// Texts are ordered by their code points: the first place where two texts differ decides, and else
-/// the shorter one comes first.
+/// Texts are ordered by their code points. The first place where two texts differ decides; without one the shorter text
+/// comes first.
 impl PartialOrd for Text {
     ghost use Rattle.std.specs.Prelude.{Some};
     ghost use Rattle.std.specs.Ordering.{nat_cmp};
@@ -98,7 +98,7 @@ impl Hash for Text {
 }
 
 impl Text {
-    /// The text of these code points. Takes no memory.
+    /// The text of these code points.
     pub fn new(codes: Vec<char>) -> Text
         ensures { result ≡ codes.items }
     {
@@ -106,7 +106,7 @@ impl Text {
         Text { codes }
     }
 
-    /// The code points of the text, in order. Takes no memory.
+    /// The code points of the text, in order.
     pub fn codes(&self) -> &[char]
         ensures value { result.now ≡ self.now }
         ensures text { IsText self.now }
@@ -114,7 +114,7 @@ impl Text {
         self.codes.as_slice()
     }
 
-    /// A text of the same code points, in the memory of this one's allocator.
+    /// A text of the same code points, in the memory of this one's allocator. `AllocError` where memory runs out.
     pub fn copy(&self) -> Result<Text, AllocError>
         ensures { IfOk result (λ t. t ≡ self.now) }
     {
@@ -123,7 +123,7 @@ impl Text {
     }
 }
 
-/// Looks at each code point: one that is read is known as a scalar value.
+/// Shows that all code points are scalar values, by reading each.
 fn see_scalars(codes: &[char])
     ensures { IsText codes.now }
 {

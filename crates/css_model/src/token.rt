@@ -27,9 +27,9 @@ pub enum TokenKind {
     AtKeyword,
     /// An ident sequence.
     Ident,
-    /// An ident sequence and the `(` behind it.
+    /// An ident sequence and the `(` after it.
     Function,
-    /// `url(` up to and with its `)`, where no string stands inside.
+    /// `url(` up to and with its `)`, with no string inside.
     Url,
     /// One of `:` `;` `,` `[` `]` `(` `)` `{` `}`, by its byte.
     Sign(u8),
@@ -42,7 +42,7 @@ pub enum TokenKind {
 pub struct Token {
     /// What it is.
     pub kind: TokenKind,
-    /// Where it stands.
+    /// Where it is in the source.
     pub span: Piece,
     /// Whether a comment ends where it begins.
     pub comment_before: bool,
@@ -59,7 +59,7 @@ pub enum TokenFlaw {
     EndInside,
 }
 
-/// A place where no token can be read, and why: the start of what stands there, in bytes from 0.
+/// A place where no token can be read, and why. The place is the start of what cannot be read, in bytes from 0.
 #[derive(Clone, Copy, Debug, PartialEq, Eq, Hash)]
 pub enum TokenFault {
     /// A newline inside a string, without a backslash before it.
@@ -79,7 +79,7 @@ pub enum TokenFault {
     },
 }
 
-/// What stands between a token and the next one that is no white space.
+/// What is between a token and the next one that is no white space.
 #[derive(Clone, Copy, Debug, PartialEq, Eq, Hash)]
 pub enum Gap {
     /// Nothing.
@@ -90,16 +90,16 @@ pub enum Gap {
     White,
 }
 
-/// A token of a source that is no white space, with what stands behind it, and how deep it stands.
+/// A token of a source that is no white space, with what comes after it and how many brackets are open before it.
 #[derive(Clone, Copy, Debug, PartialEq, Eq, Hash)]
 pub struct Lexeme {
     /// What it is.
     pub kind: TokenKind,
-    /// Where it stands.
+    /// Where it is in the source.
     pub span: Piece,
-    /// What stands behind it, up to the next one.
+    /// What is between it and the next one.
     pub gap: Gap,
-    /// The first white space behind it; where there is none, the empty piece at its end.
+    /// The first white space after it; where there is none, the empty piece at its end.
     pub white: Piece,
     /// How many brackets are open where it begins.
     pub level: u32,

@@ -6,7 +6,7 @@ ghost use Rattle.doc_text.specs.Lines.{fields_of, holds};
 
 use memchr::memchr;
 
-/// The text before the first byte of this kind, and the text behind it, where there is one.
+/// The text before the first byte of this kind and the text after it, where there is one.
 pub(crate) fn cut(text: &[u8], at: u8) -> Option<(&[u8], &[u8])>
     ensures { MatchOption result
         (holds at text.now ≡ false)
@@ -18,7 +18,7 @@ pub(crate) fn cut(text: &[u8], at: u8) -> Option<(&[u8], &[u8])>
     }
 }
 
-/// The first field of a text that is not empty, and the fields behind it.
+/// The first field of a text that is not empty, and the fields after it.
 pub(crate) fn next_field(text: &[u8]) -> (&[u8], &[u8])
     ensures fields { text.now ≢ [] → fields_of text.now ≡ result.0.now ∷ fields_of result.1.now }
     ensures shorter { text.now ≢ [] → length result.1.now < length text.now }

@@ -65,7 +65,7 @@ fn push_flags(out: &mut Vec<u8>, bits: u16) -> Result<(), AllocError>
     push_flag(out, bits, Flag::Checked)
 }
 
-/// Appends a flag, if it is set.
+/// Appends the field of a flag, if it is set.
 fn push_flag(out: &mut Vec<u8>, bits: u16, flag: Flag) -> Result<(), AllocError>
     ensures { OnOk result (out.new.items ≡ out.old.items ++ one_flag bits flag) }
 {
@@ -140,7 +140,7 @@ fn push_attribute(
     push_escaped(out, alloc, value)
 }
 
-/// An element of this type, with what the fields behind the type say, whether or not they stand as they should.
+/// An element of this type, with what the fields after the type say, whether or not they are as they should be.
 pub(crate) fn element(alloc: Global, kind: Text, fields: &[u8]) -> Result<Features, AllocError>
     ensures { IfOk result (λ element. element ≡ record {
       kind = kind;

@@ -9,7 +9,7 @@ ghost use Rattle.doc_text.specs.Elements.{nibble, unescaped, unescaped_text};
 use css_model::Text;
 use std::alloc::{AllocError, Global};
 
-/// Appends a text as it stands in a line.
+/// Appends a text as it is written in a line.
 pub(crate) fn push_escaped(out: &mut Vec<u8>, alloc: Global, text: &Text) -> Result<(), AllocError>
     ensures { OnOk result (out.new.items ≡ out.old.items ++ escaped text.now) }
 {
@@ -28,7 +28,7 @@ fn utf8(alloc: Global, text: &[char]) -> Result<String, AllocError>
     Ok(bytes)
 }
 
-/// Appends bytes as they stand in a line.
+/// Appends bytes as they are written in a line.
 fn push_bytes(out: &mut Vec<u8>, bytes: &[u8]) -> Result<(), AllocError>
     ensures { OnOk result (out.new.items ≡ out.old.items ++ flat_map escaped_byte bytes.now) }
 {
@@ -38,7 +38,7 @@ fn push_bytes(out: &mut Vec<u8>, bytes: &[u8]) -> Result<(), AllocError>
     Ok(())
 }
 
-/// Appends a byte as it stands in a line.
+/// Appends a byte as it is written in a line.
 fn push_byte(out: &mut Vec<u8>, byte: u8) -> Result<(), AllocError>
     ensures { OnOk result (out.new.items ≡ out.old.items ++ escaped_byte byte) }
 {
@@ -52,7 +52,7 @@ fn push_byte(out: &mut Vec<u8>, byte: u8) -> Result<(), AllocError>
     Ok(())
 }
 
-/// Whether a byte stands for itself: an ASCII letter or digit, `_` or `-`.
+/// Whether a byte is written as it is: an ASCII letter or digit, `_` or `-`.
 fn is_plain(byte: u8) -> bool
     ensures { result ≡ is_plain byte }
 {
@@ -71,7 +71,7 @@ fn hex_digit(number: u8) -> u8
     }
 }
 
-/// The text that bytes of a line stand for, whether or not they are spelled as they should.
+/// The text that bytes of a line write, whether or not they are spelled as they should be.
 pub(crate) fn unescaped_text(alloc: Global, bytes: &[u8]) -> Result<Text, AllocError>
     ensures { IfOk result (λ text. text ≡ unescaped_text bytes.now) }
 {
@@ -87,7 +87,7 @@ fn codes_of(alloc: Global, text: &str) -> Result<Vec<char>, AllocError>
     text.chars().collect(alloc)
 }
 
-/// Bytes, with one in place of each `%` and the two bytes behind it.
+/// The bytes that a spelling writes: one in place of each `%` and the two bytes after it.
 fn unescaped(alloc: Global, bytes: &[u8]) -> Result<Vec<u8>, AllocError>
     ensures { IfOk result (λ out. out.items ≡ unescaped bytes.now) }
 {

@@ -1,4 +1,4 @@
-//! The first line of a text.
+//! The first line of a document's text.
 
 ghost use Rattle.std.specs.Prelude.{◌≡◌, ◌≢◌, ◌++◌, Bool, Option, OnOk, MatchOption};
 ghost use Rattle.css_model.specs.declared.selector.Pseudo.{Pseudo};
@@ -7,7 +7,7 @@ ghost use Rattle.doc_text.specs.DocText.{child_name, head_text, pseudo_name};
 use css_model::Pseudo;
 use std::alloc::AllocError;
 
-/// Appends the first line, without its end.
+/// Appends the first line of a document's text, without its end.
 pub(crate) fn push_head(
     out: &mut Vec<u8>,
     root_is_child: bool,
@@ -41,7 +41,7 @@ fn pseudo_name(pseudo: Option<Pseudo>) -> &'static [u8]
     }
 }
 
-/// Whether the root counts as a child, and the pseudo-element, where this is a first line.
+/// Whether the root counts as a child, and the pseudo-element, where this is a first line of a document's text.
 pub(crate) fn read_head(line: &[u8]) -> Option<(bool, Option<Pseudo>)>
     ensures { MatchOption result
         ((root_is_child : Bool) (pseudo : Option Pseudo) → line.now ≢ head_text root_is_child pseudo)

@@ -1,4 +1,4 @@
-//! Documents with one element marked, as texts to show and to read.
+//! Documents with one element marked, as texts that are printed and read.
 #![tactic(auto)]
 
 mod cuts;

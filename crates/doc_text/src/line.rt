@@ -53,7 +53,7 @@ fn mark_field(marked: bool) -> &'static [u8]
     if marked { b"*" } else { b"-" }
 }
 
-/// Whether a line is marked, and what it stands for, where these bytes are its text.
+/// Whether a line is marked, and what it says, where these bytes are its text.
 pub(crate) fn read_line(alloc: Global, bytes: &[u8]) -> Result<Option<(bool, RunLine)>, AllocError>
     ensures { IfOk result (λ found. MatchOption found
         ((marked : Bool) (l : RunLine) → IsLine l → bytes.now ≢ line_text marked l)
@@ -80,7 +80,7 @@ fn text_of(alloc: Global, marked: bool, line: &RunLine) -> Result<Vec<u8>, Alloc
     Ok(text)
 }
 
-/// The line of which these bytes are the text, and whether it is marked; some line where they are that of none.
+/// The line whose text these bytes are, and whether it is marked. Some line, where they are the text of none.
 fn likely(alloc: Global, bytes: &[u8]) -> Result<(bool, RunLine), AllocError>
     ensures { IfOk result (λ found. (marked : Bool) (l : RunLine) → IsLine l → bytes.now ≡ line_text marked l
         → (found.0 ≡ marked) × (found.1 ≡ l)) }
@@ -112,8 +112,8 @@ fn number(bytes: &[u8]) -> u32
     }
 }
 
-/// Whether a line may stand in a document, of whatever depth: it stands for an element, its flags are among the
-/// nine, neither its type nor the name of an attribute is empty, and these names ascend.
+/// Whether a line may be in a document, of whatever depth. It has at least one element, its flags are among the nine,
+/// neither its type nor the name of an attribute is empty, and these names ascend.
 fn is_line(line: &RunLine) -> bool
     ensures { IsTrue result ↔ IsLine line.now }
 {
@@ -149,7 +149,7 @@ fn ascend(attributes: &[(Text, Text)]) -> bool
     }
 }
 
-/// Whether the names of attributes ascend behind a name.
+/// Whether the names of attributes ascend, all above a first name.
 fn ascend_behind(first: &Text, attributes: &[(Text, Text)]) -> bool
     ensures { result ≡ ascend_behind first.now attributes.now }
 {
@@ -172,7 +172,7 @@ fn is_below(x: &Text, y: &Text) -> bool
     x.cmp(y) == Ordering::Less
 }
 
-/// Looks at names and values, which are then known to be texts.
+/// Shows that names and values are texts, by reading them.
 fn see_texts(attributes: &[(Text, Text)])
     ensures { AreTexts attributes.now }
 {
@@ -184,14 +184,14 @@ fn see_texts(attributes: &[(Text, Text)])
     }
 }
 
-/// Looks at a text, which is then known to be one.
+/// Shows that a text is one, by reading it.
 fn see(text: &Text)
     ensures { IsText text.now }
 {
     let _codes = text.codes();
 }
 
-/// Looks at two numbers, which are then known to have 32 bits.
+/// Shows that two numbers have 32 bits, by reading them.
 fn see_numbers(depth: u32, count: u32)
     ensures depth { depth < 2 ^ 32 }
     ensures count { count < 2 ^ 32 }

@@ -9,9 +9,9 @@ use crate::line::push_line;
 use css_model::{Example, RunLine};
 use std::alloc::{AllocError, Global};
 
-/// The text of an example: a first line with whether the root counts as a child and with the pseudo-element, and
-/// then one for each line of the document, which tells its depth, its count, whether it is the marked one, and its
-/// type, text, flags and attributes.
+/// The text of an example, as bytes. The first line says whether the root counts as a child, and names the
+/// pseudo-element. Each line of the document has one line of text: its depth, its count, whether it is the marked one,
+/// and its type, text, flags and attributes. `AllocError` where memory runs out.
 pub fn print_doc(alloc: Global, x: &Example) -> Result<Vec<u8>, AllocError>
     ensures { IfOk result (λ text. text.items ≡ doc_text x.now) }
 {
@@ -22,7 +22,7 @@ pub fn print_doc(alloc: Global, x: &Example) -> Result<Vec<u8>, AllocError>
     Ok(out)
 }
 
-/// Appends lines, each with its end, of which the one of this number is marked.
+/// Appends lines, each with its end. The line of this number is marked.
 fn push_lines(
     out: &mut Vec<u8>,
     alloc: Global,

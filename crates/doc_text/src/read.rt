@@ -18,7 +18,7 @@ const MAX_LINE_ENDS: usize = 4096;
 /// Why a text is not that of an example.
 #[derive(Clone, Copy, Debug, PartialEq, Eq, Error)]
 pub enum DocError {
-    /// The line of this number, from 1, is the first that no such text has, or is the last one where more is needed.
+    /// The first line, from 1, that no such text has; or the last line, where more is needed.
     BadLine(u32),
     /// There are more than 4,096 line ends.
     TooManyLines,
@@ -53,11 +53,16 @@ impl From<AllocError> for DocError {
     }
 }
 
-/// The example of a text. `TooManyLines` comes first, exactly where the text has more than 4,096 line ends.
-/// Otherwise, `Ok` exactly where this is the text that `print_doc` gives for an example that keeps the rules
-/// (`KeepsRules`), and it is that example. `BadLine` names the first line, from 1, with which no such text begins; or
-/// the last line, where more is needed: a line end, a line for the root, or a marked line. It is 1 for the empty text.
-/// `NoMemory` comes where memory is short.
+/// The example of a text, given as bytes.
+///
+/// - `TooManyLines`, before all others, exactly where the text has more than 4,096 line ends.
+/// - `Ok` exactly where the text is the one that `print_doc` gives for an example that keeps the rules (`KeepsRules`).
+///   It is that example.
+/// - `BadLine` otherwise, with the number of a line, from 1.
+/// - `NoMemory` where memory is short.
+///
+/// `BadLine` names the first line with which no such text begins. It names the last line where more is needed: a line
+/// end, a line for the root, or a marked line. It is 1 for the empty text.
 pub fn read_doc(alloc: Global, text: &[u8]) -> Result<Example, DocError>
     ensures { IsRead result text.now }
 {
@@ -81,7 +86,7 @@ fn line_ends(text: &[u8]) -> usize
     text.iter().filter(|byte| **byte == b'\n').count()
 }
 
-/// The example of the lines behind the first one.
+/// The example of the lines after the first one.
 fn read_body(
     alloc: Global,
     root_is_child: bool,

@@ -34,7 +34,7 @@ impl State {
         }
     }
 
-    /// Reads one line more, and tells whether it may follow.
+    /// Reads one line more, and answers whether it may follow.
     pub(crate) fn read(&mut self, alloc: Global, bytes: &[u8]) -> Result<bool, AllocError>
         requires start { IsStart self.old }
         requires room { length self.old.lines < 2 ^ 16 }
@@ -72,8 +72,8 @@ impl State {
     }
 }
 
-/// Whether a line may stand behind this one: the root alone has depth 0, and a line is at most one deeper than the
-/// one before it, which then stands for one element.
+/// Whether a line may come after a last one. The root alone has depth 0. A line is at most one deeper than the one
+/// before it; where it is deeper, that one has a single element.
 fn follows(last: Option<&RunLine>, line: &RunLine) -> bool
     ensures { result ≡ follows (option_copied last.entry) line.now }
 {

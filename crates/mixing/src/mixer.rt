@@ -6,14 +6,15 @@ ghost use Rattle.mixing.specs.Mixer as spec;
 
 use std::hash::Hasher;
 
-/// What was fed so far. Whoever picks what is fed can make it collide, so it serves only where that costs time.
+/// A hasher: what was fed so far. Whoever picks what is fed can make it collide. It serves only where a collision costs
+/// no more than time.
 #[derive(Clone, Copy)]
 pub struct Mixer {
     state: u64,
 }
 
 impl Mixer {
-    /// A hasher that was fed nothing. Takes no memory.
+    /// A hasher that was fed nothing.
     #[tactic(auto, unfolding(crate::specs::Mixer::initial))]
     pub fn new() -> Mixer
         ensures { result ≡ spec.initial }

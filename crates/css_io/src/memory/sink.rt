@@ -10,8 +10,8 @@ use std::marker::Model;
 
 /// A sink in memory, which has room for so many bytes and fails at chosen calls.
 ///
-/// Calls are numbered from 0. Each takes at most a piece of so many bytes, so that a writer that
-/// relies on whole writes is found out.
+/// Calls are numbered from 0. Each takes at most a piece of so many bytes, which finds out a writer that relies on
+/// whole writes.
 #[derive(Drop)]
 pub struct MemSink {
     bytes: Vec<u8>,
@@ -42,8 +42,8 @@ impl Model for MemSink {
 }
 
 impl MemSink {
-    /// An empty sink with room for `room` bytes, taken at once, which takes at most `piece` bytes
-    /// at a call (0 is taken as 1) and fails at the calls whose numbers are in `fails`.
+    /// An empty sink with room for `room` bytes, which it takes at once. A call takes at most `piece` bytes (0 counts
+    /// as 1). The calls whose numbers, from 0, are in `fails` fail. `AllocError` where memory runs out.
     pub fn new(alloc: Global, room: u32, piece: u32, fails: Vec<u64>) -> Result<MemSink, AllocError>
         ensures { IfOk result (λ sink. sink ≡ record {
           written = [];
@@ -80,8 +80,8 @@ impl Sink for MemSink {
 
     ghost fits = { λ _ _. Unit {0} };
 
-    /// Writes a piece, or fails if the number of this call is in `fails`, or if the room is full
-    /// and `from` is not empty. Takes no memory.
+    /// Writes a piece, and answers how many bytes it took. `Failed` exactly where the number of this call is in
+    /// `fails`, or where the room is full and `from` is not empty.
     fn write(&mut self, from: &[u8]) -> Result<usize, Failed>
         // What every sink says.
         ensures bytes { TakesFirst (Some self.old.written) (Some self.new.written) from.now result }

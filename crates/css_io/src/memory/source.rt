@@ -11,8 +11,8 @@ use std::marker::Model;
 
 /// A source in memory, which fails at chosen calls.
 ///
-/// Calls are numbered from 0. Each gives at most a piece of so many bytes, so that a reader that
-/// relies on whole reads is found out.
+/// Calls are numbered from 0. Each gives at most a piece of so many bytes, which finds out a reader that relies on
+/// whole reads.
 #[derive(Drop)]
 pub struct MemSource {
     bytes: Vec<u8>,
@@ -41,8 +41,8 @@ impl Model for MemSource {
 }
 
 impl MemSource {
-    /// A source of these bytes, at most `piece` at a call (0 is taken as 1), which fails at the
-    /// calls whose numbers are in `fails`. Takes no memory.
+    /// A source of these bytes. A call gives at most `piece` bytes (0 counts as 1). The calls whose numbers, from 0,
+    /// are in `fails` fail.
     pub fn new(bytes: Vec<u8>, piece: u32, fails: Vec<u64>) -> MemSource
         ensures { result ≡ record {
           left = bytes.items;
@@ -77,7 +77,7 @@ impl Source for MemSource {
 
     ghost read_gives = { SourceGives };
 
-    /// Reads a piece, or fails if the number of this call is in `fails`. Takes no memory.
+    /// Reads a piece, and answers how many bytes it gave. `Failed` exactly where the number of this call is in `fails`.
     fn read(&mut self, into: &mut [u8]) -> Result<usize, Failed>
         // What every source says.
         ensures bytes { GivesFirst (Some self.old.left) (Some self.new.left) into.new result }

@@ -12,10 +12,9 @@ use std::io::{ErrorKind, Write};
 
 /// One of std's writers as a sink.
 ///
-/// It tells nothing of its bytes, since what a file or a terminal takes is not seen. It counts each
-/// error of the writer, interruptions too, each write that took nothing, and each time that it
-/// gives up. It does not flush: the writer is to keep nothing back, as std's standard output and
-/// standard error do not.
+/// It says nothing of its bytes, since what a file or a terminal takes is not seen. It counts each error of the writer,
+/// interruptions too, each write that took nothing, and each time that it gives up. It does not flush: the writer is to
+/// keep nothing back, as std's standard output and standard error do not.
 #[derive(Drop)]
 pub struct StdSink<W: Write + Drop> {
     inner: W,
@@ -23,7 +22,7 @@ pub struct StdSink<W: Write + Drop> {
 }
 
 impl<W: Write + Drop> StdSink<W> {
-    /// A sink that writes to `inner`. Takes no memory.
+    /// A sink that writes to `inner`.
     pub fn new(inner: W) -> StdSink<W>
         ensures writer { sink_writer result ≡ inner }
         ensures faults { sink_faults result ≡ 0 }
@@ -46,8 +45,8 @@ impl<W: Write + Drop> Sink for StdSink<W> {
 
     ghost fits = { λ _ _. Unit {0} };
 
-    /// Writes once, and again where the writer was interrupted. `Failed` comes at any other error,
-    /// where the writer took nothing of a piece that is not empty, and after 1,000 interruptions.
+    /// Writes once, and again where the writer was interrupted; answers how many bytes were taken. `Failed` at any
+    /// other error, where the writer took nothing of a piece that is not empty, and after 1,000 interruptions.
     fn write(&mut self, from: &[u8]) -> Result<usize, Failed>
         // What every sink says.
         ensures bytes { TakesFirst None None from.now result }

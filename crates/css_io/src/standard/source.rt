@@ -12,8 +12,8 @@ use std::io::{ErrorKind, Read};
 
 /// One of std's readers as a source.
 ///
-/// It tells nothing of its bytes, since a file or a terminal may give any. It counts each error of
-/// the reader, interruptions too, and each time that it gives up.
+/// It says nothing of its bytes, since a file or a terminal may give any. It counts each error of the reader,
+/// interruptions too, and each time that it gives up.
 #[derive(Drop)]
 pub struct StdSource<R: Read + Drop> {
     inner: R,
@@ -21,7 +21,7 @@ pub struct StdSource<R: Read + Drop> {
 }
 
 impl<R: Read + Drop> StdSource<R> {
-    /// A source that reads from `inner`. Takes no memory.
+    /// A source that reads from `inner`.
     pub fn new(inner: R) -> StdSource<R>
         ensures reader { source_reader result ≡ inner }
         ensures faults { source_faults result ≡ 0 }
@@ -44,8 +44,8 @@ impl<R: Read + Drop> Source for StdSource<R> {
 
     ghost read_gives = { λ old result new. CountsFaults (source_faults old) result (source_faults new) };
 
-    /// Reads once, and again where the reader was interrupted. `Failed` comes at any other error,
-    /// and after 1,000 interruptions.
+    /// Reads once, and again where the reader was interrupted; answers how many bytes were given. `Failed` at any other
+    /// error, and after 1,000 interruptions.
     fn read(&mut self, into: &mut [u8]) -> Result<usize, Failed>
         // What every source says.
         ensures bytes { GivesFirst None None into.new result }
