@@ -11,11 +11,11 @@ use crate::ledger::Bits;
 use crate::lit::Lit;
 use std::alloc::{AllocError, Global};
 
-/// A literal that is true exactly where the number is at least the bound. `AllocError` where memory
-/// runs out; then the formula is not to be used again.
+/// A literal that is true exactly where the number is at least the bound. `AllocError` where memory runs out; then the
+/// formula is not to be used again.
 ///
-/// From the least digit that counts: where the bound has a 1, both the number's digit and the outcome
-/// below it, and where it has a 0, one of both.
+/// It goes from the least digit on. Where the bound has a 1, it needs both the number's digit and the outcome below it;
+/// where it has a 0, one of the two.
 pub fn at_least(alloc: Global, f: &mut Formula, x: &Bits, bound: u32) -> Result<Lit, AllocError>
     requires in_range { IsTrue (are_below f.old.vars x.now) }
     requires room { (with_at_least f.old x.now bound).0.vars ≤ 2 ^ 30 }

@@ -11,12 +11,12 @@ use crate::lit::Lit;
 use crate::sums::{Column, add_columns};
 use std::alloc::{AllocError, Global};
 
-/// The quotient and the remainder of a number by a constant that is not 0. The quotient has as many
-/// digits as the number, and the remainder at most as many as `by` - 1. `AllocError` where memory
-/// runs out; then the formula is not to be used again.
+/// The quotient and the remainder of a number by a constant that is not 0. The quotient has as many digits as the
+/// number, and the remainder at most as many as `by` - 1. `AllocError` where memory runs out; then the formula is not
+/// to be used again.
 ///
-/// School division: from the highest digit down, the constant is taken off what is left wherever it
-/// fits. Each part computes forwards, so known digits fix the others by unit propagation.
+/// It is school division: from the highest digit down, the constant is taken off what is left wherever it fits. Each
+/// part computes forwards, so that unit propagation fixes the others from known digits.
 pub fn divide_by(
     alloc: Global,
     f: &mut Formula,

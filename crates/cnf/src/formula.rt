@@ -7,7 +7,7 @@ use crate::lit::Lit;
 use std::alloc::{AllocError, Global};
 use std::marker::Model;
 
-/// A formula in conjunctive normal form. Its clauses lie in one buffer, each behind the other.
+/// A formula in conjunctive normal form. Its clauses lie in one buffer, one after the other.
 #[derive(Debug, Drop)]
 pub struct Formula {
     vars: u32,
@@ -34,7 +34,7 @@ impl Formula {
     ghost use Rattle.cnf.specs.Gates.{with_clause, with_fresh};
     ghost use Rattle.cnf.specs.Lits.{is_below, are_below, positive};
 
-    /// A formula of so many variables without clauses. Takes no memory.
+    /// A formula of so many variables, at most 2^30, without clauses.
     pub fn new(alloc: Global, vars: u32) -> Formula
         requires { vars ≤ 2 ^ 30 }
         ensures { result ≡ record { vars = vars; clauses = [] } }
@@ -46,7 +46,7 @@ impl Formula {
         }
     }
 
-    /// The number of variables, at most 2^30. Takes no memory.
+    /// The number of variables, at most 2^30.
     pub fn vars(&self) -> u32
         ensures value { result ≡ self.now.vars }
         ensures small { result ≤ 2 ^ 30 }
@@ -55,21 +55,21 @@ impl Formula {
         self.vars
     }
 
-    /// The number of clauses. Takes no memory.
+    /// The number of clauses.
     pub fn len(&self) -> usize
         ensures { result ≡ length self.now.clauses }
     {
         self.ends.len()
     }
 
-    /// Whether there is no clause. Takes no memory.
+    /// Whether there is no clause.
     pub fn is_empty(&self) -> bool
         ensures { IsTrue result ↔ (self.now.clauses ≡ []) }
     {
         self.ends.is_empty()
     }
 
-    /// The k-th clause, counted from 0. Takes no memory.
+    /// The k-th clause, counted from 0.
     pub fn clause(&self, k: usize) -> &[Lit]
         requires { k < length self.now.clauses }
         ensures clause { slice_get self.now.clauses k ≡ Some result.now }
@@ -78,7 +78,7 @@ impl Formula {
         piece(&self.lits, &self.ends, k)
     }
 
-    /// One more variable, as a literal that is not negated. Takes no memory.
+    /// One more variable, as a literal that is not negated.
     pub fn fresh(&mut self) -> Lit
         requires { self.old.vars < 2 ^ 30 }
         ensures value { result ≡ positive self.old.vars }
@@ -90,8 +90,7 @@ impl Formula {
         lit
     }
 
-    /// Adds a clause behind the others. `AllocError` where memory runs out; then the formula is as
-    /// it was.
+    /// Adds a clause after the others. `AllocError` where memory runs out; then the formula is as it was.
     pub fn add_clause(&mut self, lits: &[Lit]) -> Result<(), AllocError>
         requires { IsTrue (are_below self.old.vars lits.now) }
         ensures ok { OnOk result (self.new ≡ with_clause self.old lits.now) }

@@ -1,4 +1,4 @@
-//! Gates over literals: that exactly one is true, whether all are, and literals that are fixed.
+//! Gates over literals: exactly one is true, all are true, or a literal is fixed.
 
 ghost use Rattle.std.specs.Prelude.{◌≡◌, ◌≤◌, ◌^◌, [], ◌∷◌, map, length, IsTrue, IfOk, OnOk};
 ghost use Rattle.cnf.specs.Gates.{with_clauses, with_exactly_one, with_and_gate, with_or_gate, with_true, with_false};
@@ -8,10 +8,10 @@ use crate::formula::Formula;
 use crate::lit::Lit;
 use std::alloc::{AllocError, Global};
 
-/// Asks that one of the literals is true, and not two places of the list. `AllocError` where memory
-/// runs out; then the formula is not to be used again.
+/// Asks that the literal is true at one place of the list, and at no other. `AllocError` where memory runs out; then
+/// the formula is not to be used again.
 ///
-/// The pairwise encoding: the clause of all, and a clause for each two places.
+/// The encoding is pairwise: the clause of all, and a clause for each two places.
 pub fn exactly_one(_alloc: Global, f: &mut Formula, lits: &[Lit]) -> Result<(), AllocError>
     requires { IsTrue (are_below f.old.vars lits.now) }
     ensures formula { OnOk result (f.new ≡ with_exactly_one f.old lits.now) }
@@ -37,10 +37,10 @@ fn exclude(f: &mut Formula, lit: Lit, others: &[Lit]) -> Result<(), AllocError>
     Ok(())
 }
 
-/// A literal that is true exactly where all of these are: a fresh one. `AllocError` where memory
-/// runs out; then the formula is not to be used again.
+/// A fresh literal that is true exactly where all of these are. `AllocError` where memory runs out; then the formula is
+/// not to be used again.
 ///
-/// The clauses are that it implies each of them, and that all of them imply it.
+/// The clauses say that it implies each of them, and that all of them imply it.
 #[tactic(auto, using(crate::proofs::LitLemmas::clauses_in_range), unfolding(crate::specs::Gates::with_and_gate))]
 pub fn and_gate(alloc: Global, f: &mut Formula, lits: &[Lit]) -> Result<Lit, AllocError>
     requires in_range { IsTrue (are_below f.old.vars lits.now) }

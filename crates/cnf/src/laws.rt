@@ -1,4 +1,4 @@
-//! The laws of formulas and gates, each as the contract of a function that does nothing.
+//! The laws of formulas and gates, as functions that do nothing.
 
 ghost use Rattle.std.specs.Prelude.{◌≡◌, ◌≢◌, ◌+◌, ◌*◌, ◌/◌, ◌%◌, ◌^◌, ◌<◌, ◌≤◌, ◌↔◌, ℕ, max, List, ◌++◌, length, slice_index_or, Bool, not, false, IsTrue, count_by};
 ghost use Rattle.std.specs.List.{list_all};
@@ -20,8 +20,8 @@ pub fn forced_clause_follows()
     ensures { (f : Cnf) (clause : List Lit) → IsForced f.clauses clause → Follows f clause }
 {}
 
-/// What values make of literals: a negation is true where its literal is false; a variable's literal
-/// has the variable's value; and more values behind change no literal that has one.
+/// Values make each negation true where its literal is false, and a variable's literal true where the variable is. More
+/// values at the end change no literal that has one.
 pub fn literals_follow_variables()
     ensures negation { (vs : List Bool) (l : Lit) → value vs (negation l) ≡ not (value vs l) }
     ensures positive { (vs : List Bool) (v : ℕ)
@@ -30,15 +30,16 @@ pub fn literals_follow_variables()
         → value (vs ++ more) l ≡ value vs l }
 {}
 
-/// A formula that a second one extends, which a third one extends, is extended by the third.
+/// Extending is a preorder: each formula in range extends itself, and what extends an extension of a formula extends
+/// the formula.
 pub fn extending_is_a_preorder()
     ensures none { (f : Cnf) → IsTrue (is_in_range f) → Extends f f }
     ensures both { (f g h : Cnf) → Extends f g → Extends g h → Extends f h }
 {}
 
-/// What [`exactly_one`](crate::exactly_one) makes of a formula: its clauses stay in front, and a list
-/// of values satisfies the new one exactly where it satisfies the old one and the number of places
-/// whose literal is true is one. (`means` says so of lists of any length.)
+/// [`exactly_one`](crate::exactly_one) asks that one place of the list has a true literal: a list of values satisfies
+/// the new formula exactly where it satisfies the old one and the number of such places is one. The clauses of the old
+/// formula stay in front. (`means` says so of lists of any length.)
 pub fn exactly_one_counts_one()
     ensures kept { (f : Cnf) (lits : List Lit)
         → (more : List (List Lit)) × ((with_exactly_one f lits).clauses ≡ f.clauses ++ more) }
@@ -54,8 +55,8 @@ pub fn exactly_one_counts_one()
         → GrowsBy f (with_exactly_one f lits) 0 (length lits * length lits + 1) }
 {}
 
-/// What [`and_gate`](crate::and_gate) makes of a formula: it extends it, and the answer is true
-/// exactly where all the literals are, in every list of values under which the new clauses hold.
+/// [`and_gate`](crate::and_gate) extends the formula, and its answer is true exactly where all the literals are, in
+/// every list of values under which the new clauses hold.
 pub fn and_gate_is_true_where_all_are()
     ensures extends { (f : Cnf) (lits : List Lit) → IsTrue (is_in_range f)
         → IsTrue (are_below f.vars lits) → Extends f (with_and_gate f lits).0 }
@@ -68,8 +69,7 @@ pub fn and_gate_is_true_where_all_are()
         → GrowsBy f (with_and_gate f lits).0 1 (length lits + 1) }
 {}
 
-/// What [`adder`](crate::adder) makes of a formula: it extends it, and the answer is the sum, with one
-/// digit more than the longer number.
+/// [`adder`](crate::adder) extends the formula, and its answer is the sum, with one digit more than the longer number.
 pub fn adder_gives_the_sum()
     ensures extends { (f : Cnf) (x y : List Lit) → IsTrue (is_in_range f)
         → IsTrue (are_below f.vars x) → IsTrue (are_below f.vars y)
@@ -87,8 +87,8 @@ pub fn adder_gives_the_sum()
         (2 * max (length x) (length y) + 1) (20 * max (length x) (length y) + 1) }
 {}
 
-/// What [`at_least`](crate::at_least) makes of a formula: it extends it, and the answer is true
-/// exactly where the number is at least the bound.
+/// [`at_least`](crate::at_least) extends the formula, and its answer is true exactly where the number is at least the
+/// bound.
 pub fn at_least_compares_with_the_bound()
     ensures extends { (f : Cnf) (x : List Lit) (bound : ℕ) → IsTrue (is_in_range f)
         → IsTrue (are_below f.vars x) → Extends f (with_at_least f x bound).0 }
@@ -102,8 +102,8 @@ pub fn at_least_compares_with_the_bound()
         → GrowsBy f (with_at_least f x bound).0 (length x + 1) (3 * length x + 1) }
 {}
 
-/// What [`divide_by`](crate::divide_by) makes of a formula: it extends it, and the answers are the
-/// quotient, with as many digits as the number, and the remainder.
+/// [`divide_by`](crate::divide_by) extends the formula, and its answers are the quotient, with as many digits as the
+/// number, and the remainder.
 pub fn divide_by_gives_quotient_and_remainder()
     ensures extends { (f : Cnf) (x : List Lit) (by : ℕ) → IsTrue (is_in_range f)
         → IsTrue (are_below f.vars x) → by ≢ 0 → by < 2 ^ 32

@@ -6,7 +6,7 @@ use crate::lit::Lit;
 use std::alloc::AllocError;
 use std::marker::Model;
 
-/// As a budget of learned clauses: a number above the length of every list
+/// The budget without a limit, a number above the length of every list
 /// ([`no_limit_is_defined`](crate::no_limit_is_defined)).
 pub const NO_LIMIT: u32 = 4_294_967_295;
 

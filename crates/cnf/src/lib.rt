@@ -1,5 +1,5 @@
-//! Formulas in conjunctive normal form: literals, clauses, what follows from them, and gates that
-//! add clauses so that a literal or a number is fixed.
+//! Formulas in conjunctive normal form: literals, clauses and what follows from them. Gates add clauses that fix a
+//! literal or a number.
 #![tactic(auto)]
 
 mod comparison;

@@ -10,14 +10,14 @@ impl Lit {
     ghost use Rattle.cnf.specs.Lits.{negation, variable};
     ghost use Rattle.cnf.specs.Values.{value};
 
-    /// The number of its variable. Takes no memory.
+    /// The number of its variable.
     pub fn variable(self) -> u32
         ensures { result ≡ variable self }
     {
         self.0 / 2
     }
 
-    /// The literal that is true where this one is false. Takes no memory.
+    /// The literal that is true where this one is false.
     pub fn negation(self) -> Lit
         ensures value { result ≡ negation self }
         ensures same_variable { variable result ≡ variable self }

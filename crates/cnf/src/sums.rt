@@ -181,10 +181,10 @@ fn top_digit(f: &mut Formula, carry: Option<Lit>) -> Result<Lit, AllocError>
     }
 }
 
-/// The sum of two numbers in binary, with one digit more than the longer one. `AllocError` where
-/// memory runs out; then the formula is not to be used again.
+/// The sum of two numbers in binary, with one digit more than the longer one. `AllocError` where memory runs out; then
+/// the formula is not to be used again.
 ///
-/// A ripple-carry adder: a half or a full adder for each place.
+/// It is a ripple-carry adder: a half or a full adder for each place.
 pub fn adder(alloc: Global, f: &mut Formula, x: &Bits, y: &Bits) -> Result<Bits, AllocError>
     requires x { IsTrue (are_below f.old.vars x.now) }
     requires y { IsTrue (are_below f.old.vars y.now) }

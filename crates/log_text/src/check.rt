@@ -11,13 +11,20 @@ use std::alloc::Global;
 /// The most bytes of a log that is checked.
 pub const MAX_LOG_BYTES: u32 = 134_217_728;
 
-/// Follows the log of a text by unit propagation alone, and gives the line of the answer: `yes` where each step is
-/// forced by the formula and the steps before it, and the formula has an empty clause or the last step is empty;
-/// else `no N` with the number of the first step that is not forced, counted from 1, or one more than that of the
-/// steps. The line ends with a line feed.
+/// The answer to a log, given as bytes, as one line that ends with a line feed. It follows the log by unit propagation
+/// alone.
 ///
-/// `TooLong` comes first, exactly where the text has more than [`MAX_LOG_BYTES`] bytes; then `BadLine`, exactly where
-/// the text is none of a log, with the number of the first line that is not; `NoMemory` where memory runs out.
+/// - `yes` where each step is forced by the formula and the steps before it, and the formula has an empty clause or the
+///   last step is empty.
+/// - `no N` otherwise. N is the number of the first step that is not forced, from 1; or one more than the number of the
+///   steps.
+///
+/// | error | exactly when |
+/// |---|---|
+/// | `TooLong` | first: the text has more than [`MAX_LOG_BYTES`] bytes |
+/// | `BadLine` | then: the text is not that of a log; with the number of the first line, from 1, that no log has |
+///
+/// `NoMemory` comes where memory runs out.
 #[tactic(auto, using(crate::proofs::Refusals::refuses))]
 pub fn check_text(alloc: Global, text: &[u8]) -> Result<Vec<u8>, CheckError>
     ensures ok { IfOk result (λ answer. IsCheckedText text.now answer.items) }

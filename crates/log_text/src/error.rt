@@ -12,7 +12,7 @@ use thiserror::Error;
 pub enum CheckError {
     /// The text has more than 134,217,728 bytes.
     TooLong,
-    /// The line of this number, from 1, is the first that is none of a log; one past the last where a line is missing.
+    /// The first line, from 1, that no log has; one past the last where a line is missing.
     BadLine(u64),
     /// There is not enough memory.
     NoMemory,

@@ -1,11 +1,11 @@
-//! What follows of the printed answer, as functions that do nothing.
+//! What follows from the printed answer, as functions that do nothing.
 
 ghost use Rattle.log_text.specs.Laws.{LimitIsDefined, RefutingLogsPass, YesRefutes};
 
 use crate::check::MAX_LOG_BYTES;
 use rup_check::{checked_log_refutes, printed_logs_read_back, refutations_pass};
 
-/// Where `yes` is printed of a log, no values satisfy its formula.
+/// Where `yes` is printed for a log, no values satisfy its formula.
 pub fn yes_refutes_the_formula()
     ensures { YesRefutes }
 {
@@ -13,8 +13,7 @@ pub fn yes_refutes_the_formula()
     printed_logs_read_back();
 }
 
-/// Of the text of a log that refutes its formula, within the limit of bytes, `yes` is printed, and nothing else:
-/// only want of memory may come in its place.
+/// For the text of a log that refutes its formula, within the limit of bytes, `yes` is printed, unless memory runs out.
 pub fn refuting_logs_pass()
     ensures { RefutingLogsPass }
 {

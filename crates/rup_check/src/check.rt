@@ -12,8 +12,8 @@ use sat_trail::Trail;
 use sat_watch::{has_empty, propagate};
 use std::alloc::{AllocError, Global};
 
-/// Follows a log, by unit propagation alone. The variables of its steps are those of the formula, and
-/// in none of them a literal stands beside its negation. `AllocError` where memory runs out.
+/// Follows a log, by unit propagation alone. The variables of its steps are those of the formula. No step has a literal
+/// beside its negation. `AllocError` where memory runs out.
 pub fn check_log(alloc: Global, log: &Log) -> Result<Checked, AllocError>
     requires { IsTrue (are_steps log.now.formula.vars log.now.steps.items) }
     ensures { IfOk result (λ c. IsChecked log.now.formula.clauses log.now.steps.items c) }
@@ -48,7 +48,7 @@ fn check_steps(alloc: Global, f: &Formula, steps: &[Clause]) -> Result<Checked, 
     Ok(at_end(steps))
 }
 
-/// The answer where each step is forced, and no clause of the formula is empty. Takes no memory.
+/// The answer where each step is forced, and no clause of the formula is empty.
 fn at_end(steps: &[Clause]) -> Checked
     ensures { IsAtEnd steps.now result }
 {

@@ -1,4 +1,4 @@
-//! What stands in front of a text: bytes, numbers, literals.
+//! What is at the front of a text: bytes, numbers, literals.
 ghost use Rattle.std.specs.Prelude.{◌≡◌, ◌≢◌, ◌+◌, ◌<◌, ◌≤◌, ◌^◌, ℕ, ◌∷◌, ◌++◌, List, length, slice_index, codes, decimal, IsTrue, MatchOption};
 ghost use Rattle.cnf.specs.Lits.{is_below};
 ghost use Rattle.rup_check.specs.Fronts.{IsFirst, NoDigits, NoLiteral, NoNumber, NoVariable};
@@ -8,7 +8,7 @@ ghost use Rattle.rup_check.specs.Text.{lit_text};
 use cnf::Lit;
 use itoa::Buffer;
 
-/// What follows a front, or None where the text does not begin with it. Takes no memory.
+/// What follows a front, or None where the text does not begin with it.
 pub(crate) fn after<'a>(text: &'a [u8], front: &[u8]) -> Option<&'a [u8]>
     ensures { MatchOption result ((rest : List ℕ) → text.now ≡ front.now ++ rest → ⊥)
         (λ rest. text.now ≡ front.now ++ rest.now) }
@@ -20,7 +20,7 @@ pub(crate) fn after<'a>(text: &'a [u8], front: &[u8]) -> Option<&'a [u8]>
     if begin == front { Some(rest) } else { None }
 }
 
-/// A number up to one before a byte, and what follows the byte. Takes no memory.
+/// A number up to one, which a byte ends, and what follows the byte.
 pub(crate) fn number(text: &[u8], end: u8, most: u32) -> Option<(u32, &[u8])>
     requires { end < 48 }
     ensures { MatchOption result (NoNumber end most text.now)
@@ -42,7 +42,7 @@ pub(crate) fn number(text: &[u8], end: u8, most: u32) -> Option<(u32, &[u8])>
     }
 }
 
-/// The first place of a byte. Takes no memory.
+/// The first place of a byte.
 fn find(text: &[u8], byte: u8) -> Option<usize>
     ensures { MatchOption result ((k : ℕ) → k < length text.now → slice_index text.now k ≢ byte)
         (λ place. IsFirst text.now byte place) }
@@ -55,7 +55,7 @@ fn find(text: &[u8], byte: u8) -> Option<usize>
     None
 }
 
-/// The number whose decimal digits these are. Takes no memory.
+/// The number whose decimal digits these are.
 fn value(digits: &[u8]) -> Option<u32>
     ensures { MatchOption result (NoDigits digits.now)
         (λ n. (n < 2 ^ 32) × (digits.now ≡ decimal n)) }
@@ -76,8 +76,8 @@ fn value(digits: &[u8]) -> Option<u32>
     }
 }
 
-/// The number of a variable, counted from 1, before a space, as one counted from 0, and what follows the
-/// space. Takes no memory.
+/// The number of a variable before a space, and what follows the space. The text counts variables from 1, the answer
+/// from 0.
 fn variable(text: &[u8], vars: u32) -> Option<(u32, &[u8])>
     requires { vars ≤ max_vars }
     ensures { MatchOption result (NoVariable vars text.now)
@@ -93,7 +93,7 @@ fn variable(text: &[u8], vars: u32) -> Option<(u32, &[u8])>
     Some((number - 1, rest))
 }
 
-/// A literal of so many variables before a space, and what follows the space. Takes no memory.
+/// A literal of so many variables before a space, and what follows the space.
 pub(crate) fn literal(text: &[u8], vars: u32) -> Option<(Lit, &[u8])>
     requires { vars ≤ max_vars }
     ensures { MatchOption result (NoLiteral vars text.now) (λ r. IsTrue (is_below vars r.0)

@@ -1,5 +1,5 @@
-//! Logs of clauses that refute a formula, and a checker that follows them by unit propagation alone
-//! (reverse unit propagation, RUP).
+//! Logs of clauses that refute a formula, and a checker that follows them by unit propagation alone (reverse unit
+//! propagation, RUP).
 #![tactic(auto)]
 
 mod check;

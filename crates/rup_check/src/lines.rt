@@ -11,7 +11,7 @@ use std::alloc::{AllocError, Global};
 /// The most variables of a log.
 const MAX_VARS: u32 = 16_777_215;
 
-/// The numbers of variables and clauses that the first line gives, and what follows it. Takes no memory.
+/// The numbers of variables and clauses that the first line gives, and what follows it.
 pub(crate) fn head(text: &[u8]) -> Option<(u32, u32, &[u8])>
     ensures { MatchOption result ((vars count : ℕ) (rest : List ℕ) → vars ≤ max_vars
         → count ≤ max_clauses → text.now ≡ head_text vars count ++ rest → ⊥)
@@ -36,8 +36,8 @@ pub(crate) fn head(text: &[u8]) -> Option<(u32, u32, &[u8])>
     }
 }
 
-/// The literals of a clause's line, and what follows the line, or None where none stands in front.
-/// `AllocError` where memory runs out.
+/// The literals of a clause's line, and what follows the line; None where no such line is in front. `AllocError` where
+/// memory runs out.
 pub(crate) fn line(
     alloc: Global,
     text: &[u8],

@@ -14,7 +14,7 @@ pub struct Log {
 /// Why a text is not a log.
 #[derive(Clone, Copy, Debug, PartialEq, Eq)]
 pub enum LogError {
-    /// The first line that is none of a log, counted from 1: one past the last where a line is missing.
+    /// The number of the first line, from 1, that no log has; one past the last where a line is missing.
     BadLine(u64),
     /// Memory ran out.
     NoMemory,
@@ -47,7 +47,6 @@ impl<T: Drop> From<AllocFailed<T>> for LogError {
 pub enum Checked {
     /// Each step is forced, and the formula has an empty clause or the last step is empty.
     Yes,
-    /// The number of the first step that is not forced, counted from 1, or one more than the number of
-    /// steps where each is.
+    /// The number of the first step that is not forced, from 1; one more than the number of steps where each is forced.
     No(u64),
 }

@@ -7,9 +7,9 @@ use cnf::{Clause, Formula, Ledger, Lit};
 use itoa::Buffer;
 use std::alloc::{AllocError, Global};
 
-/// The text of a formula and the clauses of a ledger, as the steps of a log. Of a formula within the limits
-/// and a ledger of it `read_log` reads both back: the variables of a formula are always in range. `AllocError`
-/// where memory runs out.
+/// The text of a formula and of the clauses of a ledger, as a log with these steps. Of a formula within the limits and
+/// a ledger of it `read_log` reads both back. The variables of a formula are always in range. `AllocError` where memory
+/// runs out.
 pub fn print_log(alloc: Global, f: &Formula, ledger: &Ledger) -> Result<Vec<u8>, AllocError>
     ensures text { IfOk result (λ text. text.items ≡ log_text f.now ledger.now) }
     ensures in_range { IfOk result (λ _. IsTrue (is_in_range f.now)) }

@@ -11,8 +11,8 @@ use crate::steps::is_plain;
 use cnf::{Clause, Formula};
 use std::alloc::Global;
 
-/// The formula and the steps of a text, which can be checked. `BadLine` comes exactly where the text is none
-/// of a log, with the number of the first line that is not; `NoMemory` where memory runs out.
+/// The formula and the steps of a text, fit to be checked. `BadLine` exactly where the text is not that of a log, with
+/// the number of the first line, from 1, that no log has. `NoMemory` where memory runs out.
 pub fn read_log(alloc: Global, text: &[u8]) -> Result<Log, LogError>
     ensures ok { IfOk result (λ log. IsLogText text.now log.formula log.steps.items) }
     ensures checkable { IfOk result (λ log. IsTrue (are_steps log.formula.vars log.steps.items)) }
@@ -54,7 +54,7 @@ fn read_formula(
     Ok((formula, rest))
 }
 
-/// Steps up to the end of the text, behind so many lines less 1.
+/// Steps up to the end of the text. Before them are so many lines less 1.
 fn read_steps(alloc: Global, lines: &[u8], vars: u32, before: u64) -> Result<Vec<Clause>, LogError>
     requires vars { vars ≤ max_vars }
     requires before { before < 2 ^ 33 }

@@ -1,4 +1,4 @@
-//! Whether a clause is forced, and clauses that come.
+//! Whether a clause is forced by clauses to which steps are added.
 ghost use Rattle.std.specs.Prelude.{◌≡◌, ◌↔◌, ◌∷◌, [], ◌++◌, List, length, true, false, IsTrue, IfOk, OnOk, MatchBool};
 ghost use Rattle.cnf.specs.declared.lit.Lit.{Lit};
 ghost use Rattle.cnf.specs.Lits.{is_among, is_below, are_below};
@@ -17,7 +17,7 @@ use sat_trail::Trail;
 use sat_watch::{propagate, propagate_entries, undo};
 use std::alloc::AllocError;
 
-/// Whether the clauses of an arena force a clause. At the end nothing is decided. Takes no memory.
+/// Whether the clauses of an arena force a clause. At the end nothing is decided.
 pub(crate) fn is_forced(
     arena: &mut Arena,
     trail: &mut Trail,
@@ -36,8 +36,8 @@ pub(crate) fn is_forced(
     forced
 }
 
-/// Makes the literals of a clause false, one after the other, until a clause is false or a literal is
-/// true. Says whether it came to that. Takes no memory.
+/// Makes the literals of a clause false, one after the other, until a clause is false or a literal is true. Answers
+/// whether it came to that.
 fn refute(arena: &mut Arena, trail: &mut Trail, head: &mut u32, clause: &[Lit]) -> bool
     requires root { IsRoot arena.old trail.old head.old }
     requires step { IsTrue (is_step arena.old.vars clause.now) }
@@ -55,7 +55,7 @@ fn refute(arena: &mut Arena, trail: &mut Trail, head: &mut u32, clause: &[Lit]) 
     false
 }
 
-/// Makes a literal false. Says whether a clause is false then, or the literal is true. Takes no memory.
+/// Makes a literal false. Answers whether a clause is false then, or the literal is true.
 fn deny(arena: &mut Arena, trail: &mut Trail, head: &mut u32, lit: Lit) -> bool
     requires quiet { IsQuiet arena.old trail.old head.old }
     requires in_range { IsTrue (is_below arena.old.vars lit) }

@@ -14,8 +14,8 @@ use sat_trail::Trail;
 use sat_watch::{is_false, propagate, propagate_entries};
 use std::alloc::AllocError;
 
-/// Adds a step behind the clauses, and makes true what follows. Says whether a clause is false then:
-/// from there on each clause is forced. `AllocError` where memory runs out.
+/// Adds a step after the clauses, and makes true what follows. Answers whether a clause is false then: from there on
+/// each clause is forced. `AllocError` where memory runs out.
 pub(crate) fn add_step(
     arena: &mut Arena,
     trail: &mut Trail,
@@ -40,8 +40,7 @@ pub(crate) fn add_step(
     Ok(propagate_entries(arena, trail, head).is_some())
 }
 
-/// Where propagation goes on for a clause with these watches: from the first entry on, where one of
-/// them is false. Takes no memory.
+/// Where propagation goes on for a clause with these watches: from the first entry on, where one of them is false.
 fn head_for(trail: &Trail, head: u32, one: Lit, other: Lit) -> u32
     requires one { IsTrue (is_below trail.now.vars one) }
     requires other { IsTrue (is_below trail.now.vars other) }

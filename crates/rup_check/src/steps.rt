@@ -7,21 +7,21 @@ ghost use Rattle.rup_check.specs.Reading.{is_plain};
 
 use cnf::Lit;
 
-/// Whether a clause can be a step over so many variables. Takes no memory.
+/// Whether a clause can be a step over so many variables.
 pub(crate) fn is_step(vars: u32, clause: &[Lit]) -> bool
     ensures { result ≡ is_step vars clause.now }
 {
     are_below(clause, vars) && is_consistent(clause)
 }
 
-/// Whether a clause can be read as a step: it can be one, and no literal stands twice. Takes no memory.
+/// Whether a clause can be read as a step: it can be one, and no literal occurs twice.
 pub(crate) fn is_plain(vars: u32, clause: &[Lit]) -> bool
     ensures { result ≡ is_plain vars clause.now }
 {
     is_step(vars, clause) && is_distinct(clause)
 }
 
-/// Whether no literal stands twice. Takes no memory.
+/// Whether no literal occurs twice.
 fn is_distinct(lits: &[Lit]) -> bool
     ensures { result ≡ is_distinct lits.now }
 {
@@ -34,21 +34,21 @@ fn is_distinct(lits: &[Lit]) -> bool
     true
 }
 
-/// Whether the variables of literals are among so many. Takes no memory.
+/// Whether the variables of literals are among so many.
 pub(crate) fn are_below(lits: &[Lit], vars: u32) -> bool
     ensures { result ≡ are_below vars lits.now }
 {
     lits.iter().all(|lit| lit.variable() < vars)
 }
 
-/// Whether no literal stands beside its negation. Takes no memory.
+/// Whether no literal is beside its negation.
 fn is_consistent(lits: &[Lit]) -> bool
     ensures { result ≡ is_consistent lits.now }
 {
     lits.iter().all(|lit| !is_among(lits, lit.negation()))
 }
 
-/// Whether a literal is among others. Takes no memory.
+/// Whether a literal is among others.
 fn is_among(lits: &[Lit], lit: Lit) -> bool
     ensures { result ≡ is_among lits.now lit }
 {

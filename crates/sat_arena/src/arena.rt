@@ -10,8 +10,8 @@ use cnf::{Formula, Lit};
 use std::alloc::{AllocError, Global};
 use std::marker::Model;
 
-/// Clauses in one buffer of words. Each watches two of its literals, and the clauses that watch a
-/// literal are threaded in a list through their words, so that a watch is moved without memory.
+/// Clauses in one buffer of words. Each watches two of its literals. The clauses that watch a literal are threaded in a
+/// list through their words: to move a watch takes no memory.
 ///
 /// A clause is named by its index, which never changes.
 #[derive(Debug, Drop)]
@@ -68,8 +68,8 @@ impl Arena {
         })
     }
 
-    /// Makes room for so many short clauses, so that the buffers of most formulas do not grow while these
-    /// are read. `AllocError` where memory runs out.
+    /// Makes room for so many short clauses, so that the buffers of most formulas do not grow while these are read.
+    /// `AllocError` where memory runs out.
     fn reserve(&mut self, clauses: usize) -> Result<(), AllocError>
         ensures { self.new ≡ self.old }
     {
@@ -78,9 +78,9 @@ impl Arena {
         Ok(())
     }
 
-    /// Adds a clause behind the others, and says under which index. Where it has two different
-    /// literals it watches its last one and the last that is different from this, and stands in
-    /// front of the lists of both. `AllocError` where memory runs out; then the arena is unchanged.
+    /// Adds a clause after the others, and answers its index. A clause with two different literals watches its last one
+    /// and the last that differs from it, and comes to the front of the lists of both. `AllocError` where memory runs
+    /// out; then the arena is unchanged.
     pub fn attach(&mut self, lits: &[Lit]) -> Result<usize, AllocError>
         requires { IsTrue (are_below self.old.vars lits.now) }
         ensures vars { self.new.vars ≡ self.old.vars }
@@ -105,7 +105,7 @@ impl Arena {
         Ok(index)
     }
 
-    /// The number of variables, at most 2^30. Takes no memory.
+    /// The number of variables, at most 2^30.
     pub fn vars(&self) -> u32
         ensures value { result ≡ self.now.vars }
         ensures small { result ≤ 2 ^ 30 }
@@ -114,22 +114,21 @@ impl Arena {
         self.vars
     }
 
-    /// The number of clauses. Takes no memory.
+    /// The number of clauses.
     pub fn len(&self) -> usize
         ensures { result ≡ length self.now.clauses }
     {
         self.starts.len()
     }
 
-    /// Whether there is no clause. Takes no memory.
+    /// Whether there is no clause.
     pub fn is_empty(&self) -> bool
         ensures { IsTrue result ↔ (self.now.clauses ≡ []) }
     {
         self.starts.is_empty()
     }
 
-    /// The index of the k-th clause, counted from 0 in the order in which they were attached. Takes
-    /// no memory.
+    /// The index of the k-th clause, counted from 0 in the order in which they were attached.
     pub fn at(&self, k: usize) -> usize
         requires { k < length self.now.clauses }
         ensures clause { slice_get self.now.clauses k ≡ Some (clause_at self.now result) }
@@ -139,7 +138,7 @@ impl Arena {
         self.starts[k]
     }
 
-    /// The number of a clause's literals. Takes no memory.
+    /// The number of a clause's literals.
     pub fn size(&self, clause: usize) -> usize
         requires { Contains (indexes self.now) clause }
         ensures { result ≡ length (clause_at self.now clause).lits }
@@ -147,7 +146,7 @@ impl Arena {
         self.words[clause + SIZE]
     }
 
-    /// The k-th literal of a clause, counted from 0. Takes no memory.
+    /// The k-th literal of a clause, counted from 0.
     pub fn literal(&self, clause: usize, k: usize) -> Lit
         requires known { Contains (indexes self.now) clause }
         requires in_bounds { k < length (clause_at self.now clause).lits }
@@ -157,8 +156,7 @@ impl Arena {
         lit_at(&self.words, clause + LITS + k)
     }
 
-    /// The two literals that a clause watches. They are one where it has fewer than two different
-    /// literals. Takes no memory.
+    /// The two literals that a clause watches. They are the same where it has fewer than two different literals.
     pub fn watches(&self, clause: usize) -> (Lit, Lit)
         requires { Contains (indexes self.now) clause }
         ensures one { result.0 ≡ (clause_at self.now clause).one }
@@ -172,7 +170,7 @@ impl Arena {
         )
     }
 
-    /// The first clause of a literal's list, or None where the list is empty. Takes no memory.
+    /// The first clause of a literal's list, or None where the list is empty.
     pub fn first(&self, lit: Lit) -> Option<usize>
         requires { IsTrue (is_below self.now.vars lit) }
         ensures { result ≡ first_of (watch_list self.now lit) }
@@ -180,7 +178,7 @@ impl Arena {
         linked_index(self.firsts[lit.0 as usize])
     }
 
-    /// The clause behind another in a literal's list, or None at its end. Takes no memory.
+    /// The clause after another in a literal's list, or None at its end.
     pub fn next(&self, lit: Lit, clause: usize) -> Option<usize>
         requires in_range { IsTrue (is_below self.now.vars lit) }
         requires member { Contains (watch_list self.now lit) clause }
@@ -189,8 +187,8 @@ impl Arena {
         linked_index(self.words[slot(&self.words, lit, clause)])
     }
 
-    /// Lets a clause watch another of its literals, `to`, in place of one that it watches, `lit`. It
-    /// goes from the list of `lit` to the front of that of `to`. Takes no memory.
+    /// Lets a clause watch another of its literals, `to`, in place of one that it watches, `lit`. It goes from the list
+    /// of `lit` to the front of that of `to`.
     ///
     /// It walks along the list of `lit` to the clause: `move_after` does not.
     pub fn move_watch(&mut self, lit: Lit, clause: usize, to: Lit)
@@ -212,8 +210,8 @@ impl Arena {
         self.move_after(lit, before, clause, to);
     }
 
-    /// The same of a clause of whose place in the list of `lit` it is known behind which it is, or
-    /// that it is the first. Takes no memory.
+    /// Lets a clause watch `to` in place of `lit`, given the clause `before` it in the list of `lit` (`None` where it
+    /// is the first). It goes from the list of `lit` to the front of that of `to`.
     pub fn move_after(&mut self, lit: Lit, before: Option<usize>, clause: usize, to: Lit)
         requires lit { IsTrue (is_below self.old.vars lit) }
         requires to { IsTrue (is_below self.old.vars to) }
@@ -231,7 +229,7 @@ impl Arena {
         relink(&mut self.words, &mut self.firsts, lit, before, clause, to);
     }
 
-    /// The clause before another in the list of a literal that this watches.
+    /// The clause before another in the list of a literal that this one watches.
     fn before(&self, lit: Lit, clause: usize) -> Option<usize>
         requires lit { IsTrue (is_below self.now.vars lit) }
         requires known { Contains (indexes self.now) clause }

@@ -14,7 +14,7 @@ pub(crate) fn linked_index(link: usize) -> Option<usize>
     if link == 0 { None } else { Some(link) }
 }
 
-/// Where the link of a clause in the list of a watched literal stands.
+/// Where the link of a clause in the list of a watched literal is.
 pub(crate) fn slot(words: &[usize], lit: Lit, clause: usize) -> usize
     requires { clause + SIZE < length words.now }
     ensures value { result ≡ slot words.now lit.0 clause }
@@ -45,8 +45,8 @@ pub(crate) fn predecessor(words: &[usize], lit: Lit, first: usize, clause: usize
     before
 }
 
-/// Takes a clause out of the list of a literal, where it stands behind `before`, and lets it watch
-/// another in place of it, in front of the list of that.
+/// Moves a clause from the list of one literal, where it comes after `before`, to the front of the list of another,
+/// which it watches in its place.
 pub(crate) fn relink(
     words: &mut Vec<usize>,
     firsts: &mut Vec<usize>,
@@ -73,7 +73,7 @@ pub(crate) fn relink(
     firsts[to.0 as usize] = clause;
 }
 
-/// Takes what stands behind `before` out of the list of a literal, where `next` is behind that.
+/// Takes the clause after `before` out of the list of a literal. `next` comes after that clause.
 fn cut(
     words: &mut Vec<usize>,
     firsts: &mut Vec<usize>,

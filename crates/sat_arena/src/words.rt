@@ -27,8 +27,8 @@ pub(crate) fn lit_at(words: &[usize], place: usize) -> Lit
     Lit(words[place] as u32)
 }
 
-/// The watches of a new clause: its last literal and the last that is different from it. Both are one
-/// where there is none.
+/// The watches of a new clause: its last literal and the last that differs from it. They are the same where none
+/// differs.
 pub(crate) fn watch_pair(lits: &[Lit]) -> (Lit, Lit)
     ensures one { result.0 ≡ last_watch lits.now }
     ensures other { result.1 ≡ next_watch lits.now }
@@ -37,7 +37,7 @@ pub(crate) fn watch_pair(lits: &[Lit]) -> (Lit, Lit)
     (one, last_unlike(lits, one))
 }
 
-/// The last of some literals, or the first literal of all where there is none.
+/// The last of some literals, or the literal of number 0 where there is none.
 fn last(lits: &[Lit]) -> Lit
     ensures { result ≡ last_watch lits.now }
 {
@@ -61,7 +61,7 @@ fn last_unlike(lits: &[Lit], one: Lit) -> Lit
     last
 }
 
-/// Writes a clause behind the words, for which there is room.
+/// Writes a clause after the words, for which there is room.
 pub(crate) fn push_clause(
     words: &mut Vec<usize>,
     lits: &[Lit],

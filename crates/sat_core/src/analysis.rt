@@ -9,10 +9,9 @@ ghost use Rattle.sat_watch.specs.Soundness.{IsSound, IsConflict};
 use sat_arena::Arena;
 use sat_trail::Trail;
 
-/// Resolves the clause under a number, which is false, with the reasons of its literals until one is
-/// left of the present level, and says where on the trail that one is. The clause is then that of the
-/// negations of the marked literals. The variables that it resolves become more active. Takes no
-/// memory.
+/// Resolves a false clause, given by its number, with the reasons of its literals, until one literal of the present
+/// level is left. Answers where on the trail that literal is. The clause then has the negations of the marked literals.
+/// The variables that it resolves become more active.
 pub(crate) fn resolve(
     arena: &Arena,
     trail: &mut Trail,
@@ -50,7 +49,7 @@ pub(crate) fn resolve(
     }
 }
 
-/// Takes all marks away. Takes no memory.
+/// Takes all marks away.
 fn clear(seen: &mut Vec<bool>)
     ensures size { length seen.new.items ≡ length seen.old.items }
     ensures clear { (v : ℕ) → slice_index_or seen.new.items v false ≡ false }
@@ -60,8 +59,7 @@ fn clear(seen: &mut Vec<bool>)
     }
 }
 
-/// Marks the variables of the clause under a number, and says how many new marks are on entries of a
-/// level. Takes no memory.
+/// Marks the variables of the clause under a number. Answers how many new marks are on entries of a level.
 pub(crate) fn mark(
     seen: &mut Vec<bool>,
     trail: &Trail,
@@ -87,7 +85,7 @@ pub(crate) fn mark(
     count
 }
 
-/// Marks a variable, and says how many new marks are on entries of a level: 1 or 0. Takes no memory.
+/// Marks a variable. Answers how many new marks are on entries of a level: 1 or 0.
 fn mark_one(seen: &mut Vec<bool>, trail: &Trail, var: u32, level: u32) -> u32
     requires range { var < trail.now.vars }
     requires size { length seen.old.items ≡ trail.now.vars }

@@ -18,8 +18,8 @@ use sat_arena::Arena;
 use sat_trail::Trail;
 use std::alloc::{AllocError, Global};
 
-/// Learns a clause from a conflict above level 0, and takes back the levels at whose end the clause
-/// would have been unit. `AllocError` where memory runs out.
+/// Learns a clause from a conflict above level 0, and takes back the levels at whose end the clause would have been
+/// unit. `AllocError` where memory runs out.
 pub(crate) fn learn(
     alloc: Global,
     arena: &mut Arena,
@@ -56,8 +56,7 @@ pub(crate) fn learn(
     Ok(Clause { lits })
 }
 
-/// Where propagation goes on: at the entry of the clause's other watch, or behind all entries. Takes no
-/// memory.
+/// Where propagation goes on: at the entry of the clause's other watch, or after all entries.
 fn head_after(place: Option<u32>, trail: &Trail) -> u32
     ensures { result ≡ head_after place (length trail.now.entries) }
 {
@@ -67,7 +66,7 @@ fn head_after(place: Option<u32>, trail: &Trail) -> u32
     }
 }
 
-/// Raises the activities of the variables of a clause. Takes no memory.
+/// Raises the activities of the variables of a clause.
 fn bump(trail: &mut Trail, lits: &[Lit])
     requires { IsTrue (are_below trail.old.vars lits.now) }
     ensures { trail.new ≡ trail.old }
@@ -93,7 +92,7 @@ fn collect(alloc: Global, trail: &Trail, seen: &[bool]) -> Result<Vec<Lit>, Allo
     Ok(clause)
 }
 
-/// The place of the last marked entry before a place, or None where none is marked. Takes no memory.
+/// The place of the last marked entry before a place, or None where none is marked.
 fn last_marked(trail: &Trail, seen: &[bool], at: u32) -> Option<u32>
     requires size { length seen.now ≡ trail.now.vars }
     requires place { at ≤ length trail.now.entries }
@@ -108,7 +107,7 @@ fn last_marked(trail: &Trail, seen: &[bool], at: u32) -> Option<u32>
     None
 }
 
-/// The level of an entry, or 0 where there is none. Takes no memory.
+/// The level of an entry, or 0 where there is none.
 fn back_level(trail: &Trail, place: Option<u32>) -> u32
     requires place { IfSome place (λ k. k < length trail.now.entries) }
     requires trail { IsTrail trail.now }

@@ -5,7 +5,7 @@ ghost use Rattle.cnf.specs.Lits.{variable};
 use cnf::Lit;
 use sat_trail::Trail;
 
-/// Writes down the value of each variable that has one. Takes no memory.
+/// Writes down the value of each variable that has one.
 pub(crate) fn remember(phases: &mut Vec<bool>, trail: &Trail)
     requires { length phases.old.items ≡ trail.now.vars }
     ensures { length phases.new.items ≡ trail.now.vars }
@@ -16,7 +16,7 @@ pub(crate) fn remember(phases: &mut Vec<bool>, trail: &Trail)
     }
 }
 
-/// The literal that gives a variable the value which is written down for it. Takes no memory.
+/// The literal that gives a variable the value that is written down for it.
 pub(crate) fn as_before(phases: &[bool], var: u32) -> Lit
     requires range { var < length phases.now }
     requires small { length phases.now ≤ 2 ^ 30 }

@@ -12,8 +12,8 @@ use sat_watch::undo;
 /// How many learned clauses are one unit of the sequence.
 const UNIT: u32 = 100;
 
-/// The sequence of Luby, Sinclair and Zuckerman (1993): 1, 1, 2, 1, 1, 2, 4, and so on, by Knuth's
-/// pair of numbers. No clause says when a restart comes.
+/// The sequence of Luby, Sinclair and Zuckerman (1993): 1, 1, 2, 1, 1, 2, 4 .., by Knuth's pair of numbers. No clause
+/// says when a restart comes.
 #[derive(Debug, Drop)]
 pub(crate) struct Restarts {
     turn: u32,
@@ -32,8 +32,7 @@ impl Restarts {
         }
     }
 
-    /// After one more learned clause, goes back to level 0 where the present member of the sequence is
-    /// used up. Takes no memory.
+    /// After one more learned clause, goes back to level 0 where the present member of the sequence is used up.
     pub(crate) fn after_learning(&mut self, trail: &mut Trail, head: &mut u32)
         ensures vars { trail.new.vars ≡ trail.old.vars }
         ensures ready { (a : WatchedClauses) → IsReady a trail.old head.old

@@ -1,4 +1,4 @@
-//! A learned clause without the literals that follow from its others.
+//! Learned clauses without the literals that follow from their others.
 ghost use Rattle.std.specs.Prelude.{◌≡◌, ◌<◌, ◌≤◌, Contains, length, IfOk, OnOk};
 ghost use Rattle.sat_arena.specs.Arena.{indexes};
 ghost use Rattle.sat_core.specs.Analysis.{IsResolved};
@@ -10,9 +10,9 @@ use sat_arena::Arena;
 use sat_trail::Trail;
 use std::alloc::{AllocError, Global};
 
-/// Resolves a resolved conflict further, down to the marked literals that do not follow from the
-/// others: the literals of level 0 go, and those whose reason has no other literals than ones that are
-/// marked or go as well. `AllocError` where memory runs out.
+/// Resolves a resolved conflict further, down to the marked literals that do not follow from the others. The literals
+/// of level 0 go, and each whose reason has only literals that are marked or go as well. `AllocError` where memory runs
+/// out.
 pub(crate) fn shorten(
     alloc: Global,
     arena: &Arena,
@@ -44,8 +44,8 @@ pub(crate) fn shorten(
     Ok(())
 }
 
-/// Of each variable whether its entry stands before a place and is marked, or has a reason whose other
-/// variables do so or follow as well. `AllocError` where memory runs out.
+/// Which variables follow: those whose entry is before a place and is marked, or has a reason whose other variables all
+/// follow. `AllocError` where memory runs out.
 fn following(
     alloc: Global,
     arena: &Arena,
@@ -67,7 +67,7 @@ fn following(
     Ok(follows)
 }
 
-/// Whether a variable has a reason whose other variables all follow. Takes no memory.
+/// Whether a variable has a reason whose other variables all follow.
 fn does_follow(arena: &Arena, trail: &Trail, follows: &[bool], var: u32) -> bool
     requires vars { trail.now.vars ≡ arena.now.vars }
     requires sound { IsSound (numbered arena.now) trail.now }
@@ -80,7 +80,7 @@ fn does_follow(arena: &Arena, trail: &Trail, follows: &[bool], var: u32) -> bool
     }
 }
 
-/// Whether all variables but one of the clause under a number follow. Takes no memory.
+/// Whether all variables but one of the clause under a number follow.
 fn do_others_follow(arena: &Arena, follows: &[bool], number: usize, var: u32) -> bool
     requires known { Contains (indexes arena.now) number }
     requires size { length follows.now ≡ arena.now.vars }

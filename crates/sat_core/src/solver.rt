@@ -16,9 +16,9 @@ use sat_trail::Trail;
 use sat_watch::{has_empty, propagate};
 use std::alloc::{AllocError, Global};
 
-/// Decides a formula by clause learning, with a budget of learned clauses; `NO_LIMIT` stands for a
-/// number above the length of every list. The budget is spent only where one more clause would have
-/// to be learned. `AllocError` where memory runs out.
+/// Decides a formula by clause learning, with a budget of learned clauses. `NO_LIMIT` is a number above the length of
+/// every list. The budget is spent only where one more clause would have to be learned. `AllocError` where memory runs
+/// out.
 pub fn solve(alloc: Global, f: &Formula, budget: u32) -> Result<Verdict, AllocError>
     ensures { IfOk result (λ v. IsAnswer f.now budget v) }
 {
@@ -71,7 +71,7 @@ fn search(alloc: Global, f: &Formula, budget: u32) -> Result<Verdict, AllocError
     }
 }
 
-/// Whether so many clauses use up a budget. Takes no memory.
+/// Whether so many clauses use up a budget.
 fn is_used_up(budget: u32, count: usize) -> bool
     ensures { IsTrue result ↔ ((budget ≢ no_limit) × (budget ≤ count)) }
 {

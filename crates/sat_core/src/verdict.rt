@@ -6,8 +6,7 @@ use cnf::Ledger;
 pub enum Verdict {
     /// Values that satisfy every clause, one for each variable.
     Model(Vec<bool>),
-    /// No values do. The ledger ends in the empty clause; it has no clause where the formula itself
-    /// has an empty one.
+    /// No values do. The ledger ends in the empty clause; it has no clause where the formula itself has an empty one.
     NoModel(Ledger),
     /// The budget of learned clauses is used up.
     Spent(Ledger),

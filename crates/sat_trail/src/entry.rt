@@ -6,7 +6,7 @@ use cnf::Lit;
 pub struct Entry {
     /// The literal.
     pub lit: Lit,
-    /// Its level: how many decisions stand up to it.
+    /// Its level: the number of decisions up to it.
     pub level: u32,
     /// The number of the clause that implied it, or None where it was decided.
     pub reason: Option<usize>,

@@ -1,5 +1,5 @@
-//! The trail of a solver: the literals that are true, in the order in which they became so, each
-//! with its level and the clause that implied it.
+//! The trail of a solver: the literals that are true, in the order in which they became so. Each has its level and the
+//! clause that implied it.
 #![tactic(auto)]
 
 mod entry;

@@ -6,8 +6,8 @@ ghost use Rattle.sat_trail.specs.Open.{IsOpen};
 use crate::entry::Entry;
 use crate::heap::Heap;
 
-/// The first variable without a place for either of its literals, or None where there is none. It takes
-/// those before it out of the heap. Takes no memory.
+/// The first variable without a place for either of its literals, or None where there is none. It takes those before it
+/// out of the heap.
 pub(crate) fn first_open(heap: &mut Heap, places: &[Option<u32>]) -> Option<u32>
     requires table { length places.now ≡ length heap.old.is_in + length heap.old.is_in }
     requires in_heap { (v : ℕ) → v < length heap.old.is_in → IsOpen places.now v
@@ -28,7 +28,7 @@ pub(crate) fn first_open(heap: &mut Heap, places: &[Option<u32>]) -> Option<u32>
     None
 }
 
-/// Puts the variables of the entries from a place on back into the heap. Takes no memory.
+/// Puts the variables of the entries from a place on back into the heap.
 pub(crate) fn put_back_from(heap: &mut Heap, entries: &[Entry], place: usize)
     requires { (k : ℕ) (e : Entry) → slice_get entries.now k ≡ Some e
         → variable e.lit < length heap.old.is_in }

@@ -6,7 +6,7 @@ ghost use Rattle.sat_trail.specs.Trail.{up_to, variables, RiseTo};
 
 use crate::entry::Entry;
 
-/// Adds an entry behind the others, and its place. Takes no memory.
+/// Adds an entry after the others, and its place.
 pub(crate) fn append(entries: &mut Vec<Entry>, places: &mut Vec<Option<u32>>, entry: Entry)
     requires room { length entries.old.items < vec_capacity entries.old }
     requires small { length entries.old.items < 2 ^ 30 }
@@ -20,7 +20,7 @@ pub(crate) fn append(entries: &mut Vec<Entry>, places: &mut Vec<Option<u32>>, en
     entries.push(entry).unwrap();
 }
 
-/// Clears the places of the entries above a level, and says how many entries stay. Takes no memory.
+/// Clears the places of the entries above a level, and answers how many entries stay.
 pub(crate) fn forget_above(entries: &[Entry], places: &mut Vec<Option<u32>>, level: u32) -> usize
     requires rise { (top : ℕ) × RiseTo 0 entries.now top }
     requires distinct { IsDistinct nat_eq (variables entries.now) }

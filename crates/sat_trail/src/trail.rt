@@ -62,8 +62,7 @@ impl Trail {
         })
     }
 
-    /// The present level: how many decisions stand. It also says what holds of every trail. Takes no
-    /// memory.
+    /// The present level: how many decisions are on the trail. It also says what holds of every trail.
     pub fn level(&self) -> u32
         ensures value { result ≡ self.now.level }
         ensures trail { IsTrail self.now }
@@ -71,7 +70,7 @@ impl Trail {
         self.level
     }
 
-    /// The number of entries, at most one for each variable. Takes no memory.
+    /// The number of entries, at most one for each variable.
     pub fn len(&self) -> u32
         ensures value { result ≡ length self.now.entries }
         ensures bound { result ≤ self.now.vars }
@@ -79,14 +78,14 @@ impl Trail {
         self.entries.len() as u32
     }
 
-    /// Whether no literal is true. Takes no memory.
+    /// Whether no literal is true.
     pub fn is_empty(&self) -> bool
         ensures { IsTrue result ↔ (self.now.entries ≡ []) }
     {
         self.entries.is_empty()
     }
 
-    /// The literal of the k-th entry, counted from 0, the oldest first. Takes no memory.
+    /// The literal of the k-th entry, counted from 0, the oldest first.
     pub fn entry(&self, k: u32) -> Lit
         requires { k < length self.now.entries }
         ensures literal { slice_get (lits self.now.entries) k ≡ Some result }
@@ -95,7 +94,7 @@ impl Trail {
         self.entries[k as usize].lit
     }
 
-    /// Whether a literal is true; None where its variable has no value. Takes no memory.
+    /// Whether a literal is true; None where its variable has no value.
     pub fn value(&self, lit: Lit) -> Option<bool>
         requires { IsTrue (is_below self.now.vars lit) }
         ensures { result ≡ value_in (lits self.now.entries) lit }
@@ -109,7 +108,7 @@ impl Trail {
         }
     }
 
-    /// The level of a variable, or None where it has no value. Takes no memory.
+    /// The level of a variable, or None where it has no value.
     pub fn level_of(&self, var: u32) -> Option<u32>
         requires { var < self.now.vars }
         ensures { result ≡ level_in (entry_of self.now.entries var) }
@@ -120,8 +119,7 @@ impl Trail {
         }
     }
 
-    /// The number of the clause that implied a variable's value, or None where it has none or was
-    /// decided. Takes no memory.
+    /// The number of the clause that implied a variable's value, or None where it has none or was decided.
     pub fn reason(&self, var: u32) -> Option<usize>
         requires { var < self.now.vars }
         ensures { result ≡ reason_in (entry_of self.now.entries var) }
@@ -155,7 +153,7 @@ impl Trail {
         self.places[number]
     }
 
-    /// Makes a literal true, and opens a level by it. Takes no memory.
+    /// Makes a literal true, and opens a level by it.
     pub fn decide(&mut self, lit: Lit)
         requires in_range { IsTrue (is_below self.old.vars lit) }
         requires open { value_in (lits self.old.entries) lit ≡ None }
@@ -170,7 +168,7 @@ impl Trail {
         append(&mut self.entries, &mut self.places, entry);
     }
 
-    /// Makes a literal true at the present level, implied by the clause of a number. Takes no memory.
+    /// Makes a literal true at the present level, implied by the clause of a number.
     pub fn imply(&mut self, lit: Lit, clause: usize)
         requires in_range { IsTrue (is_below self.old.vars lit) }
         requires open { value_in (lits self.old.entries) lit ≡ None }
@@ -184,7 +182,7 @@ impl Trail {
         append(&mut self.entries, &mut self.places, entry);
     }
 
-    /// Takes back all entries of the levels above one. Takes no memory.
+    /// Takes back all entries of the levels above one.
     pub fn undo_to(&mut self, level: u32)
         requires { level ≤ self.old.level }
         ensures { self.new ≡ undone_to self.old level }
@@ -196,9 +194,8 @@ impl Trail {
         self.heap.age();
     }
 
-    /// Raises the activity of a variable, by more the more often levels were taken back before. No
-    /// clause says which variable `next_free` names; it takes the one with the highest activity, and
-    /// of two with the same the lower. Takes no memory.
+    /// Raises the activity of a variable, and by more the more often levels were taken back before. No clause says
+    /// which variable `next_free` names. It takes the one with the highest activity; of two with the same, the lower.
     pub fn bump(&mut self, var: u32)
         requires { var < self.old.vars }
         ensures { self.new ≡ self.old }
@@ -206,7 +203,7 @@ impl Trail {
         self.heap.bump(var);
     }
 
-    /// A variable without a value, or None where each has one. Takes no memory.
+    /// A variable without a value, or None where each has one.
     pub fn next_free(&mut self) -> Option<u32>
         ensures found { MatchOption result
             ((v : ℕ) → v < self.old.vars → value_in (lits self.old.entries) (positive v) ≢ None)

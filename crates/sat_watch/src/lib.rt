@@ -1,5 +1,5 @@
-//! Unit propagation by watched literals, over the clauses of an arena and a trail: what a solver and a
-//! checker of its logs both stand on.
+//! Unit propagation by watched literals, over the clauses of an arena and a trail. A solver and a checker of its logs
+//! both use it.
 #![tactic(auto)]
 
 mod nonempty;

@@ -4,7 +4,7 @@ ghost use Rattle.sat_watch.specs.Nonempty.{are_nonempty};
 
 use cnf::Formula;
 
-/// Whether a clause has no literal. Takes no memory.
+/// Whether a formula has a clause without literals.
 pub fn has_empty(f: &Formula) -> bool
     ensures { IsTrue result ↔ (are_nonempty f.now.clauses ≡ false) }
 {

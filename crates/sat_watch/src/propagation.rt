@@ -14,9 +14,8 @@ use cnf::Lit;
 use sat_arena::Arena;
 use sat_trail::Trail;
 
-/// Makes true what unit propagation finds, until no clause is unit or false (`None`), or one is false
-/// (`Some`, with its number). `head` says how many entries of the trail were looked at. Takes no
-/// memory.
+/// Makes true what unit propagation finds. It ends where no clause is unit or false (`None`), or where one is false
+/// (`Some`, with its number). `head` says how many entries of the trail were looked at.
 pub fn propagate(arena: &mut Arena, trail: &mut Trail, head: &mut u32) -> Option<usize>
     requires vars { trail.old.vars ≡ arena.old.vars }
     requires sound { IsSound (numbered arena.old) trail.old }
@@ -39,8 +38,8 @@ pub fn propagate(arena: &mut Arena, trail: &mut Trail, head: &mut u32) -> Option
     }
 }
 
-/// The same where the clauses that watch no literal are true: it only looks at the entries from `head`
-/// on. Takes no memory.
+/// Makes true what unit propagation finds from `head` on, where the clauses that watch no literal are true. It ends
+/// where no clause is unit or false (`None`), or where one is false (`Some`, with its number).
 pub fn propagate_entries(arena: &mut Arena, trail: &mut Trail, head: &mut u32) -> Option<usize>
     requires vars { trail.old.vars ≡ arena.old.vars }
     requires sound { IsSound (numbered arena.old) trail.old }
@@ -68,8 +67,8 @@ pub fn propagate_entries(arena: &mut Arena, trail: &mut Trail, head: &mut u32) -
     None
 }
 
-/// At level 0, makes the clauses true that watch no literal, until one is false (`Some`, with its
-/// number); above, they are. Takes no memory.
+/// At level 0, makes the clauses true that watch no literal, until one is false (`Some`, with its number). Above level
+/// 0 they are true.
 fn imply_short(arena: &Arena, trail: &mut Trail) -> Option<usize>
     requires vars { trail.old.vars ≡ arena.now.vars }
     requires sound { IsSound (numbered arena.now) trail.old }
@@ -99,8 +98,7 @@ fn imply_short(arena: &Arena, trail: &mut Trail) -> Option<usize>
     None
 }
 
-/// Makes a literal true, by the clause under a number, unless it is false; and whether it is true then.
-/// Takes no memory.
+/// Makes a literal true by the clause under a number, unless it is false. Answers whether it is true then.
 fn make_true(trail: &mut Trail, lit: Lit, number: usize) -> bool
     requires { IsTrue (is_below trail.old.vars lit) }
     ensures { MatchBool result (IsMadeTrue trail.old trail.new lit number)
@@ -115,9 +113,9 @@ fn make_true(trail: &mut Trail, lit: Lit, number: usize) -> bool
     }
 }
 
-/// Looks at each clause that watches a literal which the entry at a place has made false: it watches
-/// another literal instead, or its other watch is true or is made true, until one is false (`Some`,
-/// with its number). Takes no memory.
+/// Looks at each clause that watches a literal which the entry at a place has made false. It watches another literal
+/// instead, or its other watch is true or is made true. It ends at the first clause that is false (`Some`, with its
+/// number).
 fn visit(arena: &mut Arena, trail: &mut Trail, head: u32, lit: Lit) -> Option<usize>
     requires vars { trail.old.vars ≡ arena.old.vars }
     requires sound { IsSound (numbered arena.old) trail.old }

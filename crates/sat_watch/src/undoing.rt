@@ -8,8 +8,8 @@ ghost use Rattle.sat_watch.specs.Watches.{IsReady, head_within};
 
 use sat_trail::Trail;
 
-/// Takes back all entries of the levels above one. Propagation goes on where it was, or behind the
-/// entries that are left. No watch has to move. Takes no memory.
+/// Takes back all entries of the levels above one. Propagation goes on where it was, or after the entries that are
+/// left. No watch has to move.
 pub fn undo(trail: &mut Trail, head: &mut u32, level: u32)
     requires { level ≤ trail.old.level }
     ensures trail { trail.new ≡ undone_to trail.old level }
@@ -23,7 +23,7 @@ pub fn undo(trail: &mut Trail, head: &mut u32, level: u32)
     *head = within(*head, trail.len());
 }
 
-/// A place among so many entries, or behind them. Takes no memory.
+/// A place among so many entries, or after them.
 fn within(head: u32, count: u32) -> u32
     ensures { result ≡ head_within head count }
 {

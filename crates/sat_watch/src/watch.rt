@@ -1,4 +1,4 @@
-//! A look at the watches of a clause of which one is false.
+//! A look at a clause one of whose watches is false.
 ghost use Rattle.std.specs.Prelude.{◌≡◌, Contains, IsTrue, IfSome, MatchOption};
 ghost use Rattle.cnf.specs.Lits.{negation, is_among, is_below};
 ghost use Rattle.sat_arena.specs.Arena.{indexes, clause_at, IsArena, IsWatching};
@@ -26,7 +26,7 @@ pub(crate) enum Watch {
 impl Watch {
     ghost use Rattle.sat_watch.specs.Watch.{Shows};
 
-    /// Looks at a clause that watches a false literal. Takes no memory.
+    /// Looks at a clause that watches a false literal.
     pub(crate) fn at(arena: &Arena, clause: usize, lit: Lit, trail: &Trail) -> Watch
         requires arena { IsArena arena.now }
         requires known { Contains (indexes arena.now) clause }
@@ -56,8 +56,7 @@ impl Watch {
     }
 }
 
-/// A literal of a clause that is not false, and none of two; None where all others are false. Takes no
-/// memory.
+/// A literal of a clause that is not false and is neither of two; None where all others are false.
 fn other_watch(arena: &Arena, clause: usize, one: Lit, other: Lit, trail: &Trail) -> Option<Lit>
     requires known { Contains (indexes arena.now) clause }
     requires vars { trail.now.vars ≡ arena.now.vars }
@@ -76,7 +75,7 @@ fn other_watch(arena: &Arena, clause: usize, one: Lit, other: Lit, trail: &Trail
     None
 }
 
-/// Whether a literal is false. Takes no memory.
+/// Whether a literal is false.
 pub fn is_false(trail: &Trail, lit: Lit) -> bool
     requires in_range { IsTrue (is_below trail.now.vars lit) }
     requires trail { IsTrail trail.now }
