@@ -16,7 +16,7 @@ fn put_number<O: Output>(out: &mut O, number: i32) -> Result<(), O::Error>
     out.put(buffer.format(number).as_bytes())
 }
 
-/// What stands before the `n`: the number 1 is left out.
+/// Writes what comes before the `n`: the number 1 is left out.
 fn put_step<O: Output>(out: &mut O, step: i32) -> Result<(), O::Error>
     ensures { OnOk result (O.more out.old (step_text step) out.new) }
 {
@@ -42,7 +42,7 @@ fn put_signed<O: Output>(out: &mut O, offset: i32) -> Result<(), O::Error>
     put_number(out, offset)
 }
 
-/// What stands behind the `n`: nothing for 0.
+/// Writes what comes after the `n`: nothing for 0.
 fn put_offset<O: Output>(out: &mut O, offset: i32) -> Result<(), O::Error>
     ensures { OnOk result (O.more out.old (offset_text offset) out.new) }
 {
@@ -53,7 +53,7 @@ fn put_offset<O: Output>(out: &mut O, offset: i32) -> Result<(), O::Error>
     }
 }
 
-/// Both, with the `n` between them.
+/// Writes a step and an offset, with the `n` between them.
 fn put_both<O: Output>(out: &mut O, step: i32, offset: i32) -> Result<(), O::Error>
     ensures { OnOk result (O.more out.old (step_text step ++ letter_n ∷ offset_text offset) out.new) }
 {
@@ -63,7 +63,7 @@ fn put_both<O: Output>(out: &mut O, step: i32, offset: i32) -> Result<(), O::Err
     Ok(())
 }
 
-/// The offset alone for step 0, else both.
+/// Writes the offset alone for step 0, else step and offset.
 fn put_numbers<O: Output>(out: &mut O, x: AnB) -> Result<(), O::Error>
     ensures { OnOk result (O.more out.old (numbers_text x) out.new) }
 {

@@ -9,10 +9,10 @@ pub(crate) trait Output {
     /// Why a part may not be written.
     type Error;
 
-    /// That a text, written behind all that was, leads from the first to the second.
+    /// That a text, written after all that was, leads from the first to the second.
     ghost more: { Self → List ℕ → Self → Type 0 };
 
-    /// Writes a part behind those that were written.
+    /// Writes a part after those that were written.
     fn put(&mut self, part: &[u8]) -> Result<(), Self::Error>
         ensures { OnOk result (more self.old part.now self.new) };
 

@@ -5,7 +5,7 @@ ghost use Rattle.selector_laws.specs.Positions.{position_of, positions_in};
 
 use css_model::{AnB, Compound, Selector, Simple, Test};
 
-/// The positions that simple selectors test, and behind them those of compounds, which stand from right to left.
+/// The positions that simple selectors test, and after them those of compounds, from right to left.
 #[derive(Clone, Copy)]
 pub(crate) struct Positions<'a> {
     simples: &'a [Simple],
@@ -22,7 +22,7 @@ fn position(simple: &Simple) -> Option<AnB>
     }
 }
 
-/// The first position of simple selectors, which are those behind it then.
+/// The first position of simple selectors. They are then those after it.
 fn next_in(simples: &mut &[Simple]) -> Option<AnB>
     ensures { MatchOption result ((positions_in simples.old.now ≡ []) × (positions_in simples.new.now ≡ [])) (λ x. positions_in simples.old.now ≡ x ∷ positions_in simples.new.now) }
 {
@@ -49,7 +49,7 @@ impl<'a> Positions<'a> {
         }
     }
 
-    /// The next position, or none behind the last.
+    /// The next position, or none after the last.
     pub(crate) fn next(&mut self) -> Option<AnB>
         ensures { MatchOption result ((remaining self.old ≡ []) × (remaining self.new ≡ [])) (λ x. remaining self.old ≡ x ∷ remaining self.new) }
     {

@@ -24,7 +24,7 @@ use verbatim_text::{behind_last, between};
 /// U+FEFF in UTF-8.
 const BYTE_ORDER_MARK: &[u8] = b"\xEF\xBB\xBF";
 
-/// What is printed behind a token that is kept, before another or as the last.
+/// What is printed after a token that is kept, before another or as the last.
 fn behind(word: Word<'_>, next: Option<TokenKind>) -> &'static [u8]
     ensures { result.now ≡ behind_kept (solid_of word.entry) next }
 {
@@ -49,7 +49,7 @@ fn put_kept<O: Output>(out: &mut O, piece: Piece, source: &[u8]) -> Result<(), O
     Ok(())
 }
 
-/// What stands behind a value.
+/// What is printed after a value.
 fn importance(important: bool) -> &'static [u8]
     ensures { result.now ≡ spec.importance important }
 {
@@ -67,7 +67,7 @@ fn put_declaration<O: Output>(out: &mut O, item: &DeclItem, source: &[u8]) -> Re
     out.put(importance(item.decl.important))
 }
 
-/// Writes the sign that stands before each part but the first.
+/// Writes the sign before each part but the first.
 fn put_separator<O: Output>(out: &mut O, part: usize, sign: &[u8]) -> Result<(), O::Error>
     ensures { OnOk result (O.more out.old (if part == 0 then [] else sign.now) out.new) }
 {
@@ -149,8 +149,8 @@ fn tally(items: &[Item], source: &[u8]) -> Tally
     }
 }
 
-/// The length of the printed text of a sheet that is sound for `source`; of a text that is longer than
-/// `u64::MAX`, that number. Takes no memory.
+/// The length of the printed text of a sheet that is sound for `source`, in bytes. A text longer than `u64::MAX` has
+/// that length.
 pub fn print_len(sheet: &Sheet, source: &[u8]) -> u64
     requires length { length source.now ≤ max_bytes }
     requires sound { IsSound source.now sheet.now.items }
@@ -184,8 +184,8 @@ fn declaration_tally(item: &DeclItem, source: &[u8]) -> Tally
     }
 }
 
-/// The length of the printed text of a selector that is sound for `source`, in bytes; of a text that is longer than
-/// `u64::MAX`, that number. Takes no memory.
+/// The length of the printed text of a selector that is sound for `source`, in bytes. A text longer than `u64::MAX` has
+/// that length.
 pub fn selector_len(item: &SelItem, source: &[u8]) -> u64
     requires length { length source.now ≤ max_bytes }
     requires sound { IsSoundSelector source.now item.now }
@@ -194,8 +194,8 @@ pub fn selector_len(item: &SelItem, source: &[u8]) -> u64
     selector_tally(item, source).len()
 }
 
-/// The length of the printed text of a declaration that is sound for `source`, in bytes; of a text that is longer than
-/// `u64::MAX`, that number. Takes no memory.
+/// The length of the printed text of a declaration that is sound for `source`, in bytes. A text longer than `u64::MAX`
+/// has that length.
 pub fn decl_len(item: &DeclItem, source: &[u8]) -> u64
     requires { IsSoundDeclaration source.now item.now }
     ensures { result ≡ min (length (printed_declaration source.now item.now)) (2 ^ 64 - 1) }
@@ -203,8 +203,9 @@ pub fn decl_len(item: &DeclItem, source: &[u8]) -> u64
     declaration_tally(item, source).len()
 }
 
-/// The printed text of a selector that is sound for `source`: its tokens there, with white space only where it is a
-/// combinator (Selectors 3, section 8), and each argument of `:nth-child()` and its kin in its shortest notation.
+/// The printed text of a selector that is sound for `source`, as bytes. It has the tokens there, with white space only
+/// where it is a combinator (Selectors 3, section 8), and each argument of `:nth-child()` and its kin in its shortest
+/// notation. `AllocError` where memory runs out.
 pub fn print_selector(alloc: Global, item: &SelItem, source: &[u8]) -> Result<Vec<u8>, AllocError>
     requires length { length source.now ≤ max_bytes }
     requires sound { IsSoundSelector source.now item.now }
@@ -215,7 +216,8 @@ pub fn print_selector(alloc: Global, item: &SelItem, source: &[u8]) -> Result<Ve
     Ok(out)
 }
 
-/// The printed text of a declaration: the property, `:`, the value, and `!important` where it is.
+/// The printed text of a declaration that is sound for `source`, as bytes: the property, `:`, the value, and
+/// `!important` where it is. `AllocError` where memory runs out.
 pub fn print_decl(alloc: Global, item: &DeclItem, source: &[u8]) -> Result<Vec<u8>, AllocError>
     requires { IsSoundDeclaration source.now item.now }
     ensures { IfOk result (λ text. text.items ≡ printed_declaration source.now item.now) }
@@ -225,8 +227,7 @@ pub fn print_decl(alloc: Global, item: &DeclItem, source: &[u8]) -> Result<Vec<u
     Ok(out)
 }
 
-/// Puts a space before a byte order mark at the front of a text: it would be skipped there
-/// (CSS Syntax 3, section 3.2).
+/// Puts a space before a byte order mark at the front of a text, where it would be skipped (CSS Syntax 3, section 3.2).
 fn put_before_mark(text: &mut Vec<u8>) -> Result<(), AllocError>
     ensures { OnOk result (text.new.items ≡ behind_mark text.old.items) }
 {
@@ -236,8 +237,8 @@ fn put_before_mark(text: &mut Vec<u8>) -> Result<(), AllocError>
     Ok(())
 }
 
-/// The printed text of a sheet that is sound for `source`. Its buffer has the length of the source at first, which
-/// is enough for a sheet as it was read.
+/// The printed text of a sheet that is sound for `source`, as bytes. Its buffer has the length of the source at first:
+/// enough for a sheet as it was read. `AllocError` where memory runs out.
 pub fn print_sheet(alloc: Global, sheet: &Sheet, source: &[u8]) -> Result<Vec<u8>, AllocError>
     requires length { length source.now ≤ max_bytes }
     requires sound { IsSound source.now sheet.now.items }

@@ -21,7 +21,7 @@ use css_tokens::tokens_restart;
 use selector_laws::written_positions_are_tested;
 use verbatim_text::gap_text;
 
-/// Reads the tokens up to the first `)`, and answers what stands behind it.
+/// Reads the tokens up to the first `)`, and answers what comes after it.
 fn read_closing(walk: &mut Walk<'_>) -> Gap
     requires { IsReady walk.old }
     ensures gap { result ≡ gap_of_first (drop (position_or_len closes (left walk.old)) (left walk.old)) }
@@ -36,16 +36,16 @@ fn read_closing(walk: &mut Walk<'_>) -> Gap
     Gap::Nothing
 }
 
-/// Where a term stands.
+/// What is known of the place of a term.
 #[derive(Clone, Copy, Debug)]
 pub(crate) struct Place {
     /// How many brackets are open before it.
     pub(crate) depth: u32,
-    /// Whether a colon stands before it.
+    /// Whether a colon is before it.
     pub(crate) behind_colon: bool,
 }
 
-/// Writes a token, and what counts of the gap behind it.
+/// Writes a token, and what counts of the gap after it.
 fn put_word<O: Output>(
     out: &mut O,
     word: Word<'_>,
@@ -70,7 +70,7 @@ fn put_argument<O: Output>(out: &mut O, argument: Option<AnB>) -> Result<(), O::
     }
 }
 
-/// Writes a function of a position with its argument, and what counts of the gap behind it.
+/// Writes a function of a position with its argument, and what counts of the gap after it.
 fn put_called<O: Output>(
     out: &mut O,
     word: Word<'_>,
@@ -84,7 +84,7 @@ fn put_called<O: Output>(
     out.put(gap_text(b")", gap))
 }
 
-/// Passes the position that `first-child` or `last-child` stands for behind a colon.
+/// Passes the position of `first-child` or `last-child`, where it follows a colon.
 fn pass_end(behind_colon: bool, word: Word<'_>, positions: &mut Positions<'_>)
     ensures { remaining positions.new ≡ (if behind_colon && is_end word.entry.kind word.entry.text.now then drop 1 (remaining positions.old) else remaining positions.old) }
 {
@@ -93,7 +93,7 @@ fn pass_end(behind_colon: bool, word: Word<'_>, positions: &mut Positions<'_>)
     }
 }
 
-/// Writes a function of a position with its argument, whose tokens are passed.
+/// Writes a function of a position with its argument. The tokens of the argument are passed.
 fn put_position<O: Output>(
     out: &mut O,
     word: Word<'_>,
@@ -115,7 +115,7 @@ fn put_position<O: Output>(
     Ok(())
 }
 
-/// Writes any other token.
+/// Writes a token that is no function of a position.
 fn put_plain<O: Output>(
     out: &mut O,
     word: Word<'_>,

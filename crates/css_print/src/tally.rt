@@ -1,4 +1,4 @@
-//! The length of a text, and whether a byte order mark stands at its front.
+//! The length of a text, and whether it begins with a byte order mark.
 
 ghost use Rattle.std.specs.Prelude.{[], ◌≡◌, ◌^◌, ◌-◌, ℕ, List, length, min, nat_eq};
 ghost use Rattle.std.specs.List.{starts_with};
@@ -14,9 +14,9 @@ use std::convert::Infallible;
 pub(crate) enum Front {
     /// Nothing: the text is empty.
     Nothing,
-    /// Its first byte, with nothing behind it.
+    /// Its first byte, with nothing after it.
     One,
-    /// Its first two bytes, with nothing behind them.
+    /// Its first two bytes, with nothing after them.
     Two,
     /// All of it.
     Mark,
@@ -24,7 +24,7 @@ pub(crate) enum Front {
     Other,
 }
 
-/// A front with one more byte behind it.
+/// A front with one more byte after it.
 fn longer(front: Front, byte: u8) -> Front
     ensures { result ≡ spec.longer front byte }
 {
@@ -49,7 +49,7 @@ fn is_settled(front: Front) -> bool
     matches!(front, Front::Mark | Front::Other)
 }
 
-/// A front with a text behind it. No more than its first bytes are read.
+/// A front with a text after it. No more than the first bytes of the text are read.
 fn behind(front: Front, text: &[u8]) -> Front
     ensures { result ≡ spec.behind front text.now }
 {
@@ -68,7 +68,7 @@ fn behind(front: Front, text: &[u8]) -> Front
 /// What is known of a text that was written to nowhere.
 #[derive(Clone, Copy, Debug)]
 pub(crate) struct Tally {
-    /// How much longer it may be, to be no longer than `u64::MAX`.
+    /// How many bytes it may grow by, before it is longer than `u64::MAX`.
     pub(crate) room: u64,
     /// What it begins with.
     pub(crate) front: Front,
@@ -92,15 +92,15 @@ impl Tally {
         is_mark(self.front)
     }
 
-    /// The length of the text; of one that is longer than `u64::MAX`, that number.
+    /// The length of the text, in bytes. One longer than `u64::MAX` has that length.
     pub(crate) fn len(self) -> u64
         ensures { (text : List ℕ) → self ≡ spec.tally_of text → result ≡ min (length text) (2 ^ 64 - 1) }
     {
         u64::MAX - self.room
     }
 
-    /// The length of the text with a space before its byte order mark, if it begins with one; of one that is
-    /// longer than `u64::MAX`, that number.
+    /// The length of the text, in bytes, with a space before its byte order mark, if it begins with one. One longer
+    /// than `u64::MAX` has that length.
     pub(crate) fn len_behind_mark(self) -> u64
         ensures { (text : List ℕ) → self ≡ spec.tally_of text → result ≡ min (length (behind_mark text)) (2 ^ 64 - 1) }
     {

@@ -66,7 +66,7 @@ pub(crate) fn is_end(kind: TokenKind, text: &[u8]) -> bool
     }
 }
 
-/// How many brackets are open behind a token.
+/// How many brackets are open after a token.
 pub(crate) fn depth_after(depth: u32, kind: TokenKind) -> u32
     requires { depth + 1 < 2 ^ 32 }
     ensures depth { result ≡ depth_after kind depth }

@@ -9,14 +9,14 @@ use css_model::{Gap, Piece, Token, TokenKind};
 use css_tokens::{Tokens, tokens_restart};
 use verbatim_text::{gap_before, is_white};
 
-/// A token: what it is, its text, and what stands behind it.
+/// A token: what it is, its text, and what comes after it.
 #[derive(Clone, Copy, Debug)]
 pub(crate) struct Word<'a> {
     /// What it is.
     pub(crate) kind: TokenKind,
     /// Its text.
     pub(crate) text: &'a [u8],
-    /// What stands behind it.
+    /// What is between it and the next one.
     pub(crate) gap: Gap,
 }
 
@@ -93,7 +93,7 @@ impl<'a> Walk<'a> {
         }
     }
 
-    /// The next token, or none behind the last.
+    /// The next token, or none after the last.
     pub(crate) fn next(&mut self) -> Option<Word<'a>>
         requires { IsReady self.old }
         ensures word { Gives (left self.old) result (left self.new) }

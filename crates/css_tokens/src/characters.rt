@@ -82,7 +82,7 @@ pub(crate) fn begins_newline(text: &[u8]) -> bool
     }
 }
 
-/// The text behind its first `n` bytes.
+/// The text after its first `n` bytes.
 pub(crate) fn after(text: &[u8], n: usize) -> &[u8]
     ensures { result.now ≡ drop n text.now }
 {

@@ -7,7 +7,7 @@ ghost use Rattle.css_model.specs.Text.Units.{comment_unit};
 
 use memchr::memmem;
 
-/// How many bytes stand before the first `*/` of the text, if there is one.
+/// How many bytes come before the first `*/` of the text, if there is one.
 pub(crate) fn comment_len(text: &[u8]) -> Option<usize>
     ensures { MatchOption result (begins star (drop (run comment_unit text.now) text.now) ≡ false)
         (λ n. (n ≡ run comment_unit text.now) × (begins star (drop n text.now) ≡ true) × (n + 2 ≤ length text.now)) }

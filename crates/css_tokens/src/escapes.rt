@@ -1,4 +1,4 @@
-//! Whether a text ends in an open escape: one of hex digits, to which a white space behind it would belong
+//! Whether a text ends in an open escape: one of hex digits, to which a white space after it would belong
 //! (CSS Syntax 3, section 4.3.7).
 
 ghost use Rattle.std.specs.Prelude.{◌≡◌};
@@ -19,7 +19,7 @@ fn is_open_hex(text: &[u8]) -> bool
     i == text.len()
 }
 
-/// What stands behind a backslash is all of an escape to which a white space would belong.
+/// What follows a backslash is all of an escape to which a white space would belong.
 fn is_open_escape(text: &[u8]) -> bool
     ensures { result ≡ kept.is_open_escape text.now }
 {
@@ -29,8 +29,8 @@ fn is_open_escape(text: &[u8]) -> bool
     }
 }
 
-/// Whether a text of bytes and escapes ends in an open escape: a white space behind a token of such bytes would
-/// belong to it.
+/// Whether a text of bytes and escapes ends in an open escape. A white space after a token of such bytes would belong
+/// to it (CSS Syntax 3, section 4.3.7).
 pub fn ends_open(text: &[u8]) -> bool
     ensures { result ≡ kept.is_open text.now }
 {

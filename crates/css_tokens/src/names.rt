@@ -15,7 +15,7 @@ use std::alloc::{AllocError, Global};
 /// What a byte or an escape says.
 #[derive(Clone, Copy)]
 pub(crate) enum Said {
-    /// Nothing, as a newline inside a string behind a backslash.
+    /// Nothing, as a newline after a backslash inside a string.
     Nothing,
     /// A byte, which may be a part of a code point.
     Byte(u8),
@@ -45,7 +45,7 @@ fn hex_value(text: &[u8]) -> u32
     value
 }
 
-/// The code point that an escape of this number stands for.
+/// The code point of an escape of this number.
 fn escaped_code(value: u32) -> char
     ensures { result ≡ escapes.escaped_code value }
 {
@@ -55,7 +55,7 @@ fn escaped_code(value: u32) -> char
     }
 }
 
-/// What a byte says that stands for itself: 0 is read as U+FFFD.
+/// What a byte says by itself: 0 is read as U+FFFD.
 fn byte_said(c: u8) -> Said
     ensures text { said_text result ≡ escapes.byte_text c }
     ensures wide { IsWide result }
@@ -80,7 +80,7 @@ fn escape_said(value: u32) -> Said
     }
 }
 
-/// What a backslash says that stands before the text.
+/// What a backslash before the text says.
 fn after_backslash(text: &[u8]) -> Said
     ensures text { said_text result ≡ escapes.after_backslash_text text.now }
     ensures wide { IsWide result }
@@ -99,7 +99,7 @@ fn after_backslash(text: &[u8]) -> Said
     }
 }
 
-/// How many bytes a backslash takes that stands before the text.
+/// How many bytes a backslash before the text takes, with what belongs to it.
 fn after_backslash_len(text: &[u8]) -> usize
     ensures value { result ≡ escapes.after_backslash_len text.now }
     ensures small { result ≤ 9 }
@@ -156,7 +156,7 @@ fn spelled<'a>(said: Said, word: &'a [u8]) -> Option<&'a [u8]>
     }
 }
 
-/// Whether a name is this word of ASCII without ASCII case, once its escapes are read. Takes no memory.
+/// Whether a name is this word of ASCII without ASCII case, once its escapes are read.
 pub fn is_named(name: &[u8], word: &[u8]) -> bool
     requires { IsAscii word.now }
     ensures { result ≡ escapes.is_named word.now name.now }
@@ -195,7 +195,7 @@ fn push_said(out: &mut Vec<u8>, said: Said) -> Result<(), AllocError>
     Ok(())
 }
 
-/// The bytes of a name or of the inside of a string, where each escape is the code point that it stands for.
+/// The bytes of a name or of the inside of a string, with its code point in place of each escape.
 fn unescaped(alloc: Global, text: &[u8]) -> Result<Vec<u8>, AllocError>
     ensures { IfOk result (λ v. v.items ≡ escapes.unescaped text.now) }
 {
@@ -215,9 +215,9 @@ fn codes_of(alloc: Global, text: &str) -> Result<Vec<char>, AllocError>
     text.chars().collect(alloc)
 }
 
-/// The code points of a name, or of what stands between the quotes of a string, once its escapes are read
-/// (CSS Syntax 3, section 4.3.7): the piece of the source is a name or the inside of a string. Bytes that
-/// are not UTF-8 read as U+FFFD.
+/// The code points of a name or of the inside of a string, once its escapes are read (CSS Syntax 3, section 4.3.7). The
+/// piece of the source is a name, or lies between the quotes of a string. Bytes that are not UTF-8 read as U+FFFD.
+/// `AllocError` where memory runs out.
 pub fn decode(alloc: Global, source: &[u8], name: &Piece) -> Result<Text, AllocError>
     requires { IsWithin source.now name.now }
     ensures { IfOk result (λ t. t ≡ escapes.decoded (text_at source.now name.now)) }

@@ -35,7 +35,7 @@ fn decimal(text: &[u8]) -> usize
     whole + fraction(after(text, whole))
 }
 
-/// The same with an optional sign.
+/// Digits and a fraction, or either of them, with an optional sign.
 pub(crate) fn signed_decimal(text: &[u8]) -> usize
     requires { length text.now < 2 ^ 32 }
     ensures value { result ≡ units.signed_decimal text.now }

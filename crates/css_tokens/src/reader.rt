@@ -45,8 +45,8 @@ impl<'a> Tokens<'a> {
     ghost use Rattle.css_model.specs.Text.Tokens.{Gives, tokens};
     ghost use Rattle.css_tokens.specs.Left.{left};
 
-    /// The tokens of a source: that of a whole sheet may begin with a byte order mark, which is skipped;
-    /// anywhere else it is an ident code point. Takes no memory.
+    /// The tokens of a source of at most 1,048,576 bytes. A byte order mark at the start of a whole sheet is skipped;
+    /// anywhere else it is an ident code point. `NotUtf8` exactly where the source is not UTF-8.
     pub fn new(source: &'a [u8], sheet: bool) -> Result<Tokens<'a>, NotUtf8>
         requires { length source.now ≤ max_bytes }
         ensures utf8 { IsOk result ↔ IsUtf8 source.now }
@@ -68,8 +68,7 @@ impl<'a> Tokens<'a> {
         }
     }
 
-    /// The tokens of a source from a place on: a byte order mark is an ident code point there. Takes no
-    /// memory.
+    /// The tokens of a source from a place on, in bytes from 0. A byte order mark there is an ident code point.
     pub fn from_place(source: &'a [u8], at: usize) -> Tokens<'a>
         requires length { length source.now ≤ max_bytes }
         requires at { at ≤ length source.now }
@@ -78,11 +77,16 @@ impl<'a> Tokens<'a> {
         Tokens { source, at }
     }
 
-    /// The next token (CSS Syntax 3, section 4); `None` exactly at the end. A fault comes exactly where no token
-    /// can be read, with its place in bytes from 0: `BadString` where a newline stands inside a string without a
-    /// backslash before it, at the quote; `BadUrl` where a url has a code point that it may not hold, at its name;
-    /// `EndInside` where the text ends inside a comment, a string, a url or an escape, at the comment or the token.
-    /// After a fault the same fault is answered again. Takes no memory.
+    /// The next token (CSS Syntax 3, section 4); `None` exactly at the end. A fault comes exactly where no token can be
+    /// read, with its place in bytes from 0:
+    ///
+    /// | fault | when | place |
+    /// |---|---|---|
+    /// | `BadString` | a newline is inside a string, without a backslash before it | the quote |
+    /// | `BadUrl` | a url has a code point that it may not hold | its name |
+    /// | `EndInside` | the text ends inside a comment, a string, a url or an escape | the comment or the token |
+    ///
+    /// After a fault the same fault is answered again.
     pub fn next(&mut self) -> Result<Option<Token>, TokenFault>
         ensures { Gives (left self.old) result (left self.new) }
     {

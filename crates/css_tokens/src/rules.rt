@@ -1,5 +1,5 @@
-//! The token rules (CSS Syntax 3, section 4.3.1), in the order in which they are tried. Each gives a kind,
-//! which is none for a comment, and a length in bytes, or what is wrong.
+//! The token rules (CSS Syntax 3, section 4.3.1), in the order in which they are tried. Each gives a kind and a length
+//! in bytes, or what is wrong. A comment has no kind.
 
 ghost use Rattle.std.specs.Prelude.{◌≡◌, ◌≤◌, ◌+◌, ◌^◌, ◌<◌, IfOk, length};
 ghost use Rattle.css_model.specs.Text.Characters as classes;
@@ -24,7 +24,7 @@ fn done(kind: TokenKind, len: usize) -> Result<Shape, TokenFlaw>
     Ok((Some(kind), len))
 }
 
-/// What stands after `/*`.
+/// What follows `/*`.
 fn comment_shape(text: &[u8]) -> Result<Shape, TokenFlaw>
     ensures { result ≡ rules.comment_shape text.now }
 {
@@ -34,7 +34,7 @@ fn comment_shape(text: &[u8]) -> Result<Shape, TokenFlaw>
     }
 }
 
-/// What stands after `/`.
+/// What follows `/`.
 fn slash_shape(text: &[u8]) -> Result<Shape, TokenFlaw>
     ensures { result ≡ rules.slash_shape text.now }
 {
@@ -44,7 +44,7 @@ fn slash_shape(text: &[u8]) -> Result<Shape, TokenFlaw>
     }
 }
 
-/// What stands after a quote.
+/// What follows a quote.
 fn string_shape(quote: u8, text: &[u8]) -> Result<Shape, TokenFlaw>
     ensures { result ≡ rules.string_shape quote text.now }
 {
@@ -59,7 +59,7 @@ fn string_shape(quote: u8, text: &[u8]) -> Result<Shape, TokenFlaw>
     }
 }
 
-/// What stands after `#`.
+/// What follows `#`.
 fn hash_shape(text: &[u8]) -> Result<Shape, TokenFlaw>
     ensures { result ≡ rules.hash_shape text.now }
 {
@@ -88,7 +88,7 @@ fn number_shape(len: usize, rest: &[u8]) -> Result<Shape, TokenFlaw>
     }
 }
 
-/// What stands after `<`.
+/// What follows `<`.
 fn less_shape(text: &[u8]) -> Result<Shape, TokenFlaw>
     ensures { result ≡ rules.less_shape text.now }
 {
@@ -99,7 +99,7 @@ fn less_shape(text: &[u8]) -> Result<Shape, TokenFlaw>
     }
 }
 
-/// What stands after `@`.
+/// What follows `@`.
 fn at_shape(text: &[u8]) -> Result<Shape, TokenFlaw>
     ensures { result ≡ rules.at_shape text.now }
 {
@@ -151,7 +151,7 @@ fn is_quote(c: u8) -> bool
     c == b'"' || c == b'\''
 }
 
-/// What stands after a name and `(`, which take `len` bytes.
+/// What follows a name and `(` of `len` bytes together.
 fn opened_shape(name: &[u8], len: usize, rest: &[u8]) -> Result<Shape, TokenFlaw>
     requires small { len ≤ 2 ^ 34 }
     requires short { length rest.now < 2 ^ 34 }

@@ -15,7 +15,7 @@ pub(crate) enum Unit {
     Name,
     /// A digit.
     Digit,
-    /// What stands inside a url.
+    /// What may be inside a url.
     Url,
 }
 
@@ -32,8 +32,7 @@ fn unit_len(unit: Unit, text: &[u8]) -> usize
     }
 }
 
-/// How many bytes the longest row of such units takes. Where the text ends inside one, the bytes that lack
-/// count too.
+/// How many bytes the longest row of such units takes. Where the text ends inside one, the bytes that lack count too.
 pub(crate) fn run(unit: Unit, text: &[u8]) -> usize
     ensures value { result ≡ runs.run (unit_of unit) text.now }
     ensures small { result ≤ length text.now + 9 }

@@ -1,4 +1,4 @@
-//! The units that tokens are made of, by how many bytes each takes, 0 where none begins.
+//! The units of tokens, by how many bytes each takes: 0 where none begins.
 
 ghost use Rattle.std.specs.Prelude.{◌≡◌, ◌≤◌, ◌+◌, ◌^◌, length};
 ghost use Rattle.css_model.specs.Text.Units as units;
@@ -41,7 +41,7 @@ fn hex_rest(most: usize, text: &[u8]) -> usize
     i + white_unit(&text[i..])
 }
 
-/// An escape whose backslash stands before the text (sections 4.3.7 and 4.3.8).
+/// An escape, without its backslash, which comes before the text (sections 4.3.7 and 4.3.8).
 pub(crate) fn escape_after(text: &[u8]) -> usize
     ensures value { result ≡ units.escape_after text.now }
     ensures small { result ≤ 9 }
@@ -117,7 +117,7 @@ pub(crate) fn name_start(text: &[u8]) -> usize
     }
 }
 
-/// One byte and the `n` behind it, where there are any.
+/// One byte and the `n` after it, where there are any.
 pub(crate) fn one_and(n: usize) -> usize
     requires { n ≤ 2 ^ 40 }
     ensures { result ≡ units.one_and n }
@@ -125,7 +125,7 @@ pub(crate) fn one_and(n: usize) -> usize
     if n == 0 { 0 } else { 1 + n }
 }
 
-/// A backslash inside a string, which stands before the text.
+/// A backslash inside a string, which comes before the text, with what it escapes.
 fn string_escape(text: &[u8]) -> usize
     ensures value { result ≡ units.string_escape text.now }
     ensures small { result ≤ 9 }
@@ -142,7 +142,7 @@ fn string_escape(text: &[u8]) -> usize
     }
 }
 
-/// What stands inside a string of this quote (section 4.3.5).
+/// A unit inside a string of this quote (section 4.3.5).
 pub(crate) fn string_unit(quote: u8, text: &[u8]) -> usize
     ensures value { result ≡ units.string_unit quote text.now }
     ensures small { result ≤ 9 }
@@ -161,7 +161,7 @@ pub(crate) fn string_unit(quote: u8, text: &[u8]) -> usize
     }
 }
 
-/// What stands inside a url (section 4.3.6), without white space.
+/// A unit inside a url (section 4.3.6), without white space.
 pub(crate) fn url_unit(text: &[u8]) -> usize
     ensures value { result ≡ units.url_unit text.now }
     ensures small { result ≤ 9 }

@@ -35,7 +35,7 @@ fn is_comment_sign(x: &Lexeme) -> bool
     }
 }
 
-/// Whether `<!--` or `-->` stands among these inside no bracket.
+/// Whether `<!--` or `-->` is among these, inside no bracket.
 pub(crate) fn has_comment_sign(xs: &[Lexeme]) -> bool
     ensures { result ≡ list_any spec.is_comment_sign xs.now }
 {
@@ -77,7 +77,7 @@ pub(crate) fn is_media(source: &[u8], item: &[Lexeme]) -> bool
     is_at_rule_named(b"media", source, item) && has_block(item)
 }
 
-/// From the first to the last of these.
+/// The piece from the first to the last of these.
 fn piece_of(xs: &[Lexeme]) -> Piece
     ensures { result ≡ lexemes.piece_of xs.now }
 {
@@ -90,7 +90,7 @@ fn piece_of(xs: &[Lexeme]) -> Piece
     }
 }
 
-/// How many tokens stand before the block of an item.
+/// How many tokens come before the block of an item.
 fn head_len(item: &[Lexeme]) -> usize
     ensures value { result ≡ position_or_len items.opens_block item.now }
     ensures short { result ≤ length item.now }
@@ -107,14 +107,14 @@ fn head_len(item: &[Lexeme]) -> usize
     n
 }
 
-/// What stands before the block of an item.
+/// What comes before the block of an item.
 pub(crate) fn head_of(item: &[Lexeme]) -> Piece
     ensures { result ≡ spec.head_of item.now }
 {
     piece_of(&item[..head_len(item)])
 }
 
-/// Where the `}` of a block stands, the inside of which begins at this place.
+/// Where the `}` of a block is. Its inside begins at this place.
 fn body_end(at: u32, inside: &[Lexeme]) -> u32
     ensures { result ≡ spec.body_end at inside.now }
 {
@@ -130,7 +130,7 @@ fn body_end(at: u32, inside: &[Lexeme]) -> u32
     end
 }
 
-/// What stands inside the block of an item.
+/// What is inside the block of an item.
 pub(crate) fn body_of(item: &[Lexeme]) -> Piece
     ensures { result ≡ spec.body_of item.now }
 {

@@ -1,4 +1,5 @@
-//! The tokens of a sheet that are no white space, with how deep they stand (CSS Syntax 3, sections 4 and 5.4.8).
+//! The tokens of a sheet that are no white space, with how many brackets are open before each (CSS Syntax 3, sections 4
+//! and 5.4.8).
 
 ghost use Rattle.std.specs.Prelude.{◌≡◌, ◌≤◌, ◌∷◌, [], List, reverse, length, nat_eq, true, None, IfOk, MatchOption, OnOk};
 ghost use Rattle.std.specs.List.{starts_with};
@@ -27,7 +28,7 @@ pub(crate) fn begins_with_mark(text: &[u8]) -> bool
     text.starts_with(BYTE_ORDER_MARK)
 }
 
-/// The tokens of a sheet, of which a byte order mark at the start is none.
+/// The tokens of a sheet. A byte order mark at the start is none.
 fn tokens_of(source: &[u8]) -> Tokens<'_>
     requires { length source.now ≤ max_bytes }
     ensures { left result ≡ stream.tokens source.now true }
@@ -85,7 +86,7 @@ pub(crate) fn is_sign_of(sign: u8, kind: TokenKind) -> bool
     }
 }
 
-/// Whether this token closes the innermost of the brackets, which stands last.
+/// Whether this token closes the last of the brackets, the innermost one.
 fn closes(kind: TokenKind, brackets: &[Bracket]) -> bool
     ensures { result ≡ spec.closes kind (reverse brackets.now) }
 {
@@ -95,7 +96,7 @@ fn closes(kind: TokenKind, brackets: &[Bracket]) -> bool
     }
 }
 
-/// A token by itself, inside these brackets: the last is the innermost.
+/// Passes a token by itself, inside these brackets: the last is the innermost.
 fn pass(brackets: &mut Vec<Bracket>, token: Token) -> Result<(), AllocError>
     ensures { OnOk result (reverse brackets.new.items ≡ spec.after token (reverse brackets.old.items)) }
 {

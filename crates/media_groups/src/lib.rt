@@ -1,5 +1,5 @@
-//! Blocks of media whose bodies are sheets of their own: which ones are opened, and how a sheet is printed in
-//! which they are.
+//! Blocks of media whose bodies are sheets of their own: which ones are opened, and how a sheet with opened blocks is
+//! printed.
 #![tactic(auto)]
 
 mod blocks;

@@ -5,12 +5,12 @@ use css_model::{Piece, Sheet};
 /// A block of media that is opened: its body is a sheet of its own.
 #[derive(Debug, Drop)]
 pub struct Media {
-    /// Which item it is of the sheet around it, counted from 0.
+    /// The number of its item in the sheet around it, from 0.
     pub item: u32,
-    /// What stands before its block, from the at-keyword to the last token that is no white space.
+    /// What comes before its block, from the at-keyword to the last token that is no white space.
     pub head: Piece,
-    /// What stands between the brackets of its block.
+    /// What is between the brackets of its block.
     pub body: Piece,
-    /// The sheet of the body, whose pieces are places in the body's bytes.
+    /// The sheet of the body. Its pieces are places in the body's bytes.
     pub sheet: Sheet,
 }

@@ -123,7 +123,7 @@ fn opened_item(
     }
 }
 
-/// How many `@import` rules stand among items.
+/// How many `@import` rules are among items.
 fn imports_of(reading: &Reading<'_>, items: &[Item]) -> usize
     ensures { result ≡ count_by (spec.is_import_item reading.now.source.now) items.now }
 {
@@ -138,7 +138,7 @@ fn imports_of(reading: &Reading<'_>, items: &[Item]) -> usize
     imports
 }
 
-/// How many of so many `@import` rules stand behind an item.
+/// How many of so many `@import` rules come after an item.
 fn imports_behind(reading: &Reading<'_>, item: &Item, imports: usize) -> usize
     requires { spec.is_import_item reading.now.source.now item.now ≡ true → 0 < imports }
     ensures { result ≡ (if spec.is_import_item reading.now.source.now item.now then imports - 1 else imports) }
@@ -150,7 +150,7 @@ fn imports_behind(reading: &Reading<'_>, item: &Item, imports: usize) -> usize
     }
 }
 
-/// Puts the item of this number behind the opened blocks, if it is opened: with an `@import` behind it, it is not.
+/// Puts the item of this number after the opened blocks, if it is opened. It is not where an `@import` comes after it.
 fn push_opened(
     alloc: Global,
     reading: &Reading<'_>,
@@ -188,7 +188,7 @@ fn opened_of(alloc: Global, reading: &Reading<'_>, items: &[Item]) -> Result<Vec
     Ok(media)
 }
 
-/// The source of a sheet, with its tokens.
+/// The source of a sheet, with its tokens. `AllocError` where memory runs out.
 pub fn reading_of<'a>(
     alloc: Global,
     sheet: &Sheet,
@@ -200,8 +200,8 @@ pub fn reading_of<'a>(
     Reading::new(alloc, source)
 }
 
-/// The blocks of media of a sheet, read from this source, that are opened, in their order: `@media` rules (CSS
-/// Conditional Rules 3, section 2) behind the last `@import` whose bodies are sheets of their own. Which ones are
+/// The opened blocks of media of a sheet that was read from this source, in their order. They are `@media` rules
+/// (CSS Conditional Rules 3, section 2) after the last `@import` whose bodies are sheets of their own. Which ones are
 /// opened is own. The pieces of such a sheet are places in the bytes of its body. `AllocError` where memory is short.
 pub fn open_media(alloc: Global, sheet: &Sheet, source: &[u8]) -> Result<Vec<Media>, AllocError>
     requires { sheet_of source.now ≡ Ok sheet.now.items }

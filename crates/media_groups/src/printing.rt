@@ -19,7 +19,7 @@ use css_print::{print_decl, print_selector, print_sheet};
 use std::alloc::{AllocError, Global};
 use verbatim_text::{behind_last, between};
 
-/// What is printed behind a token that is kept, before these.
+/// What is printed after a token that is kept, before these.
 fn behind(kind: TokenKind, text: &[u8], gap: Gap, others: &[Lexeme]) -> &'static [u8]
     ensures { result.now ≡ spec.behind_kept (record { kind = kind; bytes = text.now; gap = gap }) others.now }
 {
@@ -44,14 +44,14 @@ fn put_tokens(out: &mut Vec<u8>, source: &[u8], tokens: &[Lexeme]) -> Result<(),
     Ok(())
 }
 
-/// Writes the kept text of a piece.
+/// Writes the kept text of a piece. `AllocError` where memory runs out.
 pub fn put_piece(out: &mut Vec<u8>, reading: &Reading<'_>, piece: Piece) -> Result<(), AllocError>
     ensures { OnOk result (out.new.items ≡ out.old.items ++ kept_text reading.now.source.now piece) }
 {
     put_tokens(out, reading.source, reading.tokens_in(piece))
 }
 
-/// Writes a sign behind a part that is not the last.
+/// Writes a sign after a part that is not the last.
 fn put_sign(out: &mut Vec<u8>, sign: u8, last: bool) -> Result<(), AllocError>
     ensures { OnOk result (out.new.items ≡ out.old.items ++ (if last then [] else sign ∷ [])) }
 {
@@ -157,8 +157,8 @@ fn begins_at(place: u32, item: &Item) -> bool
     }
 }
 
-/// Writes an item: where the first of these blocks begins there, it is written opened, with the first of these sheets
-/// as its body. Gives how many of the blocks it was.
+/// Writes an item. Where the first of these blocks begins there, it is written opened, with the first of these sheets
+/// as its body. Answers how many of the blocks it was.
 fn put_next(
     alloc: Global,
     out: &mut Vec<u8>,
@@ -182,7 +182,7 @@ fn put_next(
     Ok(0)
 }
 
-/// Writes items, among which these blocks are opened, with these sheets as their bodies.
+/// Writes items. These blocks among them are opened, with these sheets as their bodies.
 fn put_items(
     alloc: Global,
     out: &mut Vec<u8>,
@@ -207,8 +207,7 @@ fn put_items(
     Ok(())
 }
 
-/// Puts a space before a byte order mark at the front of a text: it would be skipped there
-/// (CSS Syntax 3, section 3.2).
+/// Puts a space before a byte order mark at the front of a text, where it would be skipped (CSS Syntax 3, section 3.2).
 fn put_before_mark(text: &mut Vec<u8>) -> Result<(), AllocError>
     ensures { OnOk result (text.new.items ≡ print.behind_mark text.old.items) }
 {
@@ -218,8 +217,9 @@ fn put_before_mark(text: &mut Vec<u8>) -> Result<(), AllocError>
     Ok(())
 }
 
-/// The printed text of a sheet that is sound for a source, among the items of which these blocks are opened, in their
-/// order, with the sheet of the same place in `merged` as the body of each.
+/// The printed text of a sheet with opened blocks, as bytes. The sheet is sound for the source; the blocks are among
+/// its items, in their order. The body of each is the sheet of the same place in `merged`. `AllocError` where memory
+/// runs out.
 pub fn print_opened(
     alloc: Global,
     sheet: &Sheet,

@@ -13,7 +13,7 @@ use css_model::{Lexeme, Piece};
 use css_tokens::tokens_restart;
 use std::alloc::{AllocError, Global};
 
-/// The tokens from the first on that begins at this place or behind it.
+/// The tokens from the first one on that begins at this place or after it.
 fn from_place(xs: &[Lexeme], at: u32) -> &[Lexeme]
     requires { AreAscending 0 xs.now }
     ensures { result.now ≡ drop (prefix_len (λ x. nat_lt x.span.start at) xs.now) xs.now }
@@ -26,7 +26,7 @@ fn from_place(xs: &[Lexeme], at: u32) -> &[Lexeme]
     &xs[n..]
 }
 
-/// The first tokens, that end at this place or before it.
+/// The first tokens that end at this place or before it.
 fn up_to(xs: &[Lexeme], at: u32) -> &[Lexeme]
     requires { AreAscending 0 xs.now }
     ensures { result.now ≡ take (prefix_len (λ x. nat_le x.span.«end» at) xs.now) xs.now }

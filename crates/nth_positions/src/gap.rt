@@ -5,8 +5,8 @@ ghost use Rattle.css_model.specs.declared.position.AnB.{AnB};
 ghost use Rattle.css_model.specs.Documents.Matching.{IsNth};
 ghost use Rattle.nth_positions.specs.Gaps.{reduced, bounds_of, greatest_count};
 
-/// How far a gap between siblings has to be looked at: a gap of at least `threshold + period` has the
-/// same members behind it as one below that, for each step and offset of a list.
+/// How far a gap between siblings has to be looked at, for each step and offset of a list. A gap of at least
+/// `threshold + period` has the same members after it as one below that.
 #[derive(Clone, Copy, Debug, PartialEq, Eq)]
 pub struct Bounds {
     /// The greatest size of an offset, and at least 1.
@@ -18,8 +18,8 @@ pub struct Bounds {
     pub width: u32,
 }
 
-/// A gap below `threshold + period` that has the same members behind it as `gap`: `gap` itself where
-/// it is below that, else one as far from the threshold modulo the period.
+/// A gap below `threshold + period` that has the same members after it as `gap`. It is `gap` itself where that is
+/// below; else one as far from the threshold modulo the period.
 pub fn reduce(gap: u64, x: &Bounds) -> u64
     requires { 0 < x.now.period }
     ensures { result ≡ reduced x.now gap }
@@ -33,10 +33,13 @@ pub fn reduce(gap: u64, x: &Bounds) -> u64
     }
 }
 
-/// A reduced gap changes nothing that a part of the list can tell: for each gap, each part `x` and
-/// each `k` of at least 1 the position `gap + k` is a member of `x` where `reduce(gap) + k` is one.
-/// No gap becomes 0 but 0, each becomes one below `threshold + period`, and the width has room for
-/// the siblings of 24 elements with such gaps.
+/// A reduced gap keeps the members of each part of the list.
+///
+/// - For each gap, each part `x` and each `k` of at least 1, `gap + k` is a member of `x` exactly where
+///   `reduce(gap) + k` is one.
+/// - No gap becomes 0 but 0.
+/// - Each becomes one below `threshold + period`.
+/// - The width has room for the siblings of 24 elements with such gaps.
 pub fn reduction_keeps_members()
     ensures members { (parts : List AnB) (x : AnB) (gap k : ℕ) → Contains parts x → 1 ≤ k →
         IsNth x (gap + k) ↔ IsNth x (reduced (bounds_of parts) gap + k) }

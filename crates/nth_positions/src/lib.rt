@@ -1,5 +1,5 @@
-//! Positions among siblings: the An+B notation of `:nth-child()`, the positions that it stands for,
-//! and how far a gap between siblings has to be looked at.
+//! Positions among siblings: the An+B notation of `:nth-child()`, its positions, and how far a gap between siblings has
+//! to be looked at.
 #![tactic(auto)]
 
 mod gap;

@@ -17,10 +17,10 @@ const ROW: u32 = 24;
 /// How many bits hold the number of siblings in such a row, whatever the parts.
 pub const MAX_WIDTH: u32 = 25;
 
-/// The bounds for gaps beside these steps and offsets, which may be none.
+/// The bounds for gaps beside these steps and offsets. There may be none.
 ///
-/// Each step is at most 32 and each offset at most 1,000 in size, and at most four steps have a size
-/// of 2 or more, so the period is at most 32^4 and the width at most `MAX_WIDTH`.
+/// Each step is at most 32 and each offset at most 1,000 in size, and at most four steps have a size of 2 or more. The
+/// period is then at most 32^4, and the width at most `MAX_WIDTH`.
 pub fn bounds(parts: &[AnB]) -> Bounds
     requires in_range { All IsInRange parts.now }
     requires few { count_by is_stepped parts.now ≤ max_stepped }
@@ -38,9 +38,12 @@ pub fn bounds(parts: &[AnB]) -> Bounds
     }
 }
 
-/// What the bounds of any list are good for: no offset is beyond the threshold, the period is a
-/// multiple of each step that is not 0 and divides each other such multiple, and no less width holds
-/// the greatest number of siblings.
+/// The bounds of any list are tight.
+///
+/// - No offset is beyond the threshold.
+/// - The period is a multiple of each step that is not 0, and divides each other such multiple.
+/// - Threshold and period are not 0.
+/// - No less width holds the greatest number of siblings.
 pub fn bounds_are_tight()
     ensures offsets { (parts : List AnB) (x : AnB) → Contains parts x →
         unsigned_abs x.b ≤ (bounds_of parts).threshold }

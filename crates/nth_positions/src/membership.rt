@@ -1,12 +1,12 @@
-//! Whether a position is one that an An+B stands for.
+//! Whether a position is one of an An+B.
 
 ghost use Rattle.std.specs.Prelude.{IsTrue, ◌↔◌, ◌≡◌, ◌≢◌, ℕ, pos, ◌*ℤ◌, ◌≤ℤ◌, ◌<◌, ◌^◌, unsigned_abs};
 ghost use Rattle.css_model.specs.Documents.Matching.{IsNth};
 
 use css_model::AnB;
 
-/// Whether `k` is a position that `x` stands for: `a·n + b` for some `n` of at least 0 (Selectors 3,
-/// section 6.6.5.2). Positions count from 1, but any `k` may be asked for.
+/// Whether `k` is a position of `x`: `a·n + b` for some `n` of at least 0 (Selectors 3, section 6.6.5.2). Positions
+/// count from 1, but any `k` may be asked for.
 pub fn member(x: AnB, k: u32) -> bool
     ensures { IsTrue result ↔ IsNth x k }
 {

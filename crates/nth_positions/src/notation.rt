@@ -22,7 +22,7 @@ pub(crate) const MAX_STEP: u32 = 32;
 /// The greatest size of an offset.
 const MAX_OFFSET: u32 = 1000;
 
-/// Stands for each number from it on, all of which are out of range, so that digits of any number fit.
+/// The cap: each number from it on counts as it, being out of range. Digits of any number fit.
 const CAP: u32 = MAX_OFFSET + 1;
 
 /// Why a text is read as no step and offset.
@@ -45,13 +45,15 @@ impl fmt::Display for AnbFault {
     }
 }
 
-/// Reads the argument of `:nth-child()` or `:nth-last-child()`, without its parentheses (Selectors 3,
-/// section 6.6.5.2): `odd`, `even`, an integer, or a step with an offset or without one, in bytes
-/// without escapes. White space and comments may stand at both ends and on both sides of the
-/// offset's sign. Digits are of any number.
+/// The step and the offset of an argument of `:nth-child()` or `:nth-last-child()` (Selectors 3, section 6.6.5.2). The
+/// text has no parentheses: `odd`, `even`, an integer, or a step with an offset or without one, in bytes without
+/// escapes. White space and comments may be at both ends and on both sides of the offset's sign. There may be any
+/// number of digits.
 ///
-/// `NotAnB` where the text is not of this form; `OutOfRange` where it is, and the step is beyond 32
-/// or the offset beyond 1,000 in size.
+/// | error | exactly when |
+/// |---|---|
+/// | `NotAnB` | the text is not of this form |
+/// | `OutOfRange` | it is, and the step is beyond 32 or the offset beyond 1,000 in size |
 pub fn read_anb(text: &[u8]) -> Result<AnB, AnbFault>
     ensures exact { Gives result (body_of (past_blanks text.now)) }
     ensures ok { (x : AnB) → (result ≡ Ok x) ↔ (IsNotation text.now x × IsInRange x) }
@@ -65,7 +67,7 @@ pub fn read_anb(text: &[u8]) -> Result<AnB, AnbFault>
     }
 }
 
-/// A text stands for one step and offset at most.
+/// A text has one step and offset at most.
 pub fn notation_is_unambiguous()
     ensures { (text : List ℕ) (x y : AnB) → IsNotation text x → IsNotation text y → x ≡ y }
 {}
@@ -77,7 +79,7 @@ fn is_in_range(x: AnB) -> bool
     x.a.unsigned_abs() <= MAX_STEP && x.b.unsigned_abs() <= MAX_OFFSET
 }
 
-/// What the body at the front stands for, with only blanks behind it; numbers are capped.
+/// The step and offset of the body at the front, with only blanks after it. Numbers are capped.
 #[tactic(auto, unfolding(css_model::specs::Positions::Reading::body_of))]
 fn read_body(text: &[u8]) -> Option<AnB>
     ensures { result ≡ body_of text.now }
@@ -103,7 +105,7 @@ fn alone(x: AnB, text: &[u8]) -> Option<AnB>
     }
 }
 
-/// What follows the word at the front, which is in lower case and found without ASCII case.
+/// What follows the word at the front. The word is in lower case, and is found without ASCII case.
 #[tactic(auto, unfolding(css_model::specs::Positions::Reading::past_word))]
 fn after_word<'a>(text: &'a [u8], word: &[u8]) -> Option<&'a [u8]>
     requires { map to_ascii_lowercase word.now ≡ word.now }
@@ -117,7 +119,7 @@ fn after_word<'a>(text: &'a [u8], word: &[u8]) -> Option<&'a [u8]>
     }
 }
 
-/// An integer, or a step with an offset or without one, with only blanks behind it.
+/// An integer, or a step with an offset or without one, with only blanks after it.
 #[tactic(auto, unfolding(css_model::specs::Positions::Reading::numbers_of))]
 fn read_numbers(text: &[u8]) -> Option<AnB>
     ensures { result ≡ numbers_of text.now }
@@ -150,7 +152,7 @@ fn read_offset(text: &[u8]) -> Option<i32>
     }
 }
 
-/// The number at the front, with only blanks behind it.
+/// The number at the front, with only blanks after it.
 #[tactic(auto, unfolding(css_model::specs::Positions::Reading::last_number))]
 fn read_last(negative: bool, text: &[u8]) -> Option<i32>
     ensures { result ≡ last_number negative text.now }
@@ -189,7 +191,7 @@ fn capped_value(digits: &[u8]) -> u32
     number
 }
 
-/// The number of a size behind a sign.
+/// The number of a size after a sign.
 fn signed(negative: bool, size: u32) -> i32
     requires { size ≤ 1001 }
     ensures { result ≡ signed negative size }
@@ -201,7 +203,7 @@ fn signed(negative: bool, size: u32) -> i32
     }
 }
 
-/// Whether a `-` stands at the front, and what follows the sign there, which may be missing.
+/// Whether a `-` is at the front, and what follows the sign there, which may be missing.
 fn split_sign(text: &[u8]) -> (bool, &[u8])
     ensures sign { result.0 ≡ is_minus text.now }
     ensures rest { result.1.now ≡ past_sign text.now }
@@ -222,7 +224,7 @@ fn split_digits(text: &[u8]) -> (&[u8], &[u8])
     text.split_at(digit_count(text))
 }
 
-/// How many digits stand at the front.
+/// How many digits are at the front.
 fn digit_count(text: &[u8]) -> usize
     ensures exact { result ≡ prefix_len is_ascii_digit text.now }
     ensures within { result ≤ length text.now }

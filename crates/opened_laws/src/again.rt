@@ -1,4 +1,4 @@
-//! What the text of opened blocks is read back as, each law as the contract of a function that does nothing.
+//! What the text of opened blocks is read back as, as functions that do nothing.
 
 ghost use Rattle.opened_laws.specs.Again.{OpenedReadsBack};
 
@@ -6,8 +6,8 @@ use crate::blocks_read_back;
 use media_groups::blocks_stay;
 
 /// The printed text of a sheet whose blocks of media are opened is read back as that sheet, with the same blocks
-/// opened: each one's body as the twin of the body that it was printed with, any other item as its twin. Printed again
-/// it is the same text.
+/// opened. Each body is read back as the twin of the body that was printed, and any other item as its twin. Printed
+/// again it is the same text.
 pub fn opened_reads_back()
     ensures { OpenedReadsBack }
 {

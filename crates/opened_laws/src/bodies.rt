@@ -1,4 +1,4 @@
-//! What is printed inside opened blocks, each law as the contract of a function that does nothing.
+//! What is printed inside opened blocks, as functions that do nothing.
 
 ghost use Rattle.opened_laws.specs.Media.Bodies.{BodiesAreNoLonger, BodiesReadBack};
 

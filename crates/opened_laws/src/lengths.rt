@@ -1,4 +1,4 @@
-//! How long sheets are whose blocks are opened, the law as the contract of a function that does nothing.
+//! How long sheets with opened blocks are, as functions that do nothing.
 
 ghost use Rattle.opened_laws.specs.Media.Lengths.{OpenedIsNoLonger};
 

@@ -1,4 +1,4 @@
-//! What opened blocks mean for the cascade, each law as the contract of a function that does nothing.
+//! What opened blocks mean for the cascade, as functions that do nothing.
 
 ghost use Rattle.opened_laws.specs.Media.Scenes.{BodiesCountByWinners, MergedSheetsWinAlike, ScenesGiveMeanings};
 
@@ -9,8 +9,8 @@ pub fn scenes_give_meanings()
     ensures { ScenesGiveMeanings }
 {}
 
-/// Where the bodies of opened blocks are replaced by sheets with the same winners in a scene, the winner of the sheet around them
-/// stays; so it does where that sheet too is replaced by one with the same winner.
+/// Where the bodies of opened blocks are replaced by sheets with the same winners in a scene, the winner of the sheet
+/// around them stays. It also stays where that sheet too is replaced by one with the same winner.
 pub fn bodies_count_by_winners()
     ensures bodies { BodiesCountByWinners }
     ensures sheets { MergedSheetsWinAlike }

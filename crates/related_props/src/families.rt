@@ -10,16 +10,16 @@ use crate::table::{is_word, listed_family};
 use css_model::{Family, Text};
 use std::alloc::{AllocError, Global};
 
-/// The family of a name, by parts of the name and of the table: no memory is taken.
+/// The family of a name, by parts of the name and of the table. It takes no memory.
 #[derive(Clone, Copy)]
 pub(crate) enum Seen<'a> {
     /// That of `all`.
     All,
     /// A custom property's own.
     Custom(&'a [char]),
-    /// One of the table.
+    /// A family of the table.
     Listed(&'static [u8]),
-    /// One that the part of a name names itself.
+    /// The family that the part of a name names itself.
     Named(&'a [char]),
 }
 
@@ -63,8 +63,8 @@ fn text_of_word(alloc: Global, word: &[u8]) -> Result<Text, AllocError>
     Ok(Text::new(codes))
 }
 
-/// The family of a property's name, which is decoded and in lower case; a custom property's is only
-/// decoded.
+/// The family of a property's name. The name is decoded and in lower case; that of a custom property is only decoded.
+/// `AllocError` where memory runs out.
 pub fn family(alloc: Global, name: &Text) -> Result<Family, AllocError>
     ensures { IfOk result (λ f. f ≡ family_of name.now) }
 {
@@ -91,8 +91,7 @@ fn related_seen(x: Seen<'_>, y: Seen<'_>) -> bool
     }
 }
 
-/// Whether two names are related: one is of the family of `all`, or both are of one family. Takes no
-/// memory.
+/// Whether two names are related: one is of the family of `all`, or both are of one family.
 pub fn related(x: &Text, y: &Text) -> bool
     ensures same { result ≡ related x.now y.now }
     ensures exact { IsTrue result ↔ Related x.now y.now }

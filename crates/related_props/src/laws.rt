@@ -1,4 +1,4 @@
-//! The laws of related names, each as the contract of a function that does nothing.
+//! The laws of related names, as functions that do nothing.
 ghost use Rattle.related_props.specs.Laws.{AllIsRelated, RelatedIsReflexive, RelatedIsSymmetric};
 
 /// Each name is related to itself.

@@ -1,5 +1,5 @@
-//! Tells which properties can set the same thing: the families of properties, and which names are
-//! related; and masks of items, by which most that has nothing related is passed over.
+//! Which properties can set the same thing: the families of properties, and the names that are related. Also masks of
+//! items, by which most items that have nothing related are passed over.
 #![tactic(auto)]
 
 mod bits;

@@ -20,8 +20,8 @@ fn family_mask(family: Seen<'_>) -> u64
     }
 }
 
-/// The mask of a declaration: the bit of its property's family, or each bit for `all`. Declarations of related
-/// names have a bit in common. Takes no memory.
+/// The mask of a declaration: the bit of its property's family, or each bit for `all`. Declarations of related names
+/// have a bit in common.
 pub fn decl_mask(decl: &Decl) -> u64
     ensures { result ≡ masks.decl_mask decl.now }
 {
@@ -54,7 +54,7 @@ pub fn mask_of_items(items: &[DeclItem]) -> u64
     mask
 }
 
-/// The mask of an item: the bits of its declarations, or each bit for a kept block. Takes no memory.
+/// The mask of an item: the bits of its declarations, or each bit for a kept block.
 pub fn item_mask(item: &Item) -> u64
     ensures { result ≡ masks.item_mask item.now }
 {
@@ -65,7 +65,7 @@ pub fn item_mask(item: &Item) -> u64
     }
 }
 
-/// The masks of some items, in their order. The error comes where memory is short.
+/// The masks of some items, in their order. `AllocError` where memory is short.
 pub fn item_masks(alloc: Global, items: &[Item]) -> Result<Vec<u64>, AllocError>
     ensures { IfOk result (λ list. list.items ≡ map masks.item_mask items.now) }
 {

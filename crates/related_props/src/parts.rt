@@ -1,4 +1,4 @@
-//! The part of a name that tells its family.
+//! The part of a name that decides its family.
 
 ghost use Rattle.std.specs.Prelude.{◌≡◌, ◌≤◌, length};
 ghost use Rattle.std.specs.List.{list_all, position_or_len, prefix_len};
@@ -34,14 +34,14 @@ fn is_alphanumeric(word: &[char]) -> bool
     word.iter().all(|c| c.is_ascii_alphanumeric())
 }
 
-/// Whether a word may stand in a vendor prefix: it is not empty, and of letters and digits of ASCII.
+/// Whether a word may be in a vendor prefix: it is not empty, and of letters and digits of ASCII.
 fn is_vendor(word: &[char]) -> bool
     ensures { result ≡ is_vendor word.now }
 {
     !word.is_empty() && is_alphanumeric(word)
 }
 
-/// What stands behind a vendor's word and a hyphen, if these are at the start.
+/// What follows a vendor's word and a hyphen, if these are at the start.
 fn behind_vendor(rest: &[char]) -> Option<&[char]>
     ensures { option_copied result ≡ behind_vendor rest.now }
 {
@@ -66,7 +66,7 @@ fn without_vendor(name: &[char]) -> &[char]
     }
 }
 
-/// The part of a property's name that tells its family.
+/// The part of a property's name that decides its family.
 pub(crate) fn part_of(name: &[char]) -> &[char]
     ensures { result.now ≡ part_of name.now }
 {

@@ -30,7 +30,7 @@ fn is_bar(token: &SelectorToken) -> bool
     is_delim_of(u32::from(b'|'), token.kind())
 }
 
-/// How many tokens stand before the first `)`, or all where there is none.
+/// How many tokens come before the first `)`, or all where there is none.
 pub(crate) fn close_at(tokens: &[SelectorToken]) -> usize
     ensures at { result ≡ position_or_len spec.closes_round tokens.now }
     ensures within { result ≤ length tokens.now }
@@ -48,7 +48,7 @@ pub(crate) fn close_at(tokens: &[SelectorToken]) -> usize
     at
 }
 
-/// How many tokens stand before the first `|`, or all where there is none.
+/// How many tokens come before the first `|`, or all where there is none.
 fn bar_at(tokens: &[SelectorToken]) -> usize
     ensures at { result ≡ position_or_len spec.is_bar tokens.now }
     ensures within { result ≤ length tokens.now }
@@ -66,7 +66,7 @@ fn bar_at(tokens: &[SelectorToken]) -> usize
     at
 }
 
-/// What stands in an argument for what is between two of its tokens.
+/// What an argument has in the place of a gap between two of its tokens.
 fn blank(gap: Gap) -> &'static [u8]
     ensures { result.now ≡ spec.blank gap }
 {
@@ -76,7 +76,7 @@ fn blank(gap: Gap) -> &'static [u8]
     }
 }
 
-/// A token of an argument and what stands behind it.
+/// Appends a token of an argument and what replaces the gap after it.
 fn push_token(text: &mut Vec<u8>, token: &SelectorToken) -> Result<(), AllocError>
     ensures { OnOk result (text.new.items ≡ text.old.items ++ (token.now.bytes ++ spec.blank token.now.gap)) }
 {
@@ -85,7 +85,7 @@ fn push_token(text: &mut Vec<u8>, token: &SelectorToken) -> Result<(), AllocErro
     Ok(())
 }
 
-/// The text of an argument behind such a gap.
+/// The text of an argument after such a gap.
 fn argument_text(alloc: Global, gap: Gap, tokens: &[SelectorToken]) -> Result<Vec<u8>, AllocError>
     ensures { IfOk result (λ text. text.items ≡ spec.argument_text gap tokens.now) }
 {
@@ -105,7 +105,7 @@ fn is_notation(text: &[u8]) -> bool
     }
 }
 
-/// Whether these are a `+` alone, before something that stands right behind it.
+/// Whether these are a `+` alone, directly before another token.
 fn is_lone_plus(tokens: &[SelectorToken]) -> bool
     ensures { result ≡ spec.is_lone_plus tokens.now }
 {

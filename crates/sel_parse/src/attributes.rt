@@ -14,7 +14,7 @@ use crate::types::lower;
 use css_model::{AttrTest, Op, Reason, Test, Text};
 use std::alloc::Global;
 
-/// The end of a test of which so many terms are read.
+/// The test of so many terms, with its closing bracket.
 fn closed_at(test: Test, n: usize, terms: &Terms) -> Read<Test>
     requires { n ≤ 7 }
     ensures reads { Reads result (spec.closed_at test n terms.now) }
@@ -34,7 +34,7 @@ fn closed_at(test: Test, n: usize, terms: &Terms) -> Read<Test>
     }
 }
 
-/// The value of a test, behind its operator, of which so many terms are read, and the end.
+/// The test of so many terms, with its value after the operator, and its closing bracket.
 fn value_at(alloc: Global, name: Text, op: Op, n: usize, terms: &Terms) -> Read<Test>
     requires { n ≤ 6 }
     ensures reads { Reads result (spec.value_at name op n terms.now) }
@@ -59,7 +59,7 @@ fn is_id(name: &Text) -> bool
     matches!(name.codes(), ['i', 'd'])
 }
 
-/// Behind the first sign of an operator: `=` right behind it.
+/// The test after the first sign of an operator: `=` has to follow directly.
 fn operator_at(alloc: Global, name: Text, op: Op, sign: &Term, terms: &Terms) -> Read<Test>
     ensures reads { Reads result (spec.operator_at name op sign.now terms.now) }
     ensures small { IfOk result (λ read. read.1 ≤ 8) }
@@ -82,7 +82,7 @@ fn operator_at(alloc: Global, name: Text, op: Op, sign: &Term, terms: &Terms) ->
     }
 }
 
-/// Behind the name of an attribute.
+/// The test after the name of an attribute.
 fn match_at(alloc: Global, name: Text, terms: &Terms) -> Read<Test>
     ensures reads { Reads result (spec.match_at name terms.now) }
     ensures small { IfOk result (λ read. read.1 ≤ 8) }
@@ -106,7 +106,7 @@ fn match_at(alloc: Global, name: Text, terms: &Terms) -> Read<Test>
     }
 }
 
-/// Behind `[`.
+/// The test after `[`.
 pub(crate) fn attribute_at(alloc: Global, terms: &Terms) -> Read<Test>
     ensures reads { Reads result (spec.attribute_at terms.now) }
     ensures small { IfOk result (λ read. read.1 ≤ 8) }

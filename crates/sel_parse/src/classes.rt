@@ -24,7 +24,7 @@ fn class_name(alloc: Global) -> Result<Text, AllocError>
     Ok(Text::new(vec![in alloc; 'c', 'l', 'a', 's', 's']?))
 }
 
-/// A class, by what stands right behind its dot.
+/// A class, by what follows its dot directly.
 pub(crate) fn class_at(alloc: Global, terms: &Terms) -> Read<Test>
     ensures reads { Reads result (spec.class_at terms.now) }
     ensures small { IfOk result (λ read. read.1 ≤ 8) }

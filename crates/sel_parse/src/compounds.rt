@@ -26,11 +26,11 @@ use std::marker::Model;
 pub(crate) struct SoFar {
     /// The whole compounds, from left to right.
     pub(crate) chain: Vec<Compound>,
-    /// The combinators behind them.
+    /// The combinators after them.
     pub(crate) links: Vec<Combinator>,
     /// The compound that is being read, empty where one has to begin.
     pub(crate) compound: SmallVec<Simple, 1>,
-    /// The pseudo-element, behind which nothing may follow.
+    /// The pseudo-element, after which nothing may follow.
     pub(crate) pseudo: Option<Pseudo>,
     /// How many positions whose step has a size of 2 or more there are.
     pub(crate) stepped: usize,
@@ -56,7 +56,7 @@ pub(crate) fn nothing_yet(alloc: Global) -> SoFar
     }
 }
 
-/// One more simple selector.
+/// Adds a simple selector to the compound that is read.
 fn add_simple(state: &mut SoFar, simple: Simple) -> Result<(), AllocError>
     requires { state.old.stepped + 1 < 2 ^ 64 }
     ensures { OnOk result (state.new ≡ spec.with_simple state.old simple) }
@@ -68,7 +68,7 @@ fn add_simple(state: &mut SoFar, simple: Simple) -> Result<(), AllocError>
     Ok(())
 }
 
-/// The pseudo-element, before which `*` is not written where nothing else stands.
+/// Adds the pseudo-element. A `*` that would be alone before it is not written.
 fn add_element(state: &mut SoFar, element: Pseudo) -> Result<(), AllocError>
     ensures { OnOk result (state.new ≡ spec.with_element state.old element) }
 {
@@ -83,7 +83,7 @@ fn add_element(state: &mut SoFar, element: Pseudo) -> Result<(), AllocError>
     Ok(())
 }
 
-/// A combinator, which ends the compound.
+/// Adds a combinator, which ends the compound.
 fn add_link(alloc: Global, state: &mut SoFar, link: Combinator) -> Result<(), AllocError>
     ensures { OnOk result (state.new ≡ spec.with_link state.old link) }
 {
@@ -93,7 +93,7 @@ fn add_link(alloc: Global, state: &mut SoFar, link: Combinator) -> Result<(), Al
     Ok(())
 }
 
-/// In a compound that has begun: one more simple selector, or the pseudo-element.
+/// Reads one more simple selector, or the pseudo-element, of a compound that has begun.
 fn go_on(alloc: Global, state: &mut SoFar, x: &Term, rest: &Terms) -> Result<usize, Refusal>
     requires { state.old.stepped + 1 < 2 ^ 64 }
     ensures steps { Steps state.new result (spec.go_on state.old x.now rest.now) }
@@ -125,7 +125,7 @@ fn begins_compound(x: &Term) -> bool
         || is_sign_of(b':', x.kind())
 }
 
-/// Where a compound has to begin.
+/// Reads the first simple selector of a compound, where one has to begin.
 fn begin(alloc: Global, state: &mut SoFar, x: &Term, rest: &Terms) -> Result<usize, Refusal>
     requires { state.old.stepped + 1 < 2 ^ 64 }
     ensures steps { Steps state.new result (spec.begin state.old x.now rest.now) }
@@ -147,7 +147,7 @@ fn begin(alloc: Global, state: &mut SoFar, x: &Term, rest: &Terms) -> Result<usi
     }
 }
 
-/// Behind a simple selector: a combinator, or more of the compound.
+/// Reads a combinator after a simple selector, or more of its compound.
 fn in_compound(
     alloc: Global,
     state: &mut SoFar,
@@ -172,7 +172,7 @@ fn in_compound(
     }
 }
 
-/// One step behind such a gap: how many terms it takes of these, which are `x` and the rest.
+/// Reads one step after such a gap, from the term `x` and the rest. Answers how many terms it takes.
 pub(crate) fn step(
     alloc: Global,
     state: &mut SoFar,

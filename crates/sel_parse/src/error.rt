@@ -10,7 +10,7 @@ use thiserror::Error;
 /// Why a text is no selector of the profile.
 #[derive(Clone, Copy, Debug, PartialEq, Eq, Error)]
 pub enum SelError {
-    /// The text is outside the profile, for the reason of this number.
+    /// The text is outside the profile; the number of the reason, from 1 to 10.
     Outside(u32),
     /// There is not enough memory.
     NoMemory,
@@ -33,7 +33,7 @@ impl fmt::Display for SelError {
     }
 }
 
-/// The same, by the reason itself.
+/// Why a text is no selector of the profile, by the reason itself.
 #[derive(Clone, Copy, Debug)]
 pub(crate) enum Refusal {
     /// The text is outside the profile.

@@ -1,4 +1,4 @@
-//! Selectors from their texts (Selectors 3), with the reason why a text is outside the profile.
+//! Selectors from their texts (Selectors 3), with the reason where a text is outside the profile.
 #![tactic(auto)]
 
 mod arguments;

@@ -13,7 +13,7 @@ use crate::types::{begins_type, type_at};
 use css_model::{Reason, Simple, Test};
 use std::alloc::Global;
 
-/// Whether `not(` stands at the front.
+/// Whether `not(` is at the front.
 fn not_follows(terms: &Terms) -> bool
     ensures { result ≡ spec.not_follows terms.now }
 {
@@ -23,7 +23,7 @@ fn not_follows(terms: &Terms) -> bool
     }
 }
 
-/// The end of a negation, behind what it negates, of so many terms.
+/// The end of a negation, after what it negates, of so many terms.
 fn end_at(test: Test, n: usize, terms: &Terms) -> Read<Simple>
     requires { n ≤ 8 }
     ensures { Reads result (spec.end_at test n terms.now) }
@@ -41,7 +41,7 @@ fn end_at(test: Test, n: usize, terms: &Terms) -> Read<Simple>
     }
 }
 
-/// What stands in `:not()`, and its end.
+/// What is in `:not()`, and its end.
 fn negated_at(alloc: Global, stepped: usize, terms: &Terms) -> Read<Simple>
     ensures { Reads result (spec.negated_at stepped terms.now) }
 {
@@ -65,7 +65,7 @@ fn negated_at(alloc: Global, stepped: usize, terms: &Terms) -> Read<Simple>
     }
 }
 
-/// A simple selector other than a type where one begins, behind so many positions whose step has a size of 2 or
+/// A simple selector other than a type, where one begins. Before it are so many positions whose step has a size of 2 or
 /// more.
 pub(crate) fn simple_at(alloc: Global, stepped: usize, x: &Term, rest: &Terms) -> Read<Simple>
     ensures { Reads result (spec.simple_at stepped x.now rest.now) }

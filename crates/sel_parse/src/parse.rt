@@ -36,7 +36,7 @@ fn is_white(kind: TokenKind) -> bool
     }
 }
 
-/// What stands before this token.
+/// What is before this token.
 fn gap_before(token: Token) -> Gap
     ensures { result ≡ gap_of (token ∷ []) }
 {
@@ -122,11 +122,15 @@ fn tokens_of<'a>(alloc: Global, text: &'a [u8]) -> Result<SelectorTokens<'a>, Al
     }
 }
 
-/// Reads a selector text (Selectors 3, section 10), of at most 1,048,576 bytes. White space and comments at
-/// both ends do not count.
+/// The selector of a text of at most 1,048,576 bytes (Selectors 3, section 10). White space and comments at both ends
+/// do not count.
 ///
-/// `Outside` exactly where the text is outside the profile: its number is that of the reason that comes first
-/// from left to right, and of those at one token the least. Only `NoMemory` may come in place of either answer.
+/// | error | when |
+/// |---|---|
+/// | `Outside` | exactly where the text is outside the profile |
+/// | `NoMemory` | memory is short |
+///
+/// The number of `Outside` is that of the reason that comes first from left to right; of those at one token, the least.
 pub fn parse_selector(alloc: Global, text: &[u8]) -> Result<Selector, SelError>
     requires { length text.now ≤ max_bytes }
     ensures { Answers result (selector_of text.now) }
@@ -175,11 +179,15 @@ fn tokens_of_part<'a>(
     Ok(tokens)
 }
 
-/// Reads the selector of a part of a prelude, whose tokens that are no white space lie in a source of at most
-/// 1,048,576 bytes.
+/// The selector of a part of a prelude (Selectors 3, section 10). The part is the tokens that are no white space; they
+/// lie in a source of at most 1,048,576 bytes.
 ///
-/// `Outside` exactly where the part is outside the profile: its number is that of the reason that comes first
-/// from left to right. Only `NoMemory` may come in place of either answer.
+/// | error | when |
+/// |---|---|
+/// | `Outside` | exactly where the part is outside the profile |
+/// | `NoMemory` | memory is short |
+///
+/// The number of `Outside` is that of the reason that comes first from left to right; of those at one token, the least.
 pub fn read_selector(alloc: Global, source: &[u8], part: &[Lexeme]) -> Result<Selector, SelError>
     requires within { AllByRecursion (λ x. IsWithin source.now x.span) part.now }
     requires short { length source.now ≤ max_bytes }

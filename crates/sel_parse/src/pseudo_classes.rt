@@ -16,7 +16,7 @@ use crate::tokens::{is_function, is_ident};
 use css_model::{AnB, Flag, MAX_STEPPED, Reason, Test};
 use std::alloc::Global;
 
-/// What the pseudo-class of this name tests, which has no argument.
+/// What the pseudo-class of this name tests. It has no argument.
 fn plain_test(x: &Term) -> Option<Test>
     ensures { result ≡ row_of x.now.name spec.plain_pseudo_classes }
 {
@@ -70,14 +70,14 @@ pub(crate) fn is_stepped_test(test: &Test) -> bool
     }
 }
 
-/// Whether this position is one too many behind so many whose step has a size of 2 or more.
+/// Whether this position is one too many after so many whose step has a size of 2 or more.
 fn is_one_too_many(stepped: usize, x: AnB) -> bool
     ensures { result ≡ (is_stepped x && nat_le max_stepped stepped) }
 {
     is_stepped(x) && stepped >= MAX_STEPPED
 }
 
-/// The argument of a function of a position, behind so many positions whose step has a size of 2 or more.
+/// The argument of a function of a position, after so many positions whose step has a size of 2 or more.
 fn position_argument(alloc: Global, stepped: usize, x: &Term) -> Result<AnB, Refusal>
     ensures { Reads result (spec.counted_argument stepped x.now.argument) }
 {
@@ -89,7 +89,7 @@ fn position_argument(alloc: Global, stepped: usize, x: &Term) -> Result<AnB, Ref
     }
 }
 
-/// A function behind one colon, behind so many positions whose step has a size of 2 or more.
+/// A function after one colon, after so many positions whose step has a size of 2 or more.
 fn function_at(alloc: Global, stepped: usize, x: &Term) -> Read<Test>
     ensures reads { Reads result (spec.function_or_none (row_of x.now.name spec.position_functions) stepped x.now) }
     ensures small { IfOk result (λ read. read.1 ≤ 8) }
@@ -103,7 +103,7 @@ fn function_at(alloc: Global, stepped: usize, x: &Term) -> Read<Test>
     }
 }
 
-/// A pseudo-class, by the ident or the function behind its colon.
+/// A pseudo-class, by the ident or the function after its colon.
 pub(crate) fn pseudo_class_at(alloc: Global, stepped: usize, x: &Term) -> Read<Test>
     ensures reads { Reads result (spec.pseudo_class_at stepped x.now) }
     ensures small { IfOk result (λ read. read.1 ≤ 8) }
@@ -124,7 +124,7 @@ fn is_pseudo_class(x: &Term) -> bool
     (is_ident(x.kind()) || is_function(x.kind())) && !is_pseudo_element(x)
 }
 
-/// Whether a pseudo-class stands right behind a colon.
+/// Whether a pseudo-class directly follows a colon.
 pub(crate) fn pseudo_class_follows(terms: &Terms) -> bool
     ensures { result ≡ spec.pseudo_class_follows terms.now }
 {

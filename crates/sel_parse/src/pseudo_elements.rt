@@ -35,7 +35,7 @@ pub(crate) fn is_pseudo_element(x: &Term) -> bool
     is_sign_of(b':', x.kind()) || (is_ident(x.kind()) && named_element(x).is_some())
 }
 
-/// A pseudo-element, by what stands right behind two colons.
+/// A pseudo-element, by what directly follows two colons.
 fn behind_colons(terms: &Terms) -> Read<Pseudo>
     ensures { Reads result (spec.behind_colons terms.now) }
 {
@@ -56,7 +56,7 @@ fn behind_colons(terms: &Terms) -> Read<Pseudo>
     }
 }
 
-/// A pseudo-element, by what stands right behind one colon.
+/// A pseudo-element, by what directly follows one colon.
 pub(crate) fn pseudo_element_at(terms: &Terms) -> Read<Pseudo>
     ensures { Reads result (spec.pseudo_element_at terms.now) }
 {

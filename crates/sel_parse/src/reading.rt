@@ -12,7 +12,7 @@ use crate::tokens::SelectorToken;
 use css_model::{Compound, Gap, Reason, Selector};
 use std::alloc::Global;
 
-/// At the end a compound is there.
+/// The selector that is read at the end, where a compound is there.
 fn finish(state: SoFar) -> Result<Selector, Refusal>
     ensures { Reads result (spec.finish state state.compound) }
 {

@@ -14,7 +14,7 @@ use crate::tokens::{is_delim_of, is_id_hash, is_sign_of};
 use css_model::{Reason, Test};
 use std::alloc::Global;
 
-/// Whether one begins with this term.
+/// Whether a simple selector other than a type begins with this term.
 pub(crate) fn begins_simple(x: &Term, rest: &Terms) -> bool
     ensures { result ≡ spec.begins_simple x.now rest.now }
 {
@@ -24,7 +24,7 @@ pub(crate) fn begins_simple(x: &Term, rest: &Terms) -> bool
         || (is_sign_of(b':', x.kind()) && pseudo_class_follows(&rest.right_behind(x.gap())))
 }
 
-/// A pseudo-class, by what stands behind its colon.
+/// A pseudo-class, by what follows its colon.
 fn behind_colon(alloc: Global, stepped: usize, terms: &Terms) -> Read<Test>
     ensures reads { Reads result (spec.behind_colon stepped terms.now) }
     ensures small { IfOk result (λ read. read.1 ≤ 8) }
@@ -35,7 +35,8 @@ fn behind_colon(alloc: Global, stepped: usize, terms: &Terms) -> Read<Test>
     }
 }
 
-/// One of these where it begins, behind so many positions whose step has a size of 2 or more.
+/// A simple selector other than a type or a negation, where one begins. Before it are so many positions whose step has
+/// a size of 2 or more.
 pub(crate) fn test_at(alloc: Global, stepped: usize, x: &Term, rest: &Terms) -> Read<Test>
     ensures reads { Reads result (spec.test_at stepped x.now rest.now) }
     ensures small { IfOk result (λ read. read.1 ≤ 8) }

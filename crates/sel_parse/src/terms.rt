@@ -1,4 +1,4 @@
-//! The terms of a selector text: its tokens, of which a function of a position is one with its whole argument.
+//! The terms of a selector text: its tokens, but a function of a position is one term with its whole argument.
 
 ghost use Rattle.std.specs.Prelude.{◌≡◌, ◌∷◌, ◌≤◌, ◌<◌, ◌+◌, ◌^◌, [], drop, length, IfOk, MatchOption};
 ghost use Rattle.std.specs.Str.{IsAscii};
@@ -16,7 +16,7 @@ use css_model::{AnB, Combinator, Gap, Op, Reason, Text, TokenKind};
 use std::alloc::{AllocError, Global};
 use std::marker::Model;
 
-/// A term: a token, with what counts of the gap behind it and the tokens behind it.
+/// A term: a token, with what counts of the gap after it and the tokens after it.
 #[derive(Drop)]
 pub(crate) struct Term<'a> {
     token: &'a SelectorToken<'a>,
@@ -47,7 +47,7 @@ impl Term<'_> {
         self.token.kind()
     }
 
-    /// What counts of the gap behind it.
+    /// What counts of the gap after it.
     pub(crate) fn gap(&self) -> Gap
         ensures { result ≡ self.now.gap }
     {
@@ -121,7 +121,7 @@ impl<'a> Terms<'a> {
         Terms { depth: 0, tokens }
     }
 
-    /// The first term and those behind it.
+    /// The first term and those after it.
     pub(crate) fn split_first(&self) -> Option<(Term<'a>, Terms<'a>)>
         ensures { MatchOption result (self.now ≡ []) (λ p. self.now ≡ p.0 ∷ p.1) }
     {
@@ -147,7 +147,7 @@ impl<'a> Terms<'a> {
         }
     }
 
-    /// What stands right behind a gap: behind white space nothing does.
+    /// What directly follows a gap: nothing does where the gap is white space.
     pub(crate) fn right_behind(&self, gap: Gap) -> Terms<'a>
         ensures { result ≡ spec.right_behind gap self.now }
     {
@@ -163,7 +163,7 @@ impl<'a> Terms<'a> {
         }
     }
 
-    /// What stands behind so many terms.
+    /// What comes after so many terms.
     pub(crate) fn skip(&self, n: usize) -> Terms<'a>
         ensures { result ≡ drop n self.now }
     {
@@ -209,7 +209,7 @@ pub(crate) fn op_of(kind: TokenKind) -> Option<Op>
     }
 }
 
-/// How many brackets are open behind a term, with so many open before it.
+/// How many brackets are open after a term, with so many open before it.
 fn depth_behind_term(depth: usize, token: &SelectorToken) -> usize
     requires { depth + 1 < 2 ^ 64 }
     ensures depth { result ≡ spec.depth_behind_term depth token.now }
@@ -277,7 +277,7 @@ fn first_gap(tokens: &[SelectorToken]) -> Gap
     }
 }
 
-/// How many tokens behind its first a term has, of those that there are.
+/// How many tokens a term has after its first one, of those that there are.
 fn more_of_term(token: &SelectorToken, behind: &[SelectorToken]) -> usize
     ensures rest { drop result behind.now ≡ drop (spec.more_of_term token.now behind.now) behind.now }
     ensures within { result ≤ length behind.now }
@@ -289,7 +289,7 @@ fn more_of_term(token: &SelectorToken, behind: &[SelectorToken]) -> usize
     }
 }
 
-/// The gap behind a term.
+/// The gap after a term.
 fn gap_of_term(token: &SelectorToken, behind: &[SelectorToken]) -> Gap
     ensures { result ≡ spec.gap_of_term token.now behind.now }
 {

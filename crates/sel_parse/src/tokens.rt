@@ -16,7 +16,7 @@ use css_tokens::{decode, is_named};
 use std::alloc::{AllocError, Global};
 use std::marker::Model;
 
-/// What a token is, but for the byte or code point of a sign.
+/// What a token is, without the byte or code point of a sign.
 #[derive(Clone, Copy, Debug, PartialEq, Eq)]
 enum Form {
     White,
@@ -92,7 +92,7 @@ fn sign_of(kind: TokenKind) -> u8
     }
 }
 
-/// The code point of one that stands by itself, and 0 of any other kind.
+/// The code point of one by itself, and 0 of any other kind.
 fn code_of(kind: TokenKind) -> u32
     ensures { result ≡ forms.code_of kind }
 {
@@ -151,7 +151,7 @@ impl<'a> SelectorToken<'a> {
         kind_of(self.form, self.sign, self.code)
     }
 
-    /// What stands behind it.
+    /// What is between it and the next one.
     pub(crate) fn gap(&self) -> Gap
         ensures { result ≡ self.now.gap }
     {
@@ -199,7 +199,7 @@ impl<'a> SelectorToken<'a> {
     }
 }
 
-/// The name in the bytes of a token, or what stands inside its quotes.
+/// The name in the bytes of a token, or what is inside its quotes.
 fn name_in(kind: TokenKind, bytes: &[u8]) -> &[u8]
     ensures name { result.now ≡ spec.name_in kind bytes.now }
     ensures within { length result.now ≤ length bytes.now }

@@ -31,7 +31,7 @@ fn is_star(x: &Term) -> bool
     is_delim_of(u32::from(b'*'), x.kind())
 }
 
-/// Whether one begins with this term.
+/// Whether a type selector or `*` begins with this term.
 pub(crate) fn begins_type(x: &Term) -> bool
     ensures { result ≡ spec.begins_type x.now }
 {

@@ -48,7 +48,7 @@ fn split_importance<'a>(source: &[u8], value: &'a [Lexeme]) -> (&'a [Lexeme], bo
     }
 }
 
-/// The text of a value behind this colon.
+/// The text of a value after this colon.
 fn text_of_value(
     alloc: Global,
     source: &[u8],
@@ -66,7 +66,7 @@ fn text_of_value(
     }
 }
 
-/// Where it stands.
+/// Where a value is in the source.
 fn piece_of_value(custom: bool, sign: &Lexeme, value: &[Lexeme]) -> Piece
     ensures { result ≡ block.piece_of_value custom sign.now value.now }
 {
@@ -136,7 +136,8 @@ fn declares_custom(declaration: &Option<DeclItem>) -> bool
     }
 }
 
-/// Whether an entry that declares this is no declaration of its own.
+/// Whether an entry with this declaration, or none, is nested. It is where it is an at-rule, or has a block and
+/// declares no custom property.
 fn is_nested(entry: &[Lexeme], declaration: &Option<DeclItem>) -> bool
     ensures { result ≡ (items.is_at_rule entry.now
         || (list_any (lexemes.is_sign_at 0x7B 1) entry.now && not (block.declares_custom declaration.now))) }

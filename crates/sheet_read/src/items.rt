@@ -40,7 +40,7 @@ fn closes_block(x: &Lexeme) -> bool
     is_sign_at(b'}', 1, x)
 }
 
-/// Whether this ends a prelude: its block does and, of an at-rule, a semicolon.
+/// Whether this ends a prelude: a block does, and after an at-keyword a semicolon.
 fn ends_prelude(at_rule: bool, x: &Lexeme) -> bool
     ensures { result ≡ spec.ends_prelude at_rule x.now }
 {
@@ -79,7 +79,7 @@ fn inside_len(xs: &[Lexeme]) -> usize
     n
 }
 
-/// How long the block is whose `{` stands before these, or the semicolon that does.
+/// How many tokens the end of an item has. The first of these is the `{` of its block, or its semicolon.
 fn end_len(xs: &[Lexeme]) -> usize
     ensures value { result ≡ spec.end_len xs.now }
     ensures short { result ≤ length xs.now + 1 }
@@ -96,7 +96,7 @@ fn end_len(xs: &[Lexeme]) -> usize
     }
 }
 
-/// How long the item at the front is.
+/// How many tokens the item at the front has.
 fn item_len(xs: &[Lexeme]) -> usize
     ensures { result ≡ spec.item_len xs.now }
 {
@@ -109,7 +109,7 @@ fn item_len(xs: &[Lexeme]) -> usize
     }
 }
 
-/// The item at the front, and what stands behind it.
+/// The item at the front, and what comes after it.
 fn split_item(xs: &[Lexeme]) -> (&[Lexeme], &[Lexeme])
     ensures item { result.0.now ≡ take (spec.item_len xs.now) xs.now }
     ensures behind { result.1.now ≡ drop (spec.item_len xs.now) xs.now }
@@ -138,7 +138,7 @@ fn is_whole(item: &[Lexeme]) -> bool
     is_at_rule(item) || has_sign_at(b'{', 0, item)
 }
 
-/// The first item that is whole, and what stands behind it.
+/// The first item that is whole, and what comes after it.
 pub(crate) fn next_item(lexemes: &[Lexeme]) -> Option<(&[Lexeme], &[Lexeme])>
     ensures first { MatchOption result (whole_items lexemes.now ≡ []) (λ parts. whole_items lexemes.now ≡ parts.0.now ∷ whole_items parts.1.now) }
     ensures parts { IfSome result (λ parts. (before : List Lexeme) × (lexemes.now ≡ before ++ (parts.0.now ++ parts.1.now))) }

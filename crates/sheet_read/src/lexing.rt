@@ -1,4 +1,5 @@
-//! The tokens of a sheet that are no white space, with how deep they stand (CSS Syntax 3, sections 4 and 5.4.8).
+//! The tokens of a sheet that are no white space, with how many brackets are open before each (CSS Syntax 3, sections 4
+//! and 5.4.8).
 
 ghost use Rattle.std.specs.Prelude.{◌≡◌, ◌≤◌, ◌∷◌, [], List, length, reverse, MatchOption, OnOk};
 ghost use Rattle.css_model.specs.declared.token.Token.{Token};
@@ -102,7 +103,7 @@ fn closer_of(kind: TokenKind) -> Option<u8>
     }
 }
 
-/// Whether this token closes the innermost of the brackets, which stands last.
+/// Whether this token closes the last of the brackets, the innermost one.
 fn closes(kind: TokenKind, brackets: &[Bracket]) -> bool
     ensures { result ≡ spec.closes kind (reverse brackets.now) }
 {
@@ -112,7 +113,7 @@ fn closes(kind: TokenKind, brackets: &[Bracket]) -> bool
     }
 }
 
-/// A token by itself, inside these brackets: the last is the innermost.
+/// Passes a token by itself, inside these brackets: the last is the innermost.
 fn pass(brackets: &mut Vec<Bracket>, token: Token) -> Result<(), AllocError>
     ensures { OnOk result (reverse brackets.new.items ≡ spec.after token (reverse brackets.old.items)) }
 {

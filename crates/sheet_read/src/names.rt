@@ -1,4 +1,4 @@
-//! What the name of a property or of a type stands for.
+//! What the name of a property or of a type means.
 
 ghost use Rattle.std.specs.Prelude.{◌≡◌, IfOk};
 ghost use Rattle.css_model.specs.Sheets.Declarations as declarations;
@@ -26,7 +26,7 @@ pub(crate) fn is_custom(name: &[char]) -> bool
     matches!(name, ['-', '-', ..])
 }
 
-/// The property that a name stands for.
+/// The property of a name.
 pub(crate) fn property_of(alloc: Global, name: Text) -> Result<Text, AllocError>
     ensures { IfOk result (λ t. t ≡ declarations.property_of name) }
 {

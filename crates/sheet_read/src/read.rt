@@ -82,7 +82,7 @@ fn decls_of(alloc: Global, items: Vec<DeclItem>) -> Result<Vec<Decl>, AllocError
     items.into_iter().map(|item| item.decl).collect(alloc)
 }
 
-/// A rule that is kept as it stands, with its declarations, for the reason of this number.
+/// A kept rule with its declarations, for the reason of this number.
 fn kept_rule(
     alloc: Global,
     piece: Piece,
@@ -109,7 +109,7 @@ fn style_rule(selectors: Vec<SelItem>, decls: Vec<DeclItem>) -> Option<Item>
     }
 }
 
-/// A qualified rule with these declarations, if it is not dropped, with room for so many pairs.
+/// A qualified rule with these declarations, if it is not dropped. There is room for so many pairs.
 fn rule_of(
     alloc: Global,
     source: &[u8],
@@ -130,7 +130,7 @@ fn rule_of(
     }
 }
 
-/// An item, if it is not dropped, with room for so many pairs.
+/// An item, if it is not dropped. There is room for so many pairs.
 fn item_of(
     alloc: Global,
     source: &[u8],
@@ -164,8 +164,7 @@ fn start_of(item: &Item) -> u32
     }
 }
 
-/// An item, if it is not dropped, with so many `@import` rules behind it: before these each item is kept
-/// as it stands.
+/// An item, if it is not dropped, with so many `@import` rules after it. Each item before one is kept.
 fn item_before(
     alloc: Global,
     source: &[u8],
@@ -184,7 +183,7 @@ fn item_before(
     }
 }
 
-/// How many of so many `@import` rules stand behind an item.
+/// How many of so many `@import` rules come after an item.
 fn imports_behind(source: &[u8], item: &[Lexeme], imports: usize) -> usize
     requires placed { ArePlaced source.now item.now }
     requires some { spec.is_import source.now item.now ≡ true → 0 < imports }
@@ -197,7 +196,7 @@ fn imports_behind(source: &[u8], item: &[Lexeme], imports: usize) -> usize
     }
 }
 
-/// How many pairs there is room for behind an item.
+/// How many pairs there is room for after an item.
 fn room_behind(room: u64, item: &Item) -> u64
     ensures { result ≡ room - spec.pairs_of item.now }
 {
@@ -210,8 +209,8 @@ fn room_behind(room: u64, item: &Item) -> u64
     }
 }
 
-/// The items of a sheet with so many `@import` rules. A rule with which the pairs become too many may lack
-/// selectors: it is refused, and may have very many.
+/// The items of a sheet with so many `@import` rules. A rule with which the pairs become too many may lack selectors:
+/// the sheet is refused, and the rule may have very many.
 fn items_of(
     alloc: Global,
     source: &[u8],
@@ -272,12 +271,22 @@ fn too_many_pairs(items: &[Item]) -> Option<u32>
     None
 }
 
-/// Reads a style sheet (CSS Syntax 3, sections 3.2, 4 and 5.4). Each piece of it is a range of `source`, in bytes from 0.
+/// The style sheet of a source (CSS Syntax 3, sections 3.2, 4 and 5.4). Each piece of it is a range of `source`, in
+/// bytes from 0.
 ///
-/// `Ok` comes only where the sheet has no fault, and `Fault` only where it has this one, with its place in bytes from 0.
-/// Faults are looked for one after the other, each over the whole sheet, and the first one is told: `TooLong`;
-/// `NotUtf8`; the first `BadString`, `BadUrl` or `EndInside` in the place of a token; `TooDeep`; `EndInside` of a
-/// bracket; `Namespace`; `TooManyItems`; `TooManyPairs`. `NoMemory` comes where memory is short.
+/// `Ok` comes only where the sheet has no fault. `Fault` comes only where it has this one, with its place in bytes from
+/// 0. `NoMemory` comes where memory is short.
+///
+/// Faults are looked for one after the other, each over the whole sheet. The first one is the answer:
+///
+/// - `TooLong`;
+/// - `NotUtf8`;
+/// - the first `BadString`, `BadUrl` or `EndInside` in the place of a token;
+/// - `TooDeep`;
+/// - `EndInside` of a bracket;
+/// - `Namespace`;
+/// - `TooManyItems`;
+/// - `TooManyPairs`.
 pub fn read_sheet(alloc: Global, source: &[u8]) -> Result<Sheet, SheetError>
     ensures { Answers (λ s. s.items) result (sheet_of source.now) }
 {

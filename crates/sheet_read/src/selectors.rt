@@ -13,7 +13,7 @@ use css_model::{Lexeme, SelItem};
 use sel_parse::{SelError, read_selector};
 use std::alloc::{AllocError, Global};
 
-/// A part of a prelude as a selector, without room that it does not use: a sheet may have many.
+/// A part of a prelude as a selector. It takes no room that it does not use, since a sheet may have many.
 fn selector_item(alloc: Global, source: &[u8], part: &[Lexeme]) -> Result<SelItem, SelError>
     requires placed { ArePlaced source.now part.now }
     requires short { length source.now ≤ max_bytes }
@@ -39,7 +39,7 @@ fn has_room(decls: usize, room: u64, selectors: usize) -> bool
     decls > 0 && (selectors as u128) * (decls as u128) <= u128::from(room)
 }
 
-/// Puts a selector behind others, where there is room for it.
+/// Puts a selector after others, where there is room for it.
 fn push_where_room(
     selectors: &mut Vec<SelItem>,
     selector: SelItem,
@@ -55,9 +55,8 @@ fn push_where_room(
     Ok(())
 }
 
-/// The selectors of a rule with so many declarations, or so many of the first ones that there is no room for the
-/// pairs of more; `Outside` exactly where one of them is outside the profile, for the reason against the first such
-/// one.
+/// The selectors of a rule with so many declarations; or its first ones, where there is no room for the pairs of more.
+/// `Outside` exactly where one of them is outside the profile, for the reason against the first such one.
 pub(crate) fn first_selectors(
     alloc: Global,
     source: &[u8],

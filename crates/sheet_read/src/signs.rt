@@ -36,7 +36,7 @@ pub(crate) fn is_delim_of(code: u32, kind: TokenKind) -> bool
     }
 }
 
-/// Whether white space stands here.
+/// Whether this gap is white space.
 pub(crate) fn is_white_gap(gap: Gap) -> bool
     ensures { result ≡ kept.is_white_gap gap }
 {
@@ -53,7 +53,7 @@ pub(crate) fn is_sign_at(sign: u8, level: u32, x: &Lexeme) -> bool
     is_sign_of(sign, x.kind) && x.level == level
 }
 
-/// Whether this sign stands among these.
+/// Whether this sign is among these.
 pub(crate) fn has_sign_at(sign: u8, level: u32, xs: &[Lexeme]) -> bool
     ensures { result ≡ list_any (lexemes.is_sign_at sign level) xs.now }
 {
@@ -68,7 +68,7 @@ fn place(sign: u8, level: u32, xs: &[Lexeme]) -> Option<usize>
     xs.iter().position(|x| is_sign_at(sign, level, x))
 }
 
-/// What stands before the first of this sign, and what stands behind it.
+/// What comes before the first of this sign, and what comes after it.
 pub(crate) fn cut(sign: u8, level: u32, xs: &[Lexeme]) -> (&[Lexeme], Option<&[Lexeme]>)
     ensures first { result.0.now ≡ before_first (lexemes.is_sign_at sign level) xs.now }
     ensures rest { option_map_or (λ rest. rest.now) result.1 [] ≡ after_first (lexemes.is_sign_at sign level) xs.now }
@@ -81,14 +81,14 @@ pub(crate) fn cut(sign: u8, level: u32, xs: &[Lexeme]) -> (&[Lexeme], Option<&[L
     }
 }
 
-/// What stands before the block of an item.
+/// What comes before the block of an item.
 pub(crate) fn prelude(item: &[Lexeme]) -> &[Lexeme]
     ensures { result.now ≡ before_first items.opens_block item.now }
 {
     cut(b'{', 0, item).0
 }
 
-/// What stands inside the block of an item.
+/// What is inside the block of an item.
 pub(crate) fn block(item: &[Lexeme]) -> &[Lexeme]
     ensures { result.now ≡ items.block item.now }
 {
@@ -98,7 +98,7 @@ pub(crate) fn block(item: &[Lexeme]) -> &[Lexeme]
     }
 }
 
-/// From the first to the last of these.
+/// The piece from the first to the last of these.
 pub(crate) fn piece_of(xs: &[Lexeme]) -> Piece
     ensures { result ≡ lexemes.piece_of xs.now }
 {

@@ -9,7 +9,7 @@ use css_model::{Bytes, Lexeme};
 use std::alloc::{AllocError, Global};
 use verbatim_text::{behind_value, between};
 
-/// What stands behind a token of a value, before these others.
+/// What is printed after a token of a value, before these others.
 fn behind(source: &[u8], x: &Lexeme, others: &[Lexeme]) -> &'static [u8]
     requires { IsPlaced source.now x.now }
     ensures { text_at source.now x.now.span ++ result.now ++ text.value_text (map (text.solid source.now) others.now)

@@ -1,5 +1,5 @@
-//! Shapes of pairs of selectors, which show how elements that match both stand to each other, and what a
-//! pair asks for before its shapes are looked for.
+//! Shapes of pairs of selectors: how elements that match both are related. Also what a pair asks for before its shapes
+//! are looked for.
 #![tactic(auto)]
 
 mod parts;

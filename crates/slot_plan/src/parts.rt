@@ -13,7 +13,7 @@ const INLINE: usize = 8;
 /// The steps and offsets of a pair.
 pub(crate) type Parts = SmallVec<AnB, INLINE>;
 
-/// Those of a pair.
+/// The steps and offsets of a pair of selectors.
 pub(crate) fn pair_parts(
     alloc: Global,
     left: &Selector,
@@ -27,7 +27,7 @@ pub(crate) fn pair_parts(
     Ok(parts)
 }
 
-/// Adds those of a selector.
+/// Adds the steps and offsets of a selector.
 #[tactic(auto, using(crate::proofs::GatheredParts::parts_more))]
 fn push_parts(parts: &mut Parts, selector: &Selector) -> Result<(), AllocError>
     ensures { OnOk result (parts.new.items ≡ parts.old.items ++ parts_of selector.now) }
@@ -38,7 +38,7 @@ fn push_parts(parts: &mut Parts, selector: &Selector) -> Result<(), AllocError>
     Ok(())
 }
 
-/// Adds those of a compound.
+/// Adds the steps and offsets of a compound.
 #[tactic(auto, using(crate::proofs::GatheredParts::given_more, crate::proofs::GatheredParts::none_more))]
 fn push_parts_of(parts: &mut Parts, compound: &Compound) -> Result<(), AllocError>
     ensures { OnOk result
@@ -52,7 +52,7 @@ fn push_parts_of(parts: &mut Parts, compound: &Compound) -> Result<(), AllocErro
     Ok(())
 }
 
-/// The step and the offset that a test asks for: an only child is the first one, and the first from the end.
+/// The step and the offset that a test asks for. An only child is the first one, and the first from the end.
 fn part_of(test: &Test) -> Option<AnB>
     ensures { result ≡ part_of test.now }
 {

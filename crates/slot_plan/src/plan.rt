@@ -20,7 +20,7 @@ use thiserror::Error;
 /// Why there is no plan of a pair.
 #[derive(Clone, Copy, Debug, PartialEq, Eq, Error)]
 pub enum PlanError {
-    /// So many positions of the pair have a step of 2 or more in size, which is more than are looked at.
+    /// More positions of the pair have a step of 2 or more in size than are looked at: so many.
     #[error("{0} positions of the pair have a step of 2 or more")]
     NthParts(u32),
     /// There is not enough memory.
@@ -38,8 +38,8 @@ impl From<AllocError> for PlanError {
     }
 }
 
-/// A pair of selectors with at most four positions whose step has a size of 2 or more, and how far its gaps
-/// between siblings have to be looked at.
+/// A pair of selectors with at most four positions whose step has a size of 2 or more, and how far its gaps between
+/// siblings have to be looked at.
 #[derive(Debug, Drop)]
 pub struct PairPlan<'a> {
     left: &'a Selector,
@@ -63,12 +63,11 @@ impl<'a> Model for PairPlan<'a> {
 }
 
 impl<'a> PairPlan<'a> {
-    /// The plan of a pair. Each step of the two selectors is at most 32 and each offset at most 1,000 in size,
-    /// and each selector has at most four positions whose step has a size of 2 or more (Selectors 3, section
-    /// 6.6.5.2).
+    /// The plan of a pair. Each step of the two selectors is at most 32 and each offset at most 1,000 in size, and each
+    /// selector has at most four positions whose step has a size of 2 or more (Selectors 3, section 6.6.5.2).
     ///
-    /// `NthParts` exactly where both have more than four such positions together: its number is how many.
-    /// Otherwise only `NoMemory` may come in place of a plan.
+    /// `NthParts` exactly where both have more than four such positions together; its number is how many. `NoMemory`
+    /// where memory is short.
     #[tactic(auto, using(crate::proofs::SteppedParts::stepped_parts))]
     pub fn new(
         alloc: Global,
@@ -95,14 +94,14 @@ impl<'a> PairPlan<'a> {
         })
     }
 
-    /// The left selector. Takes no memory.
+    /// The left selector.
     pub fn left(&self) -> &Selector
         ensures { result.now ≡ self.now.left }
     {
         self.left
     }
 
-    /// The right selector. Takes no memory.
+    /// The right selector.
     pub fn right(&self) -> &Selector
         ensures { result.now ≡ self.now.right }
     {
@@ -110,7 +109,6 @@ impl<'a> PairPlan<'a> {
     }
 
     /// How far the gaps between siblings have to be looked at, and how many bits hold a number of siblings.
-    /// Takes no memory.
     pub fn bounds(&self) -> Bounds
         ensures value { result ≡ bounds_of (pair_parts self.now.left self.now.right) }
         ensures small { result.width ≤ MAX_WIDTH }

@@ -1,4 +1,4 @@
-//! How the elements stand to each other that two selectors look at.
+//! How the elements that two selectors look at are related.
 
 use std::marker::Model;
 
@@ -15,10 +15,10 @@ pub enum SlotStep {
     UpMore,
 }
 
-/// A shape of two selectors. Its slots are the elements that one of the two matchings looks at: the
-/// element that both select in slot 0, then along its siblings leftwards, then up to an ancestor, and so
-/// on. An element that is reached by a step up is an ancestor of that in slot 0; one that is reached by a
-/// step left is a sibling before that or before such an ancestor.
+/// A shape of two selectors. Its slots are the elements that one of the two matchings looks at. Slot 0 is the element
+/// that both select; then they go along its siblings leftwards, then up to an ancestor, and on in this way. A step up
+/// reaches an ancestor of the element in slot 0. A step left reaches a sibling before that element or before such an
+/// ancestor.
 #[derive(Debug, Drop)]
 pub struct Shape {
     /// The steps: the k-th leads from slot k to slot k + 1.
@@ -27,9 +27,9 @@ pub struct Shape {
     pub left: Vec<u32>,
     /// The slots of the compounds of the right selector, in the order of its chain.
     pub right: Vec<u32>,
-    /// How many siblings stand before the element in each slot.
+    /// How many siblings are before the element in each slot.
     pub before: Vec<u32>,
-    /// How many siblings stand behind it.
+    /// How many siblings are after the element in each slot.
     pub after: Vec<u32>,
     /// Whether the last slot is that of the root.
     pub top_is_root: bool,

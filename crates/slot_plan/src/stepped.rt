@@ -21,7 +21,7 @@ pub(crate) fn count_stepped(selector: &Selector) -> u32
     count
 }
 
-/// The same for a compound.
+/// How many positions of a compound have a step of 2 or more in size.
 fn stepped_in(compound: &Compound) -> u32
     requires { count_by (λ s. is_stepped_test s.test) compound.now ≤ max_stepped }
     ensures { result ≡ count_by (λ s. is_stepped_test s.test) compound.now }
@@ -35,7 +35,7 @@ fn stepped_in(compound: &Compound) -> u32
     count
 }
 
-/// Whether a test is that of a position with such a step.
+/// Whether a test is that of a position whose step has a size of 2 or more.
 fn is_stepped_test(test: &Test) -> bool
     ensures { result ≡ is_stepped_test test.now }
 {

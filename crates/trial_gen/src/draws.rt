@@ -1,10 +1,9 @@
-//! The numbers that a made sheet is made of.
+//! The numbers from which a sheet is made.
 
 ghost use Rattle.std.specs.Prelude.{◌≡◌, ◌<◌, ◌^◌};
 ghost use Rattle.trial_gen.specs.Draws.{drawn, next};
 
-/// A generator of numbers that look drawn at random: the example `rand` of the C standard (C11,
-/// section 7.22.2.2).
+/// A generator of numbers that look drawn at random: the example `rand` of the C standard (C11, section 7.22.2.2).
 #[derive(Drop)]
 pub(crate) struct Draws {
     state: u32,

@@ -55,7 +55,7 @@ fn push_rule(sheet: &mut Vec<u8>, selector: u32, declaration: u32) -> Result<(),
     sheet.extend_from_slice(b"}")
 }
 
-/// A sheet of `n` rules, which is the same at each call. `n` is at most 2,000.
+/// A sheet of `n` rules, as bytes: the same at each call. `n` is at most 2,000. `AllocError` where memory runs out.
 pub fn make_sheet(alloc: Global, n: u32) -> Result<Vec<u8>, AllocError>
     requires { n ≤ 2000 }
     ensures { IfOk result (λ sheet. sheet.items ≡ made_sheet n) }

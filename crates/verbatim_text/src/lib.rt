@@ -1,5 +1,5 @@
-//! The text that stands between tokens which are printed as they stand: as little as possible, so that they are
-//! read back (CSS Syntax 3, section 10, asks of a serialisation that it reads back). It takes no memory.
+//! The text between tokens that are printed as they are: as little as possible, so that they are read back.
+//! CSS Syntax 3, section 10, asks of a serialisation that it reads back. It takes no memory.
 #![tactic(auto)]
 
 ghost use Rattle.std.specs.Prelude.{◌≡◌, ◌∷◌, [], List, ℕ, MatchOption};
@@ -11,14 +11,14 @@ ghost use Rattle.css_model.specs.Text.Lexemes as lexemes;
 use css_model::{Gap, Token, TokenKind};
 use css_tokens::ends_open;
 
-/// Whether this is white space.
+/// Whether a token of this kind is white space.
 pub fn is_white(kind: TokenKind) -> bool
     ensures { result ≡ lexemes.is_white_kind kind }
 {
     matches!(kind, TokenKind::White)
 }
 
-/// What stands before a token, which is the next one behind another, or before the end.
+/// What is between a token and this next one, or the end.
 pub fn gap_before(next: Option<Token>) -> Gap
     ensures { MatchOption next (result ≡ lexemes.gap_of []) (λ token. (others : List Token) → result ≡ lexemes.gap_of (token ∷ others)) }
 {
@@ -49,7 +49,7 @@ fn is_lone(kind: TokenKind) -> bool
     matches!(kind, TokenKind::Delim(0x5C))
 }
 
-/// What stands for what is behind a token of these bytes that is no lone backslash.
+/// What is printed for a gap after a token of these bytes that is no lone backslash.
 pub fn gap_text(text: &[u8], gap: Gap) -> &'static [u8]
     ensures { result.now ≡ kept.gap_text text.now gap }
 {
@@ -71,14 +71,14 @@ pub fn between(kind: TokenKind, text: &[u8], gap: Gap) -> &'static [u8]
     }
 }
 
-/// What is printed behind the last token of a text that is kept.
+/// What is printed after the last token of a text that is kept.
 pub fn behind_last(kind: TokenKind) -> &'static [u8]
     ensures { (bytes : List ℕ) (gap : Gap) → result.now ≡ kept.behind_last (record { kind = kind; bytes = bytes; gap = gap }) }
 {
     if is_lone(kind) { b"\n" } else { b"" }
 }
 
-/// What is printed behind the last token of a value, which has these bytes.
+/// What is printed after the last token of a value, which has these bytes.
 pub fn behind_value(kind: TokenKind, text: &[u8], gap: Gap) -> &'static [u8]
     ensures { result.now ≡ kept.behind_value (record { kind = kind; bytes = text.now; gap = gap }) }
 {
