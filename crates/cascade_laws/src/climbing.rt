@@ -1,4 +1,4 @@
-//! The laws. They do nothing when they run.
+//! What climbing over the lines of a document finds, as functions that do nothing.
 
 ghost use Rattle.cascade_laws.specs.Eval.Climbing.{MatchingIsClimbing};
 ghost use Rattle.cascade_laws.specs.Eval.Repeating.{RepeatingChangesNothing};
@@ -8,8 +8,8 @@ pub fn matching_is_climbing()
     ensures { MatchingIsClimbing }
 {}
 
-/// Where so many elements side by side leave all that is known as it was, and what the selector's compounds ask
-/// repeats after so many, more of them leave it too.
+/// More equal elements side by side change nothing, where so many leave all that is known as it was, and what the
+/// selector's compounds ask repeats after so many.
 pub fn repeating_changes_nothing()
     ensures { RepeatingChangesNothing }
 {}

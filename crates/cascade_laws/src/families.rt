@@ -1,4 +1,4 @@
-//! The two forms of relating names agree, as the contract of a function that does nothing.
+//! The two forms of relating names agree, as a function that does nothing.
 
 ghost use Rattle.cascade_laws.specs.Families.{RelatingIsDecided};
 

@@ -1,4 +1,4 @@
-//! What keeps every winner, each law as the contract of a function that does nothing.
+//! What keeps every winner, as functions that do nothing.
 
 ghost use Rattle.cascade_laws.specs.Joining.{OrderDecidesWinner, AlikeWinsAlike, AlikeBehindAnItem, JoiningAppliesAlike, JoiningKeepsWinners, JoiningASetKeepsWinners, PiecesDoNotCount};
 
@@ -13,7 +13,7 @@ pub fn alike_wins_alike()
     ensures { AlikeWinsAlike }
 {}
 
-/// Lists of items that apply alike still do so behind one more item.
+/// Lists of items that apply alike still do so after one more item.
 pub fn alike_behind_an_item()
     ensures { AlikeBehindAnItem }
 {}

@@ -1,5 +1,5 @@
-//! The laws of matching and of the cascade: functions that do nothing, whose contracts are the laws, and the proofs
-//! of these.
+//! The laws of matching and of the cascade: functions that do nothing, whose contracts are the laws, and the proofs of
+//! these.
 //!
 //! - `matching`, `winning`, `joining`, `families`: what matches, what wins, and what joining rules keeps.
 //! - `meanings`: what kept items mean.

@@ -1,4 +1,4 @@
-//! The two forms of matching agree (Selectors 3), each law as the contract of a function that does nothing.
+//! The two forms of matching agree (Selectors 3), as functions that do nothing.
 
 ghost use Rattle.cascade_laws.specs.Matching.{PassingIsDecided, MatchingIsDecided};
 

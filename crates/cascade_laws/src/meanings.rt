@@ -1,5 +1,4 @@
-//! What a kept item means counts by its winner alone, each law as the contract of a function that does
-//! nothing.
+//! What a kept item means counts by its winner alone, as functions that do nothing.
 
 ghost use Rattle.cascade_laws.specs.Meaning.Meanings.{MeaningsCountByWinners, SheetMeansItsWinner};
 

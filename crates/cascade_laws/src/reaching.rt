@@ -1,11 +1,11 @@
-//! What stands around an element, what is known where it stands, and how a line leads to the marked one.
+//! What is around an element, what is known at its place, and how a line leads to the marked one.
 
-/// What stands around an element of a document (Selectors 3, section 6.6.5).
+/// What is around an element of a document (Selectors 3, section 6.6.5).
 #[derive(Clone, Copy, Debug, PartialEq, Eq)]
 pub struct Surroundings {
-    /// How many siblings stand before it.
+    /// How many siblings are before it.
     pub before: u32,
-    /// How many siblings stand behind it.
+    /// How many siblings are after it.
     pub behind: u32,
     /// Whether it is the root.
     pub is_root: bool,
@@ -35,20 +35,20 @@ pub struct Reached {
 pub enum Role {
     /// It is the marked line.
     Marked,
-    /// The marked line stands below it.
+    /// The marked line is below it.
     Above,
-    /// It stands beside such a line, or beside the marked one, before it.
+    /// It is beside such a line, or beside the marked one, before it.
     Beside,
-    /// It stands below a line beside.
+    /// It is below a line beside.
     Apart,
 }
 
-/// How a line leads to the marked one, and what stands behind it and below it.
+/// How a line leads to the marked one, and what is after it and below it.
 #[derive(Clone, Copy, Debug, PartialEq, Eq)]
 pub struct Standing {
     /// How it leads there.
     pub role: Role,
-    /// How many siblings stand behind its elements.
+    /// How many siblings are after its elements.
     pub behind: u128,
     /// Whether its elements have children.
     pub has_children: bool,

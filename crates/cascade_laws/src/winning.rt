@@ -1,5 +1,4 @@
-//! What applies, outranks and wins, in the words of CSS Cascading 3, each law as the contract of a
-//! function that does nothing.
+//! What applies, outranks and wins, in the words of CSS Cascading 3, as functions that do nothing.
 
 ghost use Rattle.cascade_laws.specs.Winning.{AppliedIsWhatApplies, OutrankingIsDecided, UnderstandingIsDecided, WinnerIsGreatest, GreatestIsWinner, NoWinnerIsNoneUnderstood};
 

@@ -1,6 +1,6 @@
-//! From a plan to what is written: the text of a sheet that was read and merged, each step the next one by true
-//! answers until nothing was left to do, is one whose sheet has the same winners, in which nothing is left to
-//! do either.
+//! From a plan to what is written: the sheet of a merged text has the same winners in every legal document, and nothing
+//! is left to do in it. The text is that of a sheet that was read and merged, each step the next one by true answers,
+//! until nothing was left to do.
 #![tactic(auto)]
 
 mod merged;

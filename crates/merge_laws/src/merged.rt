@@ -8,8 +8,8 @@ use print_laws::{printed_is_no_longer, printed_reads_back, printed_reads_back_as
 use sheet_laws::read_is_sound;
 use step_laws::{each_is_made_of_itself, steps_make_of};
 
-/// Where steps lead from a sound sheet is made of its parts, with its kept items in their places and no more
-/// items than a sheet may have.
+/// Where steps lead from a sound sheet is made of its parts, with its kept items in their places and no more items than
+/// a sheet may have.
 pub fn leading_makes_of()
     ensures { LeadingMakesOf }
 {
@@ -17,8 +17,9 @@ pub fn leading_makes_of()
     steps_make_of();
 }
 
-/// A sheet that was read, planned by true answers until nothing was left to do, and printed: what is written is
-/// no longer than what was read, has the same winners, and nothing is left to do in it.
+/// What is written of a planned sheet is no longer than what was read, has the same winners in every legal document,
+/// and nothing is left to do in it. The sheet was read, planned by true answers until nothing was left to do, and
+/// printed.
 pub fn planned_is_merged()
     ensures { PlannedIsMerged }
 {

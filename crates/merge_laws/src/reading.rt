@@ -5,7 +5,7 @@ ghost use Rattle.merge_laws.specs.Reading.{ReadIsPlannable, ReadKeepsTheLimits};
 use print_laws::printed_is_no_longer;
 use sheet_laws::read_is_sound;
 
-/// A source that is read without a fault is no longer than a sheet may be, and what it is read as has no more
+/// What a source is read as keeps the limits: the source is no longer than a sheet may be, and the sheet has no more
 /// items and pairs than one may have.
 pub fn read_keeps_the_limits()
     ensures { ReadKeepsTheLimits }

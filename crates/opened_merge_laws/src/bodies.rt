@@ -7,7 +7,7 @@ use media_groups::opened_blocks_are_sheets;
 use merge_laws::{leading_makes_of, read_keeps_the_limits};
 use sheet_laws::read_is_sound;
 
-/// What plans of the bodies of the opened blocks of items lead to may be printed inside these blocks.
+/// Sheets to which plans of the bodies of opened blocks lead may be printed inside these blocks.
 pub fn planned_bodies_are_sound()
     ensures { PlannedBodiesAreSound }
 {

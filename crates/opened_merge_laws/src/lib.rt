@@ -1,6 +1,6 @@
-//! From plans to what is written, where blocks of media are opened: the text of a sheet that was read and merged, and
-//! each opened body of it by itself, is one whose sheet has the same winners in every scene, and in which nothing is
-//! left to do either.
+//! From plans to what is written, where blocks of media are opened: the sheet of a merged text has the same winners in
+//! every legal document and scene, and nothing is left to do in it. The text is that of a sheet that was read and
+//! merged, and each opened body of it by itself.
 #![tactic(auto)]
 
 mod bodies;

@@ -1,4 +1,4 @@
-//! What is written of a sheet that was merged with its opened blocks, each law as the contract of a function that does nothing.
+//! What is written of a sheet that was merged with its opened blocks, as functions that do nothing.
 
 ghost use Rattle.opened_merge_laws.specs.Merged.{PlannedIsMergedOpened};
 ghost use Rattle.opened_merge_laws.specs.Told.{PlannedIsToldOpened};
@@ -14,7 +14,7 @@ use plan_laws::{
 };
 use sheet_laws::read_is_sound;
 
-/// Both laws, which stand on the same ones.
+/// The two laws on what is written, which have the same lemmas.
 fn planned_is_written()
     ensures merged { PlannedIsMergedOpened }
     ensures told { PlannedIsToldOpened }
@@ -36,16 +36,17 @@ fn planned_is_written()
     bodies_count_by_winners();
 }
 
-/// A sheet that was read and planned by true answers until nothing was left to do, and so was each body of its opened blocks, and
-/// that was printed with these bodies: what is written is no longer than what was read, has the same winners in every scene, and
-/// nothing is left to do in it, nor in any body of its opened blocks.
+/// What is written of a sheet with opened blocks is no longer than what was read, has the same winners in every legal
+/// document and scene, and nothing is left to do in it, nor in any body of its opened blocks. The sheet was read and
+/// planned by true answers until nothing was left to do, each body of its opened blocks too, and it was printed with
+/// these bodies.
 pub fn planned_is_merged_opened()
     ensures { PlannedIsMergedOpened }
 {
     planned_is_written();
 }
 
-/// What is written then has as many items as the planned sheets together.
+/// What is written of a sheet with opened blocks has as many items as the planned sheets together.
 pub fn planned_is_told_opened()
     ensures { PlannedIsToldOpened }
 {

@@ -11,8 +11,8 @@ pub fn weighing_is_decided()
     relating_is_decided();
 }
 
-/// Which of two pairs comes last before the other, and whether a pair comes last before a kept item, in
-/// words and by the test, agree (by the order of appearance, CSS Cascading 3, section 6).
+/// The order of appearance (CSS Cascading 3, section 6) in words and by the test agree: which of two pairs comes last
+/// before the other, and whether a pair comes last before a kept item.
 pub fn order_is_decided()
     ensures { OrderIsDecided }
 {}

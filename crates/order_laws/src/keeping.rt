@@ -7,8 +7,8 @@ ghost use Rattle.order_laws.specs.Keeping.{
   KeepingGoesOn,
 };
 
-/// A sheet that keeps another one has its winners, in every legal document, for every target, whatever
-/// its kept items mean, and of all understood declarations that compete (CSS Cascading 3, section 6).
+/// A sheet that keeps another one has its winners in every legal document (CSS Cascading 3, section 6). It holds for
+/// every target, whatever the kept items mean, and of all understood declarations that compete.
 pub fn keeping_keeps_winners()
     ensures { KeepingKeepsWinners }
 {}
@@ -23,7 +23,7 @@ pub fn keeping_is_mutual()
     ensures { KeepingIsMutual }
 {}
 
-/// What keeps a sheet that keeps another one keeps this one too.
+/// What keeps a sheet that keeps another one keeps that one too.
 pub fn keeping_goes_on()
     ensures { KeepingGoesOn }
 {}

@@ -5,8 +5,7 @@ ghost use Rattle.plan_laws.specs.Wall.SideBySide.{SavingsGoOn, StepsAreSideBySid
 use order_laws::unmoved_keep_their_order;
 use step_laws::{cuts_rearrange, steps_rearrange, steps_weigh};
 
-/// A step, and a join or share that takes none of its items, are side by side: each may be taken behind the
-/// other.
+/// A step, and a join or share that takes none of its items, are side by side: each may be taken after the other.
 pub fn steps_are_side_by_side()
     ensures { StepsAreSideBySide }
 {
@@ -15,12 +14,12 @@ pub fn steps_are_side_by_side()
     unmoved_keep_their_order();
 }
 
-/// A join or share behind an edit, of two items that the edit left, comes from one of the sheet before it.
+/// A join or share after an edit, of two items that the edit left, comes from one of the sheet before it.
 pub fn steps_come_back()
     ensures { StepsComeBack }
 {}
 
-/// A step saves the same where its rules stand at other numbers of another sheet.
+/// A step saves the same where its rules have other numbers in another sheet.
 pub fn savings_go_on()
     ensures { SavingsGoOn }
 {

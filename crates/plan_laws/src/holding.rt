@@ -11,9 +11,12 @@ pub fn hindered_is_blocked()
     ensures { HinderedIsBlocked }
 {}
 
-/// Each join or share of a sheet that saves waits or is set aside with what blocks it: so it is behind a step,
-/// where what waits or is set aside of other items stays at its new numbers, where what was set aside for a
-/// moved pair waits again, and where the steps of new items wait.
+/// Each join or share of a sheet that saves waits, or is set aside with what blocks it; it is so after a step too, on
+/// three conditions:
+///
+/// - What waits or is set aside of other items stays, at its new numbers.
+/// - What was set aside for a moved pair waits again.
+/// - The steps of new items wait.
 pub fn holding_goes_on()
     ensures { HoldingGoesOn }
 {
@@ -24,8 +27,8 @@ pub fn holding_goes_on()
     steps_stay_sound();
 }
 
-/// Where each join or share is held, and each cut that saves waits or is blocked, each step that saves is blocked
-/// or something waits that does not come later.
+/// Each step that saves is blocked or something waits that does not come later, where each join or share is held, and
+/// each cut that saves waits or is blocked.
 pub fn held_is_covered()
     ensures { HeldIsCovered }
 {}

@@ -2,7 +2,7 @@
 
 ghost use Rattle.plan_laws.specs.Limit.PairLimit.{PlannedComesFrom, RepeatsAreCut, StepsKeepPairsFew};
 
-/// No step makes the pairs of a sheet more, where a selector that a rule repeats counts once.
+/// No step gives a sheet more pairs, where a selector that a rule repeats counts once.
 pub fn steps_keep_pairs_few()
     ensures { StepsKeepPairsFew }
 {}
@@ -12,8 +12,8 @@ pub fn repeats_are_cut()
     ensures { RepeatsAreCut }
 {}
 
-/// A sheet to which steps lead from one that is read, and in which every step that saves something is
-/// blocked, comes from the sheet that is read: it keeps the limit of pairs too.
+/// A sheet comes from the one that is read, and keeps the limit of pairs too, where steps lead to it and every step of
+/// it that saves something is blocked.
 pub fn planned_comes_from()
     ensures { PlannedComesFrom }
 {}

@@ -11,12 +11,12 @@ ghost use Rattle.plan_laws.specs.Wall.Renumbering.{
 
 use order_laws::unmoved_keep_their_order;
 
-/// An item that an edit leaves stands at its new number behind it.
+/// An item that an edit leaves has its new number after it.
 pub fn items_stay()
     ensures { ItemsStay }
 {}
 
-/// It stands before those that stood behind it.
+/// Numbers ascend: an item that an edit leaves is before those that were after it.
 pub fn numbers_ascend()
     ensures { NumbersAscend }
 {}
@@ -26,19 +26,20 @@ pub fn edits_commute()
     ensures { EditsCommute }
 {}
 
-/// A join or a share of two rules that an edit leaves is one behind it, with new numbers.
+/// A join or a share of two rules that an edit leaves is one after it too, with new numbers.
 pub fn joins_stay()
     ensures { JoinsStay }
 {}
 
-/// Two pairs that a step reverses are reversed by it behind another step, too, which moves neither of them.
+/// Two pairs that a step reverses are reversed by it after another step too, if that one moves neither of them.
 pub fn hindrances_go_on()
     ensures { HindrancesGoOn }
 {
     unmoved_keep_their_order();
 }
 
-/// The same of a pair and a kept item.
+/// A pair and a kept item that a step reverses are reversed by it after another step too, if that one does not move the
+/// pair.
 pub fn kept_hindrances_go_on()
     ensures { KeptHindrancesGoOn }
 {

@@ -7,25 +7,24 @@ ghost use Rattle.plan_laws.specs.Wall.Walls.{
   WallsStay,
 };
 
-/// A pair of a rule that would come to stand before another one, with which it weighs and which stands behind
-/// a place of the sheet: it is reversed with that one in each join of the rule with one above that place.
+/// A pair of a rule hinders the rule from moving up past a place of the sheet, where it would come before another pair
+/// that it weighs with, after that place. The two are reversed in each join of the rule with one above that place.
 pub fn walls_hinder()
     ensures { WallsHinder }
 {}
 
-/// The first kept item behind a place of the sheet hinders in the same way.
+/// The first kept item after a place of the sheet hinders a rule from moving up in the same way as a pair.
 pub fn kept_walls_hinder()
     ensures { KeptWallsHinder }
 {}
 
-/// A wall stays one, at the number that its rule then has, where no item with one of its two pairs comes or
-/// goes.
+/// A wall stays one, at the number that its rule then has, where no item with one of its two pairs comes or goes.
 pub fn walls_stay()
     ensures { WallsStay }
 {}
 
-/// A pair of a rule that would come to stand behind another one, with which it weighs and which stands before
-/// a place of the sheet and not behind it: it is reversed with that one in each join of the rule with one
+/// A pair of a rule hinders the rule from moving down past a place of the sheet, where it would come after another pair
+/// that it weighs with, before that place and not after it. The two are reversed in each join of the rule with one
 /// below that place.
 pub fn floors_hinder()
     ensures { FloorsHinder }

@@ -1,24 +1,24 @@
-//! The laws. They do nothing when they run.
+//! What printed sheets are read back as, as functions that do nothing.
 
 ghost use Rattle.print_laws.specs.Printing.{PrintedIsNoLonger, PrintedReadsBack, PrintedReadsBackAsTwin};
 ghost use Rattle.print_laws.specs.Replaced.{ReplacedReadsBack};
 ghost use Rattle.print_laws.specs.Profile.{PrintedSelectorsAreRead, SelectorsAreInProfile};
 
-/// The printed text of a sheet that was read, or of one that is made of its parts with its kept items in
-/// their places, is read back as that sheet up to spelling, and printed again it is the same text. The
-/// sheet has no more items and pairs than one may have, and the text no more bytes.
+/// The printed text of a sheet is read back as that sheet up to spelling, and printed again it is the same text. The
+/// sheet was read, or is made of the parts of one that was, with its kept items in their places. It has no more items
+/// and pairs than one may have, and its text no more bytes.
 pub fn printed_reads_back()
     ensures { PrintedReadsBack }
 {}
 
-/// What that text is read back as is the twin of the sheet: item by item, and in rules selector by selector
-/// and declaration by declaration, it says the same and is printed alike.
+/// The printed text of a sheet is read back as its twin. Item by item, and in rules selector by selector and
+/// declaration by declaration, the twin says the same and is printed alike.
 pub fn printed_reads_back_as_twin()
     ensures { PrintedReadsBackAsTwin }
 {}
 
-/// Where whole blocks stand in the places of kept blocks, the printed text is read back as these items too, one by one as
-/// twins, and printed again it is the same text.
+/// Where whole blocks are in the places of kept blocks, the printed text is read back as these items too, one by one as
+/// twins. Printed again it is the same text.
 pub fn replaced_reads_back()
     ensures { ReplacedReadsBack }
 {}
@@ -29,7 +29,7 @@ pub fn printed_is_no_longer()
 {}
 
 /// The printed text of a selector of a sheet that was read, by itself, is read as this selector, and is no longer than
-/// a sheet may be. So each selector of a sheet that is made of its parts is in the profile.
+/// a sheet may be. Each selector of a sheet that is made of its parts is then in the profile.
 pub fn selectors_are_in_the_profile()
     ensures one { PrintedSelectorsAreRead }
     ensures all { SelectorsAreInProfile }

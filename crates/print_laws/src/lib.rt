@@ -1,5 +1,5 @@
-//! Laws on the printed text of a style sheet: that it is read back, that it is no longer than its source, and that the
-//! text of each selector is read as this selector. They stand on definitions, and no function that prints needs them.
+//! Laws on the printed text of a style sheet: it is read back, it is no longer than its source, and the text of each
+//! selector is read as this selector. They speak of definitions, and no function that prints needs them.
 #![tactic(auto)]
 
 mod laws;

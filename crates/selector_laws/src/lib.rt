@@ -1,5 +1,5 @@
-//! Laws on how a selector text is read: what is read is derived by the grammar and keeps to the limits, and what
-//! stands where each reason against a text comes. No function that reads or prints needs them.
+//! Laws on how a selector text is read: what is read is derived by the grammar and keeps to the limits, and each reason
+//! against a text has its place. No function that reads or prints needs them.
 #![tactic(auto)]
 
 mod laws;

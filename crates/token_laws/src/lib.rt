@@ -1,6 +1,6 @@
-//! Laws on the tokens of a text that need long proofs: where a token ends before another rest of the text, what a
-//! white space behind it does, and that the text of tokens that are kept as they stand is read back. They stand on
-//! definitions, and no function that reads or prints needs them.
+//! Laws on the tokens of a text that need long proofs: where a token ends before another rest of the text, what a white
+//! space after it does, and that the text of kept tokens is read back. They speak of definitions, and no function that
+//! reads or prints needs them.
 #![tactic(auto)]
 
 mod laws;
