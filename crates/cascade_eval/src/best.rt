@@ -8,7 +8,8 @@ ghost use Rattle.css_model.specs.Lists.{same_text};
 use crate::entries::Entry;
 use css_model::Text;
 
-/// The greatest of those that have a name, by importance, then specificity, then place; of equal ones the last.
+/// The greatest declaration of those that have a name, by importance, then specificity, then place. Of equal ones it is
+/// the last.
 pub(crate) fn best_of<'a>(entries: &[Entry<'a>], name: &Text) -> Option<Entry<'a>>
     ensures { result ≡ greatest (filter (λ e. same_text e.decl.name name.now) entries.now) }
 {
@@ -31,7 +32,7 @@ fn has_name(entry: &Entry<'_>, name: &Text) -> bool
     entry.decl.name == *name
 }
 
-/// The greater of an entry and perhaps another one; of equal ones the other.
+/// The greater of an entry and perhaps another one. Of equal ones it is the other.
 fn greater<'a>(entry: &Entry<'a>, best: &Option<Entry<'a>>) -> Entry<'a>
     ensures { Some result ≡ greater entry.now best.now }
 {
@@ -68,7 +69,7 @@ fn outranks(e: &Entry<'_>, f: &Entry<'_>) -> bool
     decides(importance(e), importance(f), weight)
 }
 
-/// Whether the first of two numbers is greater; where they are equal, what is told decides.
+/// Whether the first of two numbers is greater. Where they are equal, `rest` decides.
 fn decides(x: u64, y: u64, rest: bool) -> bool
     ensures { result ≡ (nat_lt y x || x == y && rest) }
 {

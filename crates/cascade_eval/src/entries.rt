@@ -64,7 +64,7 @@ pub(crate) fn entries<'a>(
     Ok(found)
 }
 
-/// Puts what an item applies behind the others.
+/// Puts what an item applies after the others.
 fn push_item<'a>(
     found: &mut Vec<Entry<'a>>,
     alloc: Global,
@@ -107,7 +107,7 @@ fn weights(
     Ok(weights)
 }
 
-/// Puts declarations of an item, with each of these specificities, behind the others.
+/// Puts declarations of an item, with each of these specificities, after the others.
 fn push_decls<'a>(
     found: &mut Vec<Entry<'a>>,
     decls: &'a [DeclItem],
@@ -126,7 +126,7 @@ fn push_decls<'a>(
     Ok(())
 }
 
-/// Puts a declaration, with each of these specificities, behind the others.
+/// Puts a declaration, with each of these specificities, after the others.
 fn push_decl<'a>(
     found: &mut Vec<Entry<'a>>,
     decl: &'a Decl,

@@ -29,7 +29,7 @@ fn all_names(alloc: Global, entries: &[Entry<'_>]) -> Result<Vec<Text>, AllocErr
     Ok(names)
 }
 
-/// The name of one.
+/// The name of an entry.
 fn name_of(entry: &Entry<'_>) -> Result<Text, AllocError>
     ensures { IfOk result (λ name. name ≡ entry.now.decl.name) }
 {

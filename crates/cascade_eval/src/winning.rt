@@ -16,9 +16,9 @@ use crate::won::Won;
 use css_model::{Example, Sheet, Text};
 use std::alloc::{AllocError, Global};
 
-/// For each name of a declaration that a rule of a sheet applies to the target of an example, the declaration that
-/// wins (CSS Cascading 3, section 6), ascending by the names' code points. What kept items apply does not count.
-/// Fails where memory runs out.
+/// The declarations that win for the target of an example: one for each name of a declaration that a rule of a sheet
+/// applies to it (CSS Cascading 3, section 6). They ascend by the names' code points. What kept items apply does not
+/// count. `AllocError` where memory runs out.
 pub fn winners(alloc: Global, x: &Example, sheet: &Sheet) -> Result<Vec<Won>, AllocError>
     requires rules { KeepsRules x.now }
     requires small { AllByRecursion HasSmallSelectors sheet.now.items }

@@ -33,7 +33,8 @@ fn are_apart(chain: &[Compound]) -> bool
     true
 }
 
-/// Whether a compound asks for no id that one of a chain asks for, other than the k-th where both stand together.
+/// Whether a compound asks for no id that one of a chain asks for. The k-th of the chain does not count where both are
+/// together.
 #[tactic(auto, using(crate::proofs::Apart::apart_found))]
 pub(crate) fn is_apart(simples: &[Simple], chain: &[Compound], beside: bool, k: usize) -> bool
     ensures { result ≡ apart_in simples.now chain.now (length chain.now) beside k }
@@ -46,7 +47,7 @@ pub(crate) fn is_apart(simples: &[Simple], chain: &[Compound], beside: bool, k: 
     true
 }
 
-/// Whether two compounds stand together, or ask for no id both.
+/// Whether two compounds are together, or do not both ask for an id.
 fn may_stand(simples: &[Simple], others: &[Simple], beside: bool, i: usize, k: usize) -> bool
     ensures { result ≡ ((beside && (i == k)) || not (share_id simples.now others.now)) }
 {
@@ -60,7 +61,7 @@ fn share_id(simples: &[Simple], others: &[Simple]) -> bool
     share(simples, others)
 }
 
-/// The same, one simple selector after the other.
+/// Whether two compounds ask for one id, one simple selector after the other.
 fn share(simples: &[Simple], others: &[Simple]) -> bool
     ensures { result ≡ share simples.now others.now }
 {

@@ -1,4 +1,4 @@
-//! The formula of a pair of selectors, which can be satisfied exactly where a shape fits both of them.
+//! The formula of a pair of selectors, satisfied by some values exactly where a shape fits both of them.
 #![tactic(auto)]
 
 mod ids;

@@ -50,7 +50,7 @@ pub(crate) fn add_nodes(
     Ok(())
 }
 
-/// The same for a row of cells.
+/// Adds that no node of a row of cells is true which the combinators, `:empty`, ids or features refuse.
 #[tactic(auto, using(crate::proofs::Adding::added_each))]
 fn add_node_row(
     f: &mut Formula,
@@ -74,7 +74,7 @@ fn add_node_row(
     Ok(())
 }
 
-/// The same for a cell.
+/// Adds that no node of a cell is true which the combinators, `:empty`, ids or features refuse.
 #[tactic(auto, using(crate::proofs::Noded::cell_added))]
 fn add_cell(
     f: &mut Formula,
@@ -185,7 +185,7 @@ fn together_fits(
                 && is_pair_fit(fits, links_of(left).len(), links_of(right).len(), i, j)))
 }
 
-/// Whether some element passes two compounds that stand together.
+/// Whether some element passes two compounds that are together.
 #[tactic(auto, using(crate::proofs::Noded::pair_fit_reads, crate::proofs::Cells::pairs_few))]
 fn is_pair_fit(fits: &[Option<Features>], left: usize, right: usize, i: usize, j: usize) -> bool
     requires left { left < 12 }
@@ -217,7 +217,7 @@ fn empty_fits(parent: bool, first: &[Simple], second: &[Simple]) -> bool
     !some_asks_empty(false, first, second) || !parent && !some_asks_empty(true, first, second)
 }
 
-/// Whether `:empty` is asked by one of them, or its negation.
+/// Whether one of two compounds asks for `:empty`, or for its negation.
 #[tactic(auto, using(crate::proofs::Noded::asks_both))]
 fn some_asks_empty(negated: bool, first: &[Simple], second: &[Simple]) -> bool
     ensures { result ≡ asks_empty negated (first.now ++ second.now) }
@@ -225,7 +225,7 @@ fn some_asks_empty(negated: bool, first: &[Simple], second: &[Simple]) -> bool
     asks_empty(negated, first) || asks_empty(negated, second)
 }
 
-/// The same for one compound.
+/// Whether a compound asks for `:empty`, or for its negation.
 fn asks_empty(negated: bool, simples: &[Simple]) -> bool
     ensures { result ≡ asks_empty negated simples.now }
 {

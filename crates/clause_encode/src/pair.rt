@@ -26,9 +26,8 @@ use sibling_clauses::{Numbering, add_numbers, add_root, add_tests, links_of, num
 use slot_plan::PairPlan;
 use std::alloc::{AllocError, Global};
 
-/// The formula of a pair, by the table of its two selectors: it can be satisfied exactly where a shape fits both
-/// whose numbers of siblings are below `2^width` for the width of the plan's bounds. `AllocError` where memory
-/// runs out.
+/// The formula of a pair, by the table of its two selectors. It can be satisfied exactly where a shape fits both whose
+/// numbers of siblings are below `2^width`, for the width of the plan's bounds. `AllocError` where memory runs out.
 pub fn encode(alloc: Global, plan: &PairPlan<'_>, fits: &FitTable) -> Result<Formula, AllocError>
     requires table { IsTable fits.now plan.now.left plan.now.right }
     requires left { KeepsLimits plan.now.left }
@@ -43,7 +42,7 @@ pub fn encode(alloc: Global, plan: &PairPlan<'_>, fits: &FitTable) -> Result<For
     Ok(f)
 }
 
-/// How the variables of the formula of a pair are numbered. Takes no memory.
+/// How the variables of the formula of a pair are numbered.
 pub fn numbering(plan: &PairPlan<'_>) -> Numbering
     requires left { KeepsLimits plan.now.left }
     requires right { KeepsLimits plan.now.right }

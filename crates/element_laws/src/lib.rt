@@ -1,5 +1,4 @@
-//! The elements that are chosen for the slots of a shape suit them: a law, as the contract of a function that does
-//! nothing.
+//! The elements that are chosen for the slots of a shape suit them: a law, as a function that does nothing.
 #![tactic(auto)]
 
 mod choosing;

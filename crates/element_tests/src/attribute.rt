@@ -141,7 +141,7 @@ fn is_white(c: char) -> bool
     c <= ' ' && matches!(c, ' ' | '\t' | '\n' | '\r' | '\u{c}')
 }
 
-/// Whether a word stands behind white space.
+/// Whether a text has a word after white space.
 fn has_word_later(text: &[char], word: &[char]) -> bool
     ensures { result ≡ has_word_later text.now word.now }
 {
@@ -155,7 +155,7 @@ fn has_word_later(text: &[char], word: &[char]) -> bool
     false
 }
 
-/// Whether a text begins with a word, behind which white space or the end follows.
+/// Whether a text begins with a word that white space or the end follows.
 fn begins_with_word(text: &[char], word: &[char]) -> bool
     ensures { result ≡ begins_with_word text.now word.now }
 {

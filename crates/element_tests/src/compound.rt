@@ -1,4 +1,4 @@
-//! What simple selectors say of an element, from its features and from where it stands (Selectors 3, section 6).
+//! What simple selectors say of an element, from its features and its place (Selectors 3, section 6).
 
 ghost use Rattle.std.specs.Prelude.{◌≡◌, ◌<◌, ◌^◌, codes};
 ghost use Rattle.css_model.specs.Documents.Attribute.{passes};
@@ -14,8 +14,8 @@ use crate::nth::is_nth;
 use crate::whereabouts::Whereabouts;
 use css_model::{AttrTest, Compound, Features, Flag, Simple, Test, Text};
 
-/// Whether all simple selectors of a sequence hold of an element that stands there (Selectors 3, section 4).
-/// The counts of siblings are below 2^100. Takes no memory.
+/// Whether all simple selectors of a sequence hold of an element with these features at this place (Selectors 3,
+/// section 4). The counts of siblings are below 2^100.
 pub fn passes_compound(element: &Features, place: &Whereabouts, compound: &Compound) -> bool
     requires before { place.now.before < 2 ^ 100 }
     requires behind { place.now.behind < 2 ^ 100 }
@@ -29,7 +29,7 @@ pub fn passes_compound(element: &Features, place: &Whereabouts, compound: &Compo
     true
 }
 
-/// Whether a simple selector does, which may be a negation (section 6.6.7).
+/// Whether a simple selector holds of an element; it may be a negation (section 6.6.7).
 fn passes_simple(element: &Features, place: &Whereabouts, simple: &Simple) -> bool
     requires before { place.now.before < 2 ^ 100 }
     requires behind { place.now.behind < 2 ^ 100 }
@@ -42,7 +42,7 @@ fn passes_simple(element: &Features, place: &Whereabouts, simple: &Simple) -> bo
     }
 }
 
-/// Whether a test does.
+/// Whether a test holds of an element.
 fn passes_test(element: &Features, place: &Whereabouts, test: &Test) -> bool
     requires before { place.now.before < 2 ^ 100 }
     requires behind { place.now.behind < 2 ^ 100 }

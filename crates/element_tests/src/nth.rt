@@ -31,7 +31,7 @@ fn is_ahead(step: i32, distance: u128) -> bool
     }
 }
 
-/// Whether they lead so far back.
+/// Whether steps of this size lead so far back.
 fn is_back(step: i32, distance: u128) -> bool
     requires { 0 < distance }
     ensures { result ≡ is_multiple step (neg_ℤ (pos distance)) }

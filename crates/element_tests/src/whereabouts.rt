@@ -1,11 +1,11 @@
-//! Where an element stands.
+//! Where an element is among others.
 
-/// Where an element of a document stands (Selectors 3, section 6.6.5).
+/// Where an element of a document is among others (Selectors 3, section 6.6.5).
 #[derive(Clone, Copy, Debug, PartialEq, Eq)]
 pub struct Whereabouts {
-    /// How many siblings stand before it.
+    /// How many siblings are before it.
     pub before: u128,
-    /// How many siblings stand behind it.
+    /// How many siblings are after it.
     pub behind: u128,
     /// Whether it is the root.
     pub is_root: bool,

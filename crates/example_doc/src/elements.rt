@@ -64,7 +64,7 @@ fn push_all_asked(ids: &mut Vec<Text>, chain: &[Compound]) -> Result<(), AllocEr
     Ok(())
 }
 
-/// Appends the element of a slot, and its id to those that are taken where it was free.
+/// Appends the element of a slot. Where its id was free, the id joins those that are taken.
 fn push_element(
     elements: &mut Vec<Features>,
     taken: &mut Vec<Text>,
@@ -89,7 +89,7 @@ fn push_element(
     push_chosen(elements, taken, alloc, fit, text, left, right)
 }
 
-/// The same, from features that fit, whether the element has text, and the compounds in the slot.
+/// Appends the element of a slot, from features that fit, whether it has text, and the compounds in the slot.
 #[tactic(auto, using(crate::proofs::Choices::free_element, crate::proofs::Choices::other_element))]
 fn push_chosen(
     elements: &mut Vec<Features>,
@@ -132,7 +132,7 @@ fn element_of(fit: &Features, text: bool) -> Result<Features, AllocError>
     })
 }
 
-/// The same with another id.
+/// These features with another id, and whether there is text.
 fn element_with(
     alloc: Global,
     fit: &Features,
@@ -282,7 +282,8 @@ fn push_copies(texts: &mut Vec<Text>, more: &[Text]) -> Result<(), AllocError>
     Ok(())
 }
 
-/// Whether the element of a slot with these compounds has text: where content is asked for and no child is there.
+/// Whether the element of a slot with these compounds has text: it has where content is asked for and no child is
+/// there.
 fn has_text(shape: &Shape, slot: u32, left: &[Simple], right: &[Simple]) -> bool
     requires { slot ≤ length shape.now.steps }
     ensures { result ≡ (not (is_parent shape.now.steps slot) && asks_for_content (left.now ++ right.now)) }

@@ -21,17 +21,18 @@ use slot_plan::{PairPlan, Shape, SlotStep};
 use std::alloc::{AllocError, Global};
 
 /// The example of a shape that fits the two selectors of a plan: a legal document in which both match the marked
-/// element, or its pseudo-element if they have one (Selectors 3, section 7). `fits` is the table of the two; each
-/// has at most twelve compounds, and all their types and attributes have names.
+/// element, or its pseudo-element if they have one (Selectors 3, section 7). `fits` is the table of the two. Each has
+/// at most twelve compounds, and all their types and attributes have names. `AllocError` where memory runs out.
 ///
-/// Around the element in slot 0, which is marked, those of the other slots are laid, with as many plain elements
-/// of the type `x` before, between and behind them as the shape says; the root is the last slot's element, or a
-/// plain one. The element of a slot has the features that the table gives for its compounds. It has text exactly
-/// where `:not(:empty)` is asked and it is no parent. Where an id is asked for, any will do and the empty one is
-/// refused, it has the first of `x`, `x1`, `x2` and so on that its slot does not refuse, that no compound of the two
-/// selectors asks for, and that no slot before has got. The document has at most 4,095 lines.
-///
-/// Only want of memory may come in its place.
+/// - The element in slot 0 is marked. Those of the other slots are laid around it, with as many plain elements of the
+///   type `x` before, between and after them as the shape says.
+/// - The root is the last slot's element, or a plain one.
+/// - The element of a slot has the features that the table gives for its compounds.
+/// - It has text exactly where `:not(:empty)` is asked and it is no parent.
+/// - Its id is a name of its own where an id is asked for, any will do and the empty one is refused: the first of `x`,
+///   `x1`, `x2` .. that its slot does not refuse, that no compound of the two selectors asks for, and that no slot
+///   before has got.
+/// - The document has at most 4,095 lines.
 pub fn build(
     alloc: Global,
     plan: &PairPlan,
@@ -101,8 +102,8 @@ fn example_of(
     })
 }
 
-/// Its lines, and the number of the marked one: of the steps of a shape, of the numbers of siblings before and behind
-/// the slots, and of their elements.
+/// The lines of an example, and the number of the marked one. They are made of the steps of a shape, of the numbers of
+/// siblings before and after the slots, and of their elements.
 #[tactic(auto, using(crate::proofs::Written::counts_some))]
 pub(crate) fn written(
     alloc: Global,
@@ -141,7 +142,7 @@ pub(crate) fn written(
     )
 }
 
-/// The same, from what is said of slot 0 and of the slots behind it.
+/// The lines of an example, and the number of the marked one, from what is said of slot 0 and of the slots after it.
 #[tactic(auto, using(crate::proofs::Written::counts_fall, crate::proofs::Written::front_short, crate::proofs::Written::marked_is, crate::proofs::Heights::height_below))]
 fn written_around(
     alloc: Global,

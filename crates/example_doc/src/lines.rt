@@ -84,7 +84,7 @@ fn rise(step: SlotStep) -> u32
     }
 }
 
-/// Appends the lines in front of those of the last slot and its siblings, before which stand so many.
+/// Appends the lines in front of those of the last slot and its siblings, so many of which come before it.
 fn push_top(
     lines: &mut Vec<RunLine>,
     alloc: Global,
@@ -130,8 +130,8 @@ fn push_between(
     }
 }
 
-/// Appends the lines in front of that of a slot, and gives its depth. Before the slot stand so many siblings; the
-/// steps lead on from it, and the numbers and the elements are those of the slots behind it.
+/// Appends the lines in front of that of a slot, and gives its depth. So many siblings are before the slot. The steps
+/// lead on from it; the numbers and the elements are those of the slots after it.
 #[tactic(auto, using(crate::proofs::Heights::depth_small))]
 pub(crate) fn push_front(
     lines: &mut Vec<RunLine>,
@@ -173,7 +173,7 @@ fn top_depth(top_is_root: bool) -> u32
     if top_is_root { 0 } else { 1 }
 }
 
-/// Appends the lines behind a slot of this depth, what stands in it and its siblings.
+/// Appends the lines after a slot of this depth, what is in it and its siblings.
 pub(crate) fn push_back(
     lines: &mut Vec<RunLine>,
     alloc: Global,
@@ -195,7 +195,7 @@ pub(crate) fn push_back(
     push_back(lines, alloc, depth, steps, after)
 }
 
-/// Appends the line of the siblings behind a slot of this depth, if a step up leads to it.
+/// Appends the line of the siblings after a slot of this depth, if a step up leads to it.
 fn push_behind(
     lines: &mut Vec<RunLine>,
     alloc: Global,

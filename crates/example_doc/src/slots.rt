@@ -1,4 +1,4 @@
-//! What stands in a slot of a shape: its compounds, and features that fit them.
+//! What is in a slot of a shape: its compounds, and features that fit them.
 
 ghost use Rattle.std.specs.Prelude.{◌≡◌, ◌≤◌, ◌<◌, ◌+◌, ◌^◌, ℕ, length, Some, IfSome};
 ghost use Rattle.css_model.specs.Sheets.Limits.{max_compounds};
@@ -11,7 +11,7 @@ use compound_fit::FitTable;
 use css_model::{Compound, Features, Simple};
 use slot_plan::{PairPlan, Shape};
 
-/// The simple selectors of the compound in a slot; none where no compound of this chain stands there.
+/// The simple selectors of the compound in a slot; none where no compound of this chain is there.
 fn simples_at<'a>(chain: &'a [Compound], slots: &[u32], slot: u32) -> &'a [Simple]
     ensures { result.now ≡ simples_at chain.now slots.now slot }
 {
@@ -28,21 +28,21 @@ fn simples_at<'a>(chain: &'a [Compound], slots: &[u32], slot: u32) -> &'a [Simpl
     }
 }
 
-/// Those of the left selector's compound in a slot.
+/// The simple selectors of the left selector's compound in a slot.
 pub(crate) fn left_in<'a>(plan: &'a PairPlan, shape: &Shape, slot: u32) -> &'a [Simple]
     ensures { result.now ≡ simples_at plan.now.left.chain shape.now.left slot }
 {
     simples_at(plan.left().chain.as_slice(), shape.left.as_slice(), slot)
 }
 
-/// Those of the right selector's.
+/// The simple selectors of the right selector's compound in a slot.
 pub(crate) fn right_in<'a>(plan: &'a PairPlan, shape: &Shape, slot: u32) -> &'a [Simple]
     ensures { result.now ≡ simples_at plan.now.right.chain shape.now.right slot }
 {
     simples_at(plan.right().chain.as_slice(), shape.right.as_slice(), slot)
 }
 
-/// The number of the compound in a slot, if one stands there.
+/// The number of the compound in a slot, if one is there.
 fn place_in(slots: &[u32], slot: u32) -> Option<usize>
     ensures place { result ≡ place_in slots.now slot }
     ensures within { IfSome result (λ place. place < length slots.now) }

@@ -5,23 +5,22 @@ ghost use Rattle.formula_laws.specs.Deciding.{FormulaIsSound, FormulaIsComplete,
 use grid_laws::{shapes_are_solved, solved_has_a_shape, solved_shapes_fit};
 use shape_laws::shapes_shrink;
 
-/// Where a list of values satisfies all clauses, whatever the width of the numbers, the shape that these values give
-/// fits the pair.
+/// The shape of values that satisfy all clauses fits the pair, whatever the width of the numbers.
 pub fn satisfying_shapes_fit()
     ensures { SatisfyingShapesFit }
 {
     solved_shapes_fit();
 }
 
-/// Where a list of values satisfies all clauses, whatever the width of the numbers, a shape fits the pair.
+/// Where a list of values satisfies all clauses, a shape fits the pair, whatever the width of the numbers.
 pub fn formula_is_sound()
     ensures { FormulaIsSound }
 {
     solved_has_a_shape();
 }
 
-/// Where a shape fits the pair whose numbers of siblings are below `2^width`, a list of values satisfies the
-/// formula of this width.
+/// Where a shape fits the pair, and its numbers of siblings are below `2^width`, a list of values satisfies the formula
+/// of this width.
 pub fn formula_is_complete()
     ensures { FormulaIsComplete }
 {

@@ -1,5 +1,5 @@
-//! The formula of a pair of selectors: it can be satisfied exactly where a shape fits both of them. Its law,
-//! each part as the contract of a function that does nothing.
+//! The formula of a pair of selectors can be satisfied exactly where a shape fits both of them: laws, as functions that
+//! do nothing.
 #![tactic(auto)]
 
 mod deciding;

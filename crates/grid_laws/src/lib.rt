@@ -1,5 +1,5 @@
-//! A shape fits two selectors exactly where all its conditions hold of nodes of a grid and of numbers: laws,
-//! each as the contract of a function that does nothing.
+//! A shape fits two selectors exactly where all its conditions hold of nodes of a grid and of numbers: laws, as
+//! functions that do nothing.
 #![tactic(auto)]
 
 mod solving;

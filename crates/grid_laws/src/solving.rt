@@ -14,8 +14,8 @@ pub fn solved_has_a_shape()
     solved_shapes_fit();
 }
 
-/// Where a shape fits both selectors, all conditions hold of some nodes and numbers, and these numbers are as
-/// small as those of the shape.
+/// Where a shape fits both selectors, all conditions hold of some nodes and numbers. These numbers are as small as
+/// those of the shape.
 pub fn shapes_are_solved()
     ensures { ShapesAreSolved }
 {}

@@ -18,7 +18,7 @@ use css_model::{RunLine, Selector};
 use element_tests::Whereabouts;
 use std::alloc::{AllocError, Global};
 
-/// What a selector finds at the root, in front of these other lines.
+/// What a selector finds at the root, which these other lines follow.
 pub(crate) fn root_reached(
     alloc: Global,
     selector: &Selector,
@@ -40,7 +40,7 @@ pub(crate) fn root_reached(
     located(alloc, selector, &root.element, &place, reached.as_slice())
 }
 
-/// What a selector finds at an element of a line, behind which these other lines follow.
+/// What a selector finds at an element of a line, which these other lines follow.
 fn line_reached(
     alloc: Global,
     selector: &Selector,
@@ -65,7 +65,7 @@ fn line_reached(
     located(alloc, selector, &line.element, &place, reached)
 }
 
-/// What is known behind the elements of a line, behind which these other lines follow.
+/// What is known after the elements of a line, which these other lines follow.
 fn line_passed(
     alloc: Global,
     selector: &Selector,
@@ -94,8 +94,8 @@ fn line_passed(
     behind_run(alloc, &run, recurrence, line.count, before, behind, reached)
 }
 
-/// Whether a selector matches at the line of this number among these, which begin behind the root, from what was known
-/// before the first of them was looked at.
+/// Whether a selector matches at the line of this number among these. The lines begin after the root; it goes on from
+/// what was known before the first of them was looked at.
 pub(crate) fn climb(
     alloc: Global,
     selector: &Selector,

@@ -11,9 +11,9 @@ use cascade_laws::matching_is_climbing;
 use css_model::{Example, Pseudo, RunLine, Selector};
 use std::alloc::{AllocError, Global};
 
-/// Whether a selector matches the marked element of an example (Selectors 3, sections 6 to 8): it has the
+/// Whether a selector matches the marked element of an example (Selectors 3, sections 6 to 8). It has the
 /// pseudo-element of the example, or both have none, and its compounds match. The document is not written out: a line
-/// may stand for 4,294,967,295 elements. Fails where memory runs out.
+/// may have 4,294,967,295 elements. `AllocError` where memory runs out.
 pub fn matches_in(alloc: Global, x: &Example, selector: &Selector) -> Result<bool, AllocError>
     requires { KeepsRules x.now }
     ensures { IfOk result (λ found. found ≡ matches (expand x.now) (target_of x.now) selector.now) }

@@ -21,7 +21,7 @@ pub(crate) struct Run<'a> {
     pub(crate) has_children: bool,
 }
 
-/// What is known behind an element, from what was known before it was looked at.
+/// What is known after an element, from what was known before it was looked at.
 fn behind_one(
     alloc: Global,
     run: &Run<'_>,
@@ -45,7 +45,7 @@ fn behind_one(
     all_from_next(alloc, found.as_slice())
 }
 
-/// The same behind so many elements, looked at one by one.
+/// What is known after so many elements, looked at one by one.
 fn behind_each(
     alloc: Global,
     run: &Run<'_>,
@@ -70,8 +70,8 @@ fn behind_each(
     Ok(seen)
 }
 
-/// The same behind a whole run. Where a period of elements leaves what is known as it was, the other periods do too,
-/// and are not looked at.
+/// What is known after a whole run. Where a period of elements leaves what is known as it was, the other periods do
+/// too, and are not looked at.
 pub(crate) fn behind_run(
     alloc: Global,
     run: &Run<'_>,
@@ -119,15 +119,15 @@ pub(crate) fn behind_run(
     Ok(seen)
 }
 
-/// Whether enough siblings stand before, and a whole period is left.
+/// Whether enough siblings are before an element, and a whole period is left.
 fn is_far(recurrence: &Recurrence, left: u64, at: u128) -> bool
     ensures { IsTrue result ↔ (recurrence.now.threshold ≤ at) × (recurrence.now.period ≤ left) }
 {
     recurrence.threshold <= at && recurrence.period <= left
 }
 
-/// How many of the elements that are left need not be looked at, where a period of them left what is known as it was or
-/// did not: as many periods as leave enough siblings behind.
+/// How many of the elements that are left need not be looked at. They are as many periods as leave enough siblings
+/// after them; none, where a period did not leave what is known as it was.
 fn skipped(recurrence: &Recurrence, same: bool, left: u64, behind: u128) -> u64
     requires moves { 0 < recurrence.now.period }
     requires near { recurrence.now.threshold < 2 ^ 32 }

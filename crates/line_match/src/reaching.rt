@@ -85,7 +85,7 @@ fn behind_first(links: &[Combinator]) -> &[Combinator]
     }
 }
 
-/// Whether the compounds behind one match where its combinator leads.
+/// Whether the compounds after one match where its combinator leads.
 fn is_led(chain: &[Compound], links: &[Combinator], reached: &[Reached]) -> bool
     ensures { result ≡ is_led chain.now links.now reached.now }
 {
@@ -113,7 +113,7 @@ fn leads(link: Combinator, reached: &[Reached]) -> bool
     }
 }
 
-/// The same seen from the siblings behind.
+/// What matches, seen from the siblings after an element.
 pub(crate) fn all_from_next(alloc: Global, reached: &[Reached]) -> Result<Vec<Reached>, AllocError>
     ensures { IfOk result (λ seen. seen.items ≡ map from_next reached.now) }
 {
@@ -132,7 +132,7 @@ fn from_next(r: &Reached) -> Reached
     }
 }
 
-/// The same seen from the first child.
+/// What matches, seen from the first child of an element.
 pub(crate) fn all_from_child(alloc: Global, reached: &[Reached]) -> Result<Vec<Reached>, AllocError>
     ensures { IfOk result (λ seen. seen.items ≡ map from_child reached.now) }
 {

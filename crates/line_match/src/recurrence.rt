@@ -11,9 +11,9 @@ use css_model::{AnB, Compound, Selector, Simple, Test};
 /// From where on, and after how many elements, what a selector asks of a run repeats.
 #[derive(Clone, Copy, Debug, PartialEq, Eq)]
 pub struct Recurrence {
-    /// How many siblings stand before and behind at least.
+    /// How many siblings are before and after at least.
     pub threshold: u128,
-    /// After how many elements it repeats. From 2^32 on, which no run has, it says nothing.
+    /// After how many elements it repeats. From 2^32 on it says nothing: no run has as many.
     pub period: u64,
 }
 
@@ -27,7 +27,7 @@ pub(crate) fn recurrence_of(selector: &Selector) -> Recurrence
     of_selector(selector)
 }
 
-/// The same, as its definition makes it.
+/// The recurrence of a selector, as its definition makes it.
 fn of_selector(selector: &Selector) -> Recurrence
     ensures value { result ≡ recurrence_of selector.now.chain }
     ensures near { result.threshold < 2 ^ 32 }
@@ -35,7 +35,7 @@ fn of_selector(selector: &Selector) -> Recurrence
     of_chain(selector.chain.as_slice())
 }
 
-/// The same from the compounds.
+/// The recurrence of compounds.
 fn of_chain(chain: &[Compound]) -> Recurrence
     ensures value { result ≡ recurrence_of chain.now }
     ensures near { result.threshold < 2 ^ 32 }
@@ -50,7 +50,7 @@ fn of_chain(chain: &[Compound]) -> Recurrence
     recurrence
 }
 
-/// The same with the positions of one more compound.
+/// A recurrence with the positions of one more compound.
 fn with_compound(recurrence: Recurrence, simples: &[Simple]) -> Recurrence
     requires near { recurrence.threshold < 2 ^ 32 }
     ensures value { result ≡ with_compound recurrence simples.now }
@@ -63,7 +63,7 @@ fn with_compound(recurrence: Recurrence, simples: &[Simple]) -> Recurrence
     with
 }
 
-/// The same with those of one more test.
+/// A recurrence with the positions of one more test.
 fn with_test(recurrence: Recurrence, test: &Test) -> Recurrence
     requires near { recurrence.threshold < 2 ^ 32 }
     ensures value { result ≡ with_test recurrence test.now }
@@ -75,7 +75,7 @@ fn with_test(recurrence: Recurrence, test: &Test) -> Recurrence
     }
 }
 
-/// The same with these positions.
+/// A recurrence with these positions.
 fn with_positions(recurrence: Recurrence, x: AnB) -> Recurrence
     requires near { recurrence.threshold < 2 ^ 32 }
     ensures value { result ≡ with_positions recurrence x }

@@ -1,5 +1,5 @@
 //! Laws on pairs of selectors: what the formula of a pair says of documents, and what every selector of the profile
-//! keeps to. Each is the contract of a function that does nothing.
+//! keeps to. They are functions that do nothing.
 #![tactic(auto)]
 
 mod laws;

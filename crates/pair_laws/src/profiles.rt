@@ -1,4 +1,4 @@
-//! The laws. They do nothing when they run.
+//! Selectors of the profile, as functions that do nothing.
 
 ghost use Rattle.pair_laws.specs.Profile.Fittable.{CompoundsAreFittable, PairsAreFittable, TablesAreFittable};
 ghost use Rattle.pair_laws.specs.Profile.Limited.{ProfileKeepsTheLimits};
@@ -9,9 +9,14 @@ pub fn profile_keeps_the_limits()
     ensures { ProfileKeepsTheLimits }
 {}
 
-/// Features may be asked for of any compound of a selector of the profile, of any two of two such selectors, and of
-/// each group of compounds for which two such selectors have a table of features. For the texts of both are short: a
-/// code point from U+10000 on takes three bytes of a text at least, so that some of these stand in no value.
+/// Features may be asked for of the compounds of selectors of the profile.
+///
+/// - They may be asked for of any compound of one.
+/// - They may be asked for of any two compounds of two.
+/// - They may be asked for of each group of compounds for which two have a table of features.
+///
+/// The texts of both are short. A code point from U+10000 on takes at least three bytes of a text, so some of these are
+/// in no value.
 pub fn profile_is_fittable()
     ensures one { CompoundsAreFittable }
     ensures two { PairsAreFittable }

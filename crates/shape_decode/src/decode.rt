@@ -22,14 +22,12 @@ use sibling_clauses::{Numbering, links_of, numbers_asked};
 use slot_plan::{PairPlan, Shape};
 use std::alloc::{AllocError, Global};
 
-/// The shape of values that satisfy the formula of a pair: it fits both selectors of the plan. `values` has the value
-/// of each variable, by its number.
+/// The shape of values that satisfy the formula of a pair. It fits both selectors of the plan. `values` has the value
+/// of each variable, by its number. `AllocError` where memory runs out.
 ///
 /// The slots are read along the true nodes: a left compound alone before a right one alone, and this before one of
-/// each. How many siblings stand before and behind each is read from the values where some test looks at these
-/// numbers; elsewhere all siblings are direct neighbours.
-///
-/// Only want of memory may come in its place.
+/// each. The numbers of siblings before and after each are read from the values where some test looks at them.
+/// Elsewhere all siblings are direct neighbours.
 pub fn decode_shape(alloc: Global, plan: &PairPlan, values: &[bool]) -> Result<Shape, AllocError>
     requires left { KeepsLimits plan.now.left }
     requires right { KeepsLimits plan.now.right }
@@ -44,7 +42,7 @@ pub fn decode_shape(alloc: Global, plan: &PairPlan, values: &[bool]) -> Result<S
     Ok(shape)
 }
 
-/// The shape that values give.
+/// The shape of values, by the plan of a pair.
 fn shape_from(alloc: Global, plan: &PairPlan, values: &[bool]) -> Result<Shape, AllocError>
     requires left { KeepsLimits plan.now.left }
     requires right { KeepsLimits plan.now.right }
@@ -58,7 +56,7 @@ fn shape_from(alloc: Global, plan: &PairPlan, values: &[bool]) -> Result<Shape, 
     Ok(shape)
 }
 
-/// The same, by the combinators of both selectors, and by whether some test looks at a number of siblings.
+/// The shape of values, by the combinators of both selectors, and by whether some test looks at a number of siblings.
 pub(crate) fn shape_read(
     alloc: Global,
     values: &[bool],
@@ -86,7 +84,7 @@ pub(crate) fn shape_read(
     }
 }
 
-/// The slots behind slot 0, before which so many siblings stand.
+/// The slots after slot 0, before which there are so many siblings.
 fn slots(
     alloc: Global,
     values: &[bool],

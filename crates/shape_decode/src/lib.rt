@@ -1,4 +1,4 @@
-//! The shape that values of the variables give which satisfy the formula of a pair.
+//! The shape of values that satisfy the formula of a pair.
 #![tactic(auto)]
 
 mod decode;

@@ -9,7 +9,7 @@ use crate::slot::Slot;
 use slot_plan::{Shape, SlotStep};
 use std::alloc::{AllocError, Global};
 
-/// The shape of slots behind slot 0, before and behind which so many siblings stand.
+/// The shape of slots after slot 0, with so many siblings before and after slot 0.
 pub(crate) fn shape_of(
     alloc: Global,
     before: u32,
@@ -44,7 +44,7 @@ fn steps_of(alloc: Global, slots: &[Slot]) -> Result<Vec<SlotStep>, AllocError>
     slots.iter().map(|slot| slot.step).collect(alloc)
 }
 
-/// How many siblings stand before slot 0, and before these slots.
+/// How many siblings are before slot 0, and before these slots.
 fn numbers_before(alloc: Global, first: u32, slots: &[Slot]) -> Result<Vec<u32>, AllocError>
     ensures { IfOk result (λ v. v.items ≡ first ∷ map (λ s. s.before) slots.now) }
 {
@@ -56,7 +56,7 @@ fn numbers_before(alloc: Global, first: u32, slots: &[Slot]) -> Result<Vec<u32>,
     Ok(numbers)
 }
 
-/// How many stand behind slot 0, and behind these slots.
+/// How many siblings are after slot 0, and after these slots.
 fn numbers_after(alloc: Global, first: u32, slots: &[Slot]) -> Result<Vec<u32>, AllocError>
     ensures { IfOk result (λ v. v.items ≡ first ∷ map (λ s. s.after) slots.now) }
 {
@@ -79,7 +79,7 @@ fn left_places(alloc: Global, slots: &[Slot]) -> Result<Vec<u32>, AllocError>
     Ok(places)
 }
 
-/// Adds those of these slots, of which the first has this number.
+/// Adds the numbers of those slots with a left compound. The first slot has this number.
 fn push_left(places: &mut Vec<u32>, slots: &[Slot], place: u32) -> Result<(), AllocError>
     requires { place + length slots.now < 2 ^ 17 }
     ensures { OnOk result (places.new.items ≡ places.old.items ++ laid_at has_left place slots.now) }
@@ -104,7 +104,7 @@ fn right_places(alloc: Global, slots: &[Slot]) -> Result<Vec<u32>, AllocError>
     Ok(places)
 }
 
-/// Adds those of these slots, of which the first has this number.
+/// Adds the numbers of those slots with a right compound. The first slot has this number.
 fn push_right(places: &mut Vec<u32>, slots: &[Slot], place: u32) -> Result<(), AllocError>
     requires { place + length slots.now < 2 ^ 17 }
     ensures { OnOk result (places.new.items ≡ places.old.items ++ laid_at has_right place slots.now) }

@@ -32,7 +32,7 @@ pub(crate) fn has_left(lays: Lays) -> bool
     }
 }
 
-/// And of the right one.
+/// Whether a slot holds a compound of the right selector.
 pub(crate) fn has_right(lays: Lays) -> bool
     ensures { result ≡ has_right (lays_of lays) }
 {

@@ -18,7 +18,7 @@ fn is_up(step: SlotStep) -> bool
     }
 }
 
-/// How many siblings stand before a slot, by the step into the next slot and the number there.
+/// How many siblings are before a slot, by the step into the next slot and the number there.
 fn before_by(up: bool, next: u32) -> u32
     requires { next < 2 ^ 16 }
     ensures { result ≡ before_by up next }
@@ -26,7 +26,7 @@ fn before_by(up: bool, next: u32) -> u32
     if up { 0 } else { next + 1 }
 }
 
-/// How many siblings stand behind a slot, by the step into it and the number behind the slot that the step leaves.
+/// How many siblings are after a slot, by the step into it and the number after the slot that the step leaves.
 fn after_by(up: bool, after: u32) -> u32
     requires { after < 2 ^ 16 }
     ensures { result ≡ after_by up after }
@@ -34,7 +34,7 @@ fn after_by(up: bool, after: u32) -> u32
     if up { 0 } else { after + 1 }
 }
 
-/// How many siblings stand before a slot with these slots behind it.
+/// How many siblings are before a slot, by the slots after it.
 pub(crate) fn row_before(slots: &[Slot]) -> u32
     requires { length slots.now < 2 ^ 16 }
     ensures value { result ≡ row_before slots.now }
@@ -46,7 +46,7 @@ pub(crate) fn row_before(slots: &[Slot]) -> u32
     before_by(is_up(slot.step), row_before(rest))
 }
 
-/// The slots behind one that has no siblings behind it, with these numbers.
+/// The slots after one that has no siblings after it, with these numbers.
 #[tactic(auto, using(crate::proofs::Along::numbered_as_many))]
 pub(crate) fn numbered(alloc: Global, slots: &[Slot]) -> Result<Vec<Slot>, AllocError>
     requires { length slots.now < 2 ^ 15 }
@@ -58,7 +58,7 @@ pub(crate) fn numbered(alloc: Global, slots: &[Slot]) -> Result<Vec<Slot>, Alloc
     Ok(made)
 }
 
-/// Adds those behind one that has so many siblings behind it.
+/// Adds the slots after one that has so many siblings after it.
 fn push_numbered(made: &mut Vec<Slot>, slots: &[Slot], after: u32) -> Result<(), AllocError>
     requires { after + length slots.now < 2 ^ 15 }
     ensures { OnOk result (made.new.items ≡ made.old.items ++ numbered after slots.now) }

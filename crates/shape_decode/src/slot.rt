@@ -1,4 +1,4 @@
-//! A slot behind the first one.
+//! The slots of a shape after the first one.
 
 ghost use Rattle.std.specs.Prelude.{◌≡◌, ◌≤◌, ◌+◌, ◌<◌, ◌^◌, suc, length, IfOk};
 ghost use Rattle.grid_laws.specs.Grid.{goes_up_at, right_alone};
@@ -15,16 +15,16 @@ use slot_plan::SlotStep;
 use std::alloc::{AllocError, Global};
 use std::marker::Model;
 
-/// A slot behind the first one.
+/// A slot after the first one.
 #[derive(Drop)]
 pub(crate) struct Slot {
     /// The step into it.
     pub(crate) step: SlotStep,
     /// What it holds.
     pub(crate) lays: Lays,
-    /// How many siblings stand before it.
+    /// How many siblings are before it.
     pub(crate) before: u32,
-    /// And how many behind it.
+    /// How many siblings are after it.
     pub(crate) after: u32,
 }
 
@@ -42,8 +42,8 @@ impl Model for Slot {
     } };
 }
 
-/// The step into a slot, up or to a sibling, by how many siblings stand before the slot that it leaves, and before
-/// this one.
+/// The step into a slot, up or to a sibling, by how many siblings are before the slot that it leaves, and before this
+/// one.
 pub(crate) fn step_for(up: bool, from: u32, to: u32) -> SlotStep
     requires { to < 2 ^ 25 }
     ensures { result ≡ step_for up from to }
@@ -57,8 +57,7 @@ pub(crate) fn step_for(up: bool, from: u32, to: u32) -> SlotStep
     }
 }
 
-/// The slot of the compounds i and j, or of one of them, where so many siblings stand before the slot that the step
-/// leaves.
+/// The slot of the compounds i and j, or of one of them. So many siblings are before the slot that the step leaves.
 pub(crate) fn slot_at(
     alloc: Global,
     values: &[bool],

@@ -10,7 +10,7 @@ use css_model::Combinator;
 use sibling_clauses::Numbering;
 use std::alloc::{AllocError, Global};
 
-/// Adds at most so many slots behind that of the compounds i and j, before which so many siblings stand.
+/// Adds at most so many slots after that of the compounds i and j. So many siblings are before that slot.
 pub(crate) fn push_slots(
     slots: &mut Vec<Slot>,
     alloc: Global,

@@ -25,7 +25,7 @@ fn truth_at(values: &[bool], variable: usize) -> bool
     }
 }
 
-/// The number that literals are the digits of, the least first.
+/// The number with literals as its digits, the least first.
 #[tactic(auto, using(crate::proofs::Digits::number_small))]
 pub(crate) fn number(values: &[bool], digits: &[Lit]) -> u32
     requires { length digits.now ≤ 25 }
@@ -35,7 +35,7 @@ pub(crate) fn number(values: &[bool], digits: &[Lit]) -> u32
     number_of(values, digits)
 }
 
-/// The same, digit by digit.
+/// The number with literals as its digits, digit by digit.
 #[tactic(auto, using(crate::proofs::Digits::number_small))]
 fn number_of(values: &[bool], digits: &[Lit]) -> u32
     requires { length digits.now ≤ 25 }

@@ -1,6 +1,5 @@
-//! Laws on shapes: two selectors that match one target in some document have a shape, then a small one, and a shape
-//! that fits two selectors gives a document in which both match one element. Each is the contract of a function that
-//! does nothing.
+//! Laws on shapes: two selectors that match one target of a legal document have a small shape, and a shape that fits
+//! two selectors gives a legal document in which both match one element. They are functions that do nothing.
 #![tactic(auto)]
 
 mod documents;

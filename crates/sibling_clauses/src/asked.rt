@@ -17,14 +17,14 @@ use cnf::Formula;
 use css_model::{Compound, Selector, Simple, Test};
 use std::alloc::{AllocError, Global};
 
-/// Whether some test of one of two selectors looks at a number of siblings. Takes no memory.
+/// Whether some test of one of two selectors looks at a number of siblings.
 pub fn numbers_asked(left: &Selector, right: &Selector) -> bool
     ensures { result ≡ numbers_asked left.now right.now }
 {
     some_asks(chain_of(left)) || some_asks(chain_of(right))
 }
 
-/// Whether a test of a chain does.
+/// Whether some test of a chain looks at a number of siblings.
 fn some_asks(chain: &[Compound]) -> bool
     ensures { result ≡ list_any asks_numbers chain.now }
 {
@@ -33,14 +33,14 @@ fn some_asks(chain: &[Compound]) -> bool
         .any(|compound| asks_numbers(compound.simples.as_slice()))
 }
 
-/// Whether a test of a compound does.
+/// Whether some test of a compound looks at a number of siblings.
 fn asks_numbers(simples: &[Simple]) -> bool
     ensures { result ≡ asks_numbers simples.now }
 {
     simples.iter().any(|simple| is_counted(&simple.test))
 }
 
-/// Whether a test does.
+/// Whether a test looks at a number of siblings.
 fn is_counted(test: &Test) -> bool
     ensures { result ≡ is_counted test.now }
 {
@@ -116,7 +116,7 @@ fn add_left_tests(
     Ok(())
 }
 
-/// Adds those of one compound.
+/// Adds the tests of positions of one compound of the left selector.
 fn add_left_test(
     alloc: Global,
     f: &mut Formula,
@@ -161,7 +161,7 @@ fn add_right_tests(
     Ok(())
 }
 
-/// Adds those of one compound.
+/// Adds the tests of positions of one compound of the right selector.
 fn add_right_test(
     alloc: Global,
     f: &mut Formula,

@@ -1,4 +1,4 @@
-//! The numbers of siblings before and behind the compounds, as clauses.
+//! The numbers of siblings before and after the compounds, as clauses.
 
 ghost use Rattle.std.specs.Prelude.{◌≡◌, ◌≤◌, ◌<◌, ◌+◌, ◌*◌, ◌^◌, ◌∷◌, [], suc, length, IsTrue, IfOk, OnOk};
 ghost use Rattle.sibling_clauses.specs.Bounds.{IsSmall};
@@ -45,7 +45,7 @@ pub(crate) fn add_counts(
     Ok(())
 }
 
-/// Adds the numbers of a chain along its combinators, where `first` is that before its first compound.
+/// Adds the numbers of a chain along its combinators. `first` is the one before its first compound.
 fn add_run(
     alloc: Global,
     f: &mut Formula,
@@ -66,7 +66,7 @@ fn add_run(
     Ok(())
 }
 
-/// Adds the numbers of two neighbouring compounds, where `first` is that before the first of them.
+/// Adds the numbers of two neighbouring compounds. `first` is the one before the first of them.
 fn add_link(
     alloc: Global,
     f: &mut Formula,
@@ -89,7 +89,7 @@ fn add_link(
     }
 }
 
-/// The same for direct neighbours.
+/// Adds the numbers of two compounds that are direct neighbours.
 #[tactic(auto, using(crate::proofs::Counting::rows_at, crate::proofs::InRange::later_in_range, crate::proofs::Growing::sum_grows))]
 fn add_next(alloc: Global, f: &mut Formula, g: Numbering, first: u32) -> Result<(), AllocError>
     requires small { IsSmall g }
@@ -109,7 +109,7 @@ fn add_next(alloc: Global, f: &mut Formula, g: Numbering, first: u32) -> Result<
     add_sum(alloc, f, &after, &one, &next_after)
 }
 
-/// The same for siblings further apart.
+/// Adds the numbers of two compounds that are siblings further apart.
 #[tactic(auto, using(crate::proofs::Counting::rows_at, crate::proofs::InRange::later_in_range, crate::proofs::Growing::less_grows, crate::proofs::Growing::equal_sums_grows))]
 fn add_later(alloc: Global, f: &mut Formula, g: Numbering, first: u32) -> Result<(), AllocError>
     requires small { IsSmall g }
@@ -150,7 +150,7 @@ fn add_equals(
     Ok(())
 }
 
-/// The same for a row of cells.
+/// Adds that two compounds in one slot have the same numbers, for a row of cells.
 #[tactic(auto, using(crate::proofs::Counting::steps_more))]
 fn add_equal_row(
     alloc: Global,
@@ -174,7 +174,7 @@ fn add_equal_row(
     Ok(())
 }
 
-/// The same for a cell.
+/// Adds that two compounds in one slot have the same numbers, for a cell.
 #[tactic(auto, using(crate::proofs::Counting::equals_added, crate::proofs::InRange::later_in_range, crate::proofs::InRange::node_in_range))]
 fn add_equal(
     alloc: Global,
@@ -203,7 +203,7 @@ fn add_equal(
     Ok(())
 }
 
-/// Adds the order of a left compound right behind a right one, for all cells.
+/// Adds the order of a left compound directly after a right one, for all cells.
 #[tactic(auto, using(crate::proofs::Counting::left_rows_added))]
 fn add_left_orders(
     alloc: Global,
@@ -227,7 +227,7 @@ fn add_left_orders(
     Ok(())
 }
 
-/// The same for a row of cells.
+/// Adds the order of a left compound directly after a right one, for a row of cells.
 #[tactic(auto, using(crate::proofs::Counting::left_row_added))]
 fn add_left_order_row(
     alloc: Global,
@@ -252,7 +252,7 @@ fn add_left_order_row(
     Ok(())
 }
 
-/// The same for a cell.
+/// Adds the order of a left compound directly after a right one, for a cell.
 #[tactic(auto, using(crate::proofs::Counting::left_orders_added, crate::proofs::InRange::order_in_range, crate::proofs::InRange::node_in_range))]
 fn add_left_order(
     alloc: Global,
@@ -281,7 +281,7 @@ fn add_left_order(
     Ok(())
 }
 
-/// Adds the order of a right compound right behind a left one, for all cells.
+/// Adds the order of a right compound directly after a left one, for all cells.
 #[tactic(auto, using(crate::proofs::Counting::right_rows_added))]
 fn add_right_orders(
     alloc: Global,
@@ -305,7 +305,7 @@ fn add_right_orders(
     Ok(())
 }
 
-/// The same for a row of cells.
+/// Adds the order of a right compound directly after a left one, for a row of cells.
 #[tactic(auto, using(crate::proofs::Counting::right_row_added))]
 fn add_right_order_row(
     alloc: Global,
@@ -330,7 +330,7 @@ fn add_right_order_row(
     Ok(())
 }
 
-/// The same for a cell.
+/// Adds the order of a right compound directly after a left one, for a cell.
 #[tactic(auto, using(crate::proofs::Counting::right_orders_added, crate::proofs::InRange::order_in_range, crate::proofs::InRange::node_in_range))]
 fn add_right_order(
     alloc: Global,

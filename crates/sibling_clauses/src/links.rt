@@ -18,8 +18,7 @@ fn goes_up(link: Combinator) -> bool
     }
 }
 
-/// Whether the step into the k-th compound, from the one before it, goes up; the first one counts as such. Takes no
-/// memory.
+/// Whether the step into the k-th compound, from the one before it, goes up. The first one counts as such.
 #[tactic(auto, using(crate::proofs::Linked::links_read))]
 pub fn goes_up_at(links: &[Combinator], k: usize) -> bool
     ensures { result ≡ goes_up_at links.now k }
@@ -34,7 +33,7 @@ pub fn goes_up_at(links: &[Combinator], k: usize) -> bool
 }
 
 /// Whether the element of the k-th compound of a chain with these combinators is a parent of another one that the
-/// selector speaks of (Selectors 3, section 8). Takes no memory.
+/// selector speaks of (Selectors 3, section 8).
 #[tactic(auto, using(crate::proofs::Linked::links_read))]
 pub fn is_above(links: &[Combinator], k: usize) -> bool
     ensures { result ≡ is_above links.now k }
@@ -42,7 +41,7 @@ pub fn is_above(links: &[Combinator], k: usize) -> bool
     k != 0 && goes_up_at(links, k)
 }
 
-/// Whether a slot that is reached by such a step may stand between two compounds.
+/// Whether a slot that is reached by such a step may be between two compounds.
 fn waits(link: Combinator, up: bool) -> bool
     ensures { result ≡ waits link up }
 {
@@ -53,7 +52,7 @@ fn waits(link: Combinator, up: bool) -> bool
     }
 }
 
-/// The same behind the k-th compound.
+/// Whether a slot that is reached by such a step may be directly after the k-th compound.
 #[tactic(auto, using(crate::proofs::Linked::links_read))]
 fn waits_at(links: &[Combinator], k: usize, up: bool) -> bool
     ensures { result ≡ waits_at links.now k up }
@@ -65,7 +64,7 @@ fn waits_at(links: &[Combinator], k: usize, up: bool) -> bool
     }
 }
 
-/// Whether the combinators allow the node of the i-th left compound alone. Takes no memory.
+/// Whether the combinators allow the node of the i-th left compound alone.
 #[tactic(auto, using(crate::proofs::Linked::cells_read))]
 pub fn left_fits(left: &[Combinator], right: &[Combinator], i: usize, j: usize) -> bool
     ensures { result ≡ left_fits left.now right.now i j }
@@ -73,7 +72,7 @@ pub fn left_fits(left: &[Combinator], right: &[Combinator], i: usize, j: usize) 
     i != 0 && waits_at(right, j, goes_up_at(left, i))
 }
 
-/// Whether they allow the node of the j-th right compound alone. Takes no memory.
+/// Whether the combinators allow the node of the j-th right compound alone.
 #[tactic(auto, using(crate::proofs::Linked::cells_read))]
 pub fn right_fits(left: &[Combinator], right: &[Combinator], i: usize, j: usize) -> bool
     ensures { result ≡ right_fits left.now right.now i j }
@@ -81,7 +80,7 @@ pub fn right_fits(left: &[Combinator], right: &[Combinator], i: usize, j: usize)
     j != 0 && waits_at(left, i, goes_up_at(right, j))
 }
 
-/// Whether they allow the node of both compounds. Takes no memory.
+/// Whether the combinators allow the node of both compounds.
 #[tactic(auto, using(crate::proofs::Linked::cells_read))]
 pub fn both_fit(left: &[Combinator], right: &[Combinator], i: usize, j: usize) -> bool
     ensures { result ≡ both_fit left.now right.now i j }
@@ -93,7 +92,7 @@ pub fn both_fit(left: &[Combinator], right: &[Combinator], i: usize, j: usize) -
     }
 }
 
-/// Whether the left compound i + 1 may stand right behind the right one j, and is no parent.
+/// Whether the left compound i + 1 may come directly after the right one j, and is no parent.
 #[tactic(auto, using(crate::proofs::Linked::follows_read))]
 pub(crate) fn left_follows(left: &[Combinator], right: &[Combinator], i: usize, j: usize) -> bool
     requires { i < 12 }
@@ -102,7 +101,7 @@ pub(crate) fn left_follows(left: &[Combinator], right: &[Combinator], i: usize, 
     !goes_up_at(left, i + 1) && (right_fits(left, right, i, j) && left_fits(left, right, i + 1, j))
 }
 
-/// Whether the right compound j + 1 may stand right behind the left one i, and is no parent.
+/// Whether the right compound j + 1 may come directly after the left one i, and is no parent.
 #[tactic(auto, using(crate::proofs::Linked::follows_read))]
 pub(crate) fn right_follows(left: &[Combinator], right: &[Combinator], i: usize, j: usize) -> bool
     requires { j < 12 }

@@ -1,5 +1,5 @@
-//! The first variables of a pair's formula: the nodes of the grid, five for the root and the number 1, and the
-//! digits of the numbers of siblings.
+//! The first variables of a pair's formula: the nodes of the grid, five for the root and the number 1, and the digits
+//! of the numbers of siblings.
 
 ghost use Rattle.std.specs.Prelude.{◌≡◌, ◌≤◌, ◌<◌, ◌+◌, ◌*◌, ◌∷◌, [], ℕ, suc, length, IsTrue, IfOk};
 ghost use Rattle.sibling_clauses.specs.Bounds.{IsSmall};
@@ -47,7 +47,7 @@ impl Numbering {
     }
 
     /// The literal for "some slot holds the i-th left compound alone, and the j-th right one is the last before it",
-    /// counted from 0. Takes no memory.
+    /// counted from 0.
     #[tactic(auto, using(crate::proofs::InRange::node_in_range))]
     pub fn left_alone(self, i: u32, j: u32) -> Lit
         requires small { IsSmall self }
@@ -60,7 +60,7 @@ impl Numbering {
     }
 
     /// The literal for "some slot holds the j-th right compound alone, and the i-th left one is the last before it",
-    /// counted from 0. Takes no memory.
+    /// counted from 0.
     #[tactic(auto, using(crate::proofs::InRange::node_in_range))]
     pub fn right_alone(self, i: u32, j: u32) -> Lit
         requires small { IsSmall self }
@@ -72,8 +72,7 @@ impl Numbering {
         positive(3 * self.cell(i, j) + 1)
     }
 
-    /// The literal for "some slot holds the i-th left compound and the j-th right one", counted from 0. Takes no
-    /// memory.
+    /// The literal for "some slot holds the i-th left compound and the j-th right one", counted from 0.
     #[tactic(auto, using(crate::proofs::InRange::node_in_range))]
     pub fn together(self, i: u32, j: u32) -> Lit
         requires small { IsSmall self }
@@ -95,7 +94,7 @@ impl Numbering {
         3 * ((self.left + 1) * (self.right + 1))
     }
 
-    /// The literal for "the last slot is that of the root". Takes no memory.
+    /// The literal for "the last slot is that of the root".
     #[tactic(auto, using(crate::proofs::InRange::first_in_range_by))]
     pub fn root(self) -> Lit
         requires { IsSmall self }
@@ -105,7 +104,7 @@ impl Numbering {
         positive(self.nodes_end())
     }
 
-    /// The literal for "the root counts as a child". Takes no memory.
+    /// The literal for "the root counts as a child".
     #[tactic(auto, using(crate::proofs::InRange::first_in_range_by))]
     pub fn child(self) -> Lit
         requires { IsSmall self }
@@ -115,7 +114,7 @@ impl Numbering {
         positive(self.nodes_end() + 1)
     }
 
-    /// The literal for "the last left compound stands in the root".
+    /// The literal for "the last left compound is in the root".
     #[tactic(auto, using(crate::proofs::InRange::first_in_range_by))]
     pub(crate) fn left_root(self) -> Lit
         requires { IsSmall self }
@@ -125,7 +124,7 @@ impl Numbering {
         positive(self.nodes_end() + 2)
     }
 
-    /// The literal for "the last right compound stands in the root".
+    /// The literal for "the last right compound is in the root".
     #[tactic(auto, using(crate::proofs::InRange::first_in_range_by))]
     pub(crate) fn right_root(self) -> Lit
         requires { IsSmall self }
@@ -171,7 +170,7 @@ impl Numbering {
         Ok(Bits { bits })
     }
 
-    /// How many siblings stand before the element of the i-th left compound, counted from 0, in binary from the least
+    /// How many siblings are before the element of the i-th left compound, counted from 0, in binary from the least
     /// digit on. `AllocError` where memory runs out.
     pub fn before_left(self, alloc: Global, i: u32) -> Result<Bits, AllocError>
         requires small { IsSmall self }
@@ -183,7 +182,8 @@ impl Numbering {
         self.number(alloc, 2 * i)
     }
 
-    /// How many stand behind it, alike. `AllocError` where memory runs out.
+    /// How many siblings are after the element of the i-th left compound, counted from 0, in binary from the least
+    /// digit on. `AllocError` where memory runs out.
     pub fn after_left(self, alloc: Global, i: u32) -> Result<Bits, AllocError>
         requires small { IsSmall self }
         requires row { i ≤ self.left }
@@ -194,8 +194,8 @@ impl Numbering {
         self.number(alloc, 2 * i + 1)
     }
 
-    /// How many siblings stand before the element of the j-th right compound, counted from 0, in binary from the
-    /// least digit on. `AllocError` where memory runs out.
+    /// How many siblings are before the element of the j-th right compound, counted from 0, in binary from the least
+    /// digit on. `AllocError` where memory runs out.
     pub fn before_right(self, alloc: Global, j: u32) -> Result<Bits, AllocError>
         requires small { IsSmall self }
         requires column { j ≤ self.right }
@@ -206,7 +206,8 @@ impl Numbering {
         self.number(alloc, 2 * (self.left + 1) + 2 * j)
     }
 
-    /// How many stand behind it, alike. `AllocError` where memory runs out.
+    /// How many siblings are after the element of the j-th right compound, counted from 0, in binary from the least
+    /// digit on. `AllocError` where memory runs out.
     pub fn after_right(self, alloc: Global, j: u32) -> Result<Bits, AllocError>
         requires small { IsSmall self }
         requires column { j ≤ self.right }
@@ -217,7 +218,7 @@ impl Numbering {
         self.number(alloc, 2 * (self.left + 1) + 2 * j + 1)
     }
 
-    /// How many first variables there are. Takes no memory.
+    /// How many first variables there are.
     #[tactic(auto, using(crate::proofs::Cells::slots_few))]
     pub fn first_vars(self) -> u32
         requires { IsSmall self }

@@ -24,8 +24,8 @@ use cnf::{Bits, Formula, Lit, and_gate, at_least, divide_by};
 use css_model::{AnB, Simple, Test};
 use std::alloc::{AllocError, Global};
 
-/// Adds the tests of positions of a compound: `last` says that it is its selector's last one, `root` that this
-/// one stands in the root, and `child` that the root counts as a child.
+/// Adds the tests of positions of a compound. `last` says that it is its selector's last one, `root` that this one is
+/// in the root, and `child` that the root counts as a child.
 #[tactic(auto, using(crate::proofs::InRange::later_in_range))]
 pub(crate) fn add_positions(
     alloc: Global,
@@ -51,7 +51,7 @@ pub(crate) fn add_positions(
     Ok(())
 }
 
-/// Adds one test.
+/// Adds one test of a position.
 #[tactic(auto, using(crate::proofs::InRange::later_in_range, crate::proofs::Growing::nth_grows, crate::proofs::Growing::gates_grow, crate::proofs::Adding::added_none))]
 fn add_test(
     alloc: Global,
@@ -90,7 +90,7 @@ fn add_test(
     }
 }
 
-/// Adds what a test says of its gate.
+/// Adds what a test of a position says of its gate.
 #[tactic(auto, using(crate::proofs::Adding::added_twice, crate::proofs::InRange::digits_in_range))]
 fn add_tested(
     f: &mut Formula,

@@ -10,7 +10,7 @@ ghost use Rattle.formula_laws.specs.Relations.{same_digits, with_less, with_sum}
 use cnf::{Bits, Formula, Lit, adder, at_least};
 use std::alloc::{AllocError, Global};
 
-/// Adds that the digits of two numbers are the same; what the first has more is 0.
+/// Adds that the digits of two numbers are the same. Digits that only the first one has are 0.
 #[tactic(auto, using(crate::proofs::Adding::same_added, crate::proofs::InRange::digits_in_range))]
 pub(crate) fn add_same(f: &mut Formula, x: &[Lit], y: &[Lit]) -> Result<(), AllocError>
     requires x { IsTrue (are_below f.old.vars x.now) }
@@ -31,7 +31,7 @@ pub(crate) fn add_same(f: &mut Formula, x: &[Lit], y: &[Lit]) -> Result<(), Allo
     }
 }
 
-/// Adds the same where a literal is true.
+/// Adds that the digits of two numbers are the same where a literal is true.
 #[tactic(auto, using(crate::proofs::Adding::same_added, crate::proofs::InRange::digits_in_range))]
 pub(crate) fn add_same_if(f: &mut Formula, lit: Lit, x: &[Lit], y: &[Lit]) -> Result<(), AllocError>
     requires lit { IsTrue (is_below f.old.vars lit) }

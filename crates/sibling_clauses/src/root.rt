@@ -16,8 +16,8 @@ use cnf::{Bits, Formula, Lit};
 use css_model::Selector;
 use std::alloc::{AllocError, Global};
 
-/// Adds which of the last compounds stand in the root, and that these can. `AllocError` where memory runs out; then
-/// the formula is not to be used again.
+/// Adds which of the last compounds are in the root, and that these can be there. `AllocError` where memory runs out;
+/// then the formula is not to be used again.
 pub fn add_root(
     alloc: Global,
     f: &mut Formula,
@@ -56,7 +56,7 @@ fn add_root_of(f: &mut Formula, lit: Lit, root: Lit, other: Lit) -> Result<(), A
     f.add_clause(&[lit, root.negation(), other])
 }
 
-/// Adds that a last compound stands in the root only where it can, without siblings.
+/// Adds that a last compound is in the root only where it can be, without siblings.
 #[tactic(auto, using(crate::proofs::Adding::top_added, crate::proofs::InRange::digits_in_range))]
 fn add_top(
     f: &mut Formula,
