@@ -1,4 +1,4 @@
-//! Whether a selector matches anything, by what is answered for it and `*`.
+//! Whether a selector matches anything in any legal document, by what is answered for it and `*`.
 
 ghost use Rattle.std.specs.Prelude.{◌≡◌, IfOk};
 ghost use Rattle.css_model.specs.Selectors.Profile.{IsInProfile};
@@ -41,9 +41,9 @@ fn known_life(pairs: &Pairs, s: &Selector, all: &Selector) -> Result<Life, Alloc
     }
 }
 
-/// Whether a selector of the profile matches anything in any legal document, by the answer for it and `*` with its
-/// pseudo-element, which is asked for where it is not held. All that was held stays, also after `AllocError`, which
-/// comes where memory is short.
+/// Whether a selector of the profile matches anything in any legal document. The answer for it and `*` with its
+/// pseudo-element says so, and is asked for where it is not held. All that was held stays. `AllocError` where memory is
+/// short; all that was held stays then too.
 #[tactic(auto, using(crate::proofs::Star::every_in_profile, crate::proofs::Known::asks_nothing))]
 pub fn life(alloc: Global, pairs: &mut Pairs, s: &Selector) -> Result<Life, AllocError>
     requires { IsInProfile s.now }

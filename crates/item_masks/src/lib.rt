@@ -1,5 +1,5 @@
-//! Masks of items, by the families of their declarations and by their selectors: by them most items are passed over in
-//! which a pair does not stand.
+//! Masks of items, by the families of their declarations and by their selectors. By them most items are passed over
+//! that do not have a pair.
 #![tactic(auto)]
 
 mod mask;

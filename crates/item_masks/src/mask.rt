@@ -6,9 +6,9 @@ ghost use Rattle.item_masks.specs.Masks as masks;
 /// The bits of an item, or of a pair.
 #[derive(Clone, Copy, Debug)]
 pub struct ItemMask {
-    /// Those of the families of declarations.
+    /// The bits of the families of declarations.
     pub families: u64,
-    /// Those of selectors.
+    /// The bits of selectors.
     pub selectors: u64,
 }
 

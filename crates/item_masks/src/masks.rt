@@ -30,7 +30,7 @@ fn mask_of_selectors(selectors: &[SelItem]) -> u64
     mask
 }
 
-/// The mask of a rule as an item. Takes no memory.
+/// The mask of a rule as an item.
 pub fn rule_mask(rule: &Rule) -> ItemMask
     ensures { result ≡ masks.item_mask (item.Rule rule.now) }
 {
@@ -40,8 +40,8 @@ pub fn rule_mask(rule: &Rule) -> ItemMask
     }
 }
 
-/// The mask of an item: the bits of its declarations, of a kept block each, and of a rule those of its selectors. Takes
-/// no memory.
+/// The mask of an item: the bits of its declarations, and of a rule those of its selectors too. A kept block has each
+/// bit.
 pub fn item_mask(item: &Item) -> ItemMask
     ensures { result ≡ masks.item_mask item.now }
 {
@@ -54,7 +54,7 @@ pub fn item_mask(item: &Item) -> ItemMask
     }
 }
 
-/// The masks of some items, in their order. The error comes where memory is short.
+/// The masks of some items, in their order. `AllocError` where memory is short.
 pub fn item_masks(alloc: Global, items: &[Item]) -> Result<Vec<ItemMask>, AllocError>
     ensures { IfOk result (λ list. list.items ≡ map masks.item_mask items.now) }
 {
@@ -65,7 +65,7 @@ pub fn item_masks(alloc: Global, items: &[Item]) -> Result<Vec<ItemMask>, AllocE
     Ok(list)
 }
 
-/// The mask of a pair of these parts: an item in which it stands has its bits. Takes no memory.
+/// The mask of a pair of these parts. An item that has the pair has its bits.
 pub fn pair_mask(selector: &Selector, decl: &Decl) -> ItemMask
     ensures { result ≡ masks.pair_mask (record { selector = selector.now; decl = decl.now }) }
 {

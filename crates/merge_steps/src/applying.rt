@@ -11,8 +11,8 @@ use std::alloc::{AllocError, Global};
 use step_laws::Step;
 use step_savings::{items_of, rule_at};
 
-/// What becomes of the items that a step of a sheet takes, by their numbers: of one item, or of two, the upper one
-/// first. The memory is that of what comes.
+/// What becomes of the items that a step of a sheet takes, by their numbers. There is one item, or two, the upper one
+/// first. The memory is that of what comes. `AllocError` where memory runs out.
 #[tactic(auto, using(step_savings::proofs::ForCallers::first_rule, step_savings::proofs::ForCallers::last_rule, step_savings::proofs::ForCallers::has_part, step_savings::proofs::ForCallers::edit_is))]
 pub fn changes(alloc: Global, sheet: &Sheet, step: &Step) -> Result<Vec<Change>, AllocError>
     requires { HasStep sheet.now.items step.now }
@@ -24,7 +24,8 @@ pub fn changes(alloc: Global, sheet: &Sheet, step: &Step) -> Result<Vec<Change>,
     changes_of(alloc, step, upper, lower)
 }
 
-/// The sheet after one of its steps: a copy, with what the step makes of its rules in their places.
+/// The sheet after one of its steps: a copy, with what the step makes of its rules in their places. `AllocError` where
+/// memory runs out.
 #[tactic(auto, using(step_savings::proofs::ForCallers::first_rule, step_savings::proofs::ForCallers::last_rule, step_savings::proofs::ForCallers::has_part, step_savings::proofs::ForCallers::edited_is))]
 pub fn apply(alloc: Global, sheet: &Sheet, step: &Step) -> Result<Sheet, AllocError>
     requires is_step { HasStep sheet.now.items step.now }

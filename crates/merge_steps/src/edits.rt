@@ -21,7 +21,7 @@ use step_laws::Step;
 pub struct Change {
     /// The number of the item, from 0.
     pub at: u32,
-    /// What stands in its place, in order.
+    /// What takes its place, in order.
     pub by: Vec<Item>,
 }
 
@@ -157,8 +157,8 @@ fn share(
     two_changes(alloc, x, above, y, below)
 }
 
-/// What becomes of the items that a step takes: of an upper and a lower rule, or of one that is cut,
-/// which then stands twice here.
+/// What becomes of the items that a step takes: of an upper and a lower rule, or of one that is cut. That one is then
+/// both here.
 pub(crate) fn changes_of(
     alloc: Global,
     step: &Step,
@@ -179,7 +179,7 @@ pub(crate) fn changes_of(
     }
 }
 
-/// Puts copies of items behind those of a sheet.
+/// Puts copies of items after those of a sheet.
 fn push_items(items: &mut Vec<Item>, more: &[Item]) -> Result<(), AllocError>
     ensures { OnOk result (items.new.items ≡ items.old.items ++ more.now) }
 {
@@ -189,7 +189,7 @@ fn push_items(items: &mut Vec<Item>, more: &[Item]) -> Result<(), AllocError>
     Ok(())
 }
 
-/// Puts what stands in the place of an item behind the items of a sheet.
+/// Puts what takes the place of an item after the items of a sheet.
 fn push_instead(
     items: &mut Vec<Item>,
     changes: &[Change],
@@ -209,7 +209,7 @@ fn push_instead(
     Ok(())
 }
 
-/// The items with what stands in the places of those that are changed.
+/// The items with what takes the places of those that are changed.
 pub(crate) fn changed(
     alloc: Global,
     changes: &[Change],

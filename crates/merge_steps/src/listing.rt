@@ -73,7 +73,7 @@ fn seconds(items: &[Item], kind: Kind, first: u32) -> usize
     }
 }
 
-/// Puts the step of a kind and these numbers behind those that come before, if the sheet has it.
+/// Puts the step of a kind and these numbers after those that come before, if the sheet has it.
 #[tactic(auto, using(crate::proofs::Rows::pushed, crate::proofs::Rows::skipped))]
 fn push_step(
     found: &mut Vec<Step>,
@@ -92,7 +92,7 @@ fn push_step(
     Ok(())
 }
 
-/// Puts the steps of a kind and a first number behind those that come before.
+/// Puts the steps of a kind and a first number after those that come before.
 #[tactic(auto, using(crate::proofs::Rows::seconds_few))]
 fn push_row(found: &mut Vec<Step>, sheet: &Sheet, kind: Kind, first: u32) -> Result<(), AllocError>
     requires few_items { length sheet.now.items ≤ max_items }
@@ -108,7 +108,7 @@ fn push_row(found: &mut Vec<Step>, sheet: &Sheet, kind: Kind, first: u32) -> Res
 }
 
 #[tactic(auto, using(crate::proofs::Rows::kind_done))]
-/// Puts the steps of a kind behind those of the kinds before.
+/// Puts the steps of a kind after those of the kinds before.
 fn push_kind(found: &mut Vec<Step>, sheet: &Sheet, kind: Kind) -> Result<(), AllocError>
     requires few_items { length sheet.now.items ≤ max_items }
     requires few_parts { part_count sheet.now.items ≤ max_bytes }
@@ -124,8 +124,9 @@ fn push_kind(found: &mut Vec<Step>, sheet: &Sheet, kind: Kind) -> Result<(), All
 }
 
 #[tactic(auto, using(crate::proofs::Rows::none_listed, crate::proofs::Rows::all_listed))]
-/// All steps of a sheet, in their order: by kind as the variants of [`Step`] stand, then by the first
-/// number, then by the second. Each two rules of the sheet are looked at, and each part of a rule.
+/// All steps of a sheet, in their order: by kind in the order of the variants of [`Step`], then by the first number,
+/// then by the second. Each two rules of the sheet are looked at, and each part of a rule. `AllocError` where memory
+/// runs out.
 pub fn steps(alloc: Global, sheet: &Sheet) -> Result<Vec<Step>, AllocError>
     requires few_items { length sheet.now.items ≤ max_items }
     requires few_parts { part_count sheet.now.items ≤ max_bytes }

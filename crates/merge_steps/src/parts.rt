@@ -11,7 +11,7 @@ use css_model::{DeclItem, Item, Rule, SelItem};
 use std::alloc::{AllocError, Global};
 use step_savings::{has_decl, has_selector};
 
-/// Puts copies of the selectors behind the others.
+/// Puts copies of the selectors after the others.
 fn push_selectors(into: &mut Vec<SelItem>, items: &[SelItem]) -> Result<(), AllocError>
     ensures { OnOk result (into.new.items ≡ into.old.items ++ items.now) }
 {
@@ -21,7 +21,7 @@ fn push_selectors(into: &mut Vec<SelItem>, items: &[SelItem]) -> Result<(), Allo
     Ok(())
 }
 
-/// Puts copies of the declarations behind the others.
+/// Puts copies of the declarations after the others.
 fn push_decls(into: &mut Vec<DeclItem>, items: &[DeclItem]) -> Result<(), AllocError>
     ensures { OnOk result (into.new.items ≡ into.old.items ++ items.now) }
 {
@@ -77,7 +77,7 @@ pub(crate) fn other_decls(
     Ok(others)
 }
 
-/// Puts those of the selectors that are not among the others behind what is there.
+/// Puts those of the selectors that are not among the others after what is there.
 fn push_new_selectors(
     into: Vec<SelItem>,
     items: &[SelItem],
@@ -159,7 +159,7 @@ fn decls_not_among(
     Ok(kept)
 }
 
-/// Each declaration once, where it stands last.
+/// Each declaration once, where it comes last.
 fn each_last(alloc: Global, items: &[DeclItem]) -> Result<Vec<DeclItem>, AllocError>
     ensures { IfOk result (λ last. last.items ≡ parting.each_last items.now) }
 {
@@ -174,7 +174,7 @@ fn each_last(alloc: Global, items: &[DeclItem]) -> Result<Vec<DeclItem>, AllocEr
     Ok(last)
 }
 
-/// The declarations of the lower rule that stand in the upper one, each once, where it stands last.
+/// The declarations of the lower rule that are in the upper one too, each once, where it comes last.
 fn common_decls(alloc: Global, upper: &Rule, lower: &Rule) -> Result<Vec<DeclItem>, AllocError>
     ensures { IfOk result (λ common. common.items ≡ parting.common_decls upper.now lower.now) }
 {
@@ -204,7 +204,7 @@ pub(crate) fn without_decls(
     Ok(Rule { selectors, decls })
 }
 
-/// Puts a rule behind the items, if it has a selector and a declaration.
+/// Puts a rule after the items, if it has a selector and a declaration.
 pub(crate) fn push_left(mut items: Vec<Item>, rule: Rule) -> Result<Vec<Item>, AllocError>
     ensures { IfOk result (λ more. more.items ≡ items.items ++ parting.rule_or_none rule) }
 {

@@ -25,7 +25,7 @@ fn is_in_item(item: &Item, selector: &Selector, decl: &Decl) -> bool
     }
 }
 
-/// Whether a pair stands in one of the items.
+/// Whether a pair is in one of the items.
 fn stands(items: &[Item], selector: &Selector, decl: &Decl) -> bool
     ensures { result ≡ standing.stands items.now (record { selector = selector.now; decl = decl.now }) }
 {
@@ -39,14 +39,14 @@ fn stands(items: &[Item], selector: &Selector, decl: &Decl) -> bool
     false
 }
 
-/// Whether a pair stands above or below.
+/// Whether a pair is above or below.
 fn stands_beside(above: &[Item], below: &[Item], selector: &Selector, decl: &Decl) -> bool
     ensures { result ≡ standing.stands_beside above.now below.now (record { selector = selector.now; decl = decl.now }) }
 {
     stands(above, selector, decl) || stands(below, selector, decl)
 }
 
-/// Whether each of the selectors stands above or below with a declaration.
+/// Whether each of the selectors is above or below with a declaration.
 fn all_stand_with_decl(above: &[Item], below: &[Item], selectors: &[SelItem], decl: &Decl) -> bool
     ensures { result ≡ list_all (λ s. standing.stands_beside above.now below.now (record { selector = s.selector; decl = decl.now })) selectors.now }
 {
@@ -60,7 +60,7 @@ fn all_stand_with_decl(above: &[Item], below: &[Item], selectors: &[SelItem], de
     true
 }
 
-/// Whether each of the declarations stands above or below with a selector.
+/// Whether each of the declarations is above or below with a selector.
 fn all_stand_with_selector(
     above: &[Item],
     below: &[Item],
@@ -79,7 +79,7 @@ fn all_stand_with_selector(
     true
 }
 
-/// Whether a declaration stands twice in a rule, once at this number.
+/// Whether a declaration occurs twice in a rule, once at this number.
 fn is_decl_again(decls: &[DeclItem], number: u32, decl: &Decl) -> bool
     requires { number < length decls.now }
     ensures { result ≡ standing.is_decl_again decls.now number decl.now }
@@ -88,7 +88,7 @@ fn is_decl_again(decls: &[DeclItem], number: u32, decl: &Decl) -> bool
     has_decl(&decls[..number], decl) || has_decl(&decls[number + 1..], decl)
 }
 
-/// Whether a selector stands twice in a rule, once at this number.
+/// Whether a selector occurs twice in a rule, once at this number.
 fn is_selector_again(selectors: &[SelItem], number: u32, selector: &Selector) -> bool
     requires { number < length selectors.now }
     ensures { result ≡ standing.is_selector_again selectors.now number selector.now }
@@ -97,7 +97,7 @@ fn is_selector_again(selectors: &[SelItem], number: u32, selector: &Selector) ->
     has_selector(&selectors[..number], selector) || has_selector(&selectors[number + 1..], selector)
 }
 
-/// Whether the pairs of a declaration of a rule all stand beside it too.
+/// Whether the pairs of a declaration of a rule are all beside it too.
 fn is_decl_elsewhere(items: &[Item], number: u32, rule: &Rule, decl: u32, cut: &Decl) -> bool
     requires at { number < length items.now }
     requires part { decl < length rule.now.decls }
@@ -108,7 +108,7 @@ fn is_decl_elsewhere(items: &[Item], number: u32, rule: &Rule, decl: u32, cut: &
         || all_stand_with_decl(&items[..number], &items[number + 1..], &rule.selectors, cut)
 }
 
-/// Whether the pairs of a selector of a rule all stand beside it too.
+/// Whether the pairs of a selector of a rule are all beside it too.
 fn is_selector_elsewhere(items: &[Item], number: u32, rule: &Rule, sel: u32, cut: &Selector) -> bool
     requires at { number < length items.now }
     requires part { sel < length rule.now.selectors }
@@ -119,7 +119,7 @@ fn is_selector_elsewhere(items: &[Item], number: u32, rule: &Rule, sel: u32, cut
         || all_stand_with_selector(&items[..number], &items[number + 1..], cut, &rule.decls)
 }
 
-/// The rule of this number, if a rule stands there.
+/// The rule of this number, if it is one.
 fn find_rule(items: &[Item], number: u32) -> Option<&Rule>
     ensures some { IfSome result (λ rule. slice_get items.now number ≡ Some (item.Rule rule.now)) }
     ensures none { IfNone result ((r : RuleParts) → slice_get items.now number ≡ Some (item.Rule r) → ⊥) }
@@ -154,7 +154,7 @@ fn can_cut_selector(items: &[Item], number: u32, rule: &Rule, sel: u32) -> bool
     }
 }
 
-/// Whether a declaration of the upper rule stands in the lower one.
+/// Whether a declaration of the upper rule is in the lower one too.
 #[tactic(auto, using(crate::proofs::Among::decl_common_is))]
 fn have_common_decl(upper: &Rule, lower: &Rule) -> bool
     ensures { IsTrue result ↔ ((d : declared.Decl) × Contains (decls_of upper.now) d × Contains (decls_of lower.now) d) }
@@ -162,7 +162,7 @@ fn have_common_decl(upper: &Rule, lower: &Rule) -> bool
     is_a_decl_among(&lower.decls, &upper.decls)
 }
 
-/// Whether each declaration of a rule stands in another one.
+/// Whether each declaration of a rule is in another one too.
 #[tactic(auto, using(crate::proofs::Among::decls_among_is))]
 fn are_decls_of(rule: &Rule, other: &Rule) -> bool
     ensures { IsTrue result ↔ AreDeclsAmong rule.now other.now }
@@ -170,8 +170,7 @@ fn are_decls_of(rule: &Rule, other: &Rule) -> bool
     are_decls_among(&rule.decls, &other.decls)
 }
 
-/// Whether one of two rules has no declarations but those of the other, or a sheet of these items may
-/// have one more.
+/// Whether one of two rules has no declarations but those of the other, or a sheet of these items may have one more.
 fn has_room(items: &[Item], upper: &Rule, lower: &Rule) -> bool
     ensures { IsTrue result ↔ HasRoom items.now upper.now lower.now }
 {
@@ -251,8 +250,8 @@ fn can_cut(items: &[Item], step: &Step) -> bool
     }
 }
 
-/// Whether a step is one of a sheet. Takes no memory. The time is that of a look at each pair that a cut
-/// takes and each item, and at each two parts of the rules of a join.
+/// Whether a step is one of a sheet. The time is that of a look at each pair that a cut takes and each item, and at
+/// each two parts of the rules of a join.
 pub fn is_step(sheet: &Sheet, step: &Step) -> bool
     ensures { IsTrue result ↔ HasStep sheet.now.items step.now }
 {

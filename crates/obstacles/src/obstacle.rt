@@ -1,10 +1,10 @@
 //! What blocks a step, by its places in a sheet.
 
-/// A place of a pair of a sheet: the numbers of its item, and in this of its selector and its declaration,
+/// A place of a pair of a sheet: the number of its item, and the numbers of its selector and its declaration in it,
 /// each from 0.
 #[derive(Clone, Copy, Debug, PartialEq, Eq, Hash)]
 pub struct PairPlace {
-    /// The item, which is a rule.
+    /// The number of the item, a rule.
     pub item: u32,
     /// The selector of the rule.
     pub sel: u32,

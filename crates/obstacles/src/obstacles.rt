@@ -14,7 +14,7 @@ use item_masks::ItemMask;
 use std::alloc::AllocError;
 use step_laws::Step;
 
-/// Tells of the steps of a sheet what blocks them, by answers for pairs of selectors, which are more and more.
+/// What blocks the steps of a sheet, by answers for pairs of selectors. The answers become more and more.
 pub trait Obstacles {
     /// The answers so far.
     ghost answers: { Self → List Answered };
@@ -26,8 +26,8 @@ pub trait Obstacles {
     fn answers_are_true(&self)
         ensures { AreTrue (answers self.now) };
 
-    /// What blocks a step of a sheet, of whose items the masks are these, and `None` exactly where it is free. All
-    /// that was answered stays, and the budget, also after `AllocError`.
+    /// What blocks a step of a sheet, and `None` exactly where it is free. `masks` are those of its items. All that was
+    /// answered stays, and the budget. `AllocError` where memory runs out; all that was answered stays then too.
     fn obstacle(
         &mut self,
         sheet: &Sheet,

@@ -15,8 +15,8 @@ use pair_laws::{profile_has_names, profile_is_fittable, profile_keeps_the_limits
 use slot_plan::{PairPlan, PlanError};
 use std::alloc::{AllocError, Global};
 
-/// The answer for two selectors of the profile, with a budget of learned clauses, and what is logged of it. Where
-/// no log is asked for, some pairs are answered without their formula.
+/// The answer for two selectors of the profile, with a budget of learned clauses, and what is logged of it. Where no
+/// log is asked for, some pairs are answered without their formula.
 pub(crate) fn decide(
     alloc: Global,
     x: &Selector,
@@ -46,7 +46,7 @@ fn is_same(left: Option<Pseudo>, right: Option<Pseudo>) -> bool
     left == right
 }
 
-/// The same for selectors of one pseudo-element.
+/// The answer for two selectors of one pseudo-element, and what is logged of it.
 fn decide_alike(
     alloc: Global,
     x: &Selector,
@@ -78,7 +78,7 @@ fn too_many(count: u32) -> Answer
     Answer::Outside(TOO_MANY_STEPPED, u64::from(count))
 }
 
-/// The same where few positions with a large step are asked for, so that there is a plan of the pair.
+/// The answer where few positions with a large step are asked for, and there is a plan of the pair.
 fn decide_few(
     alloc: Global,
     x: &Selector,
@@ -106,7 +106,7 @@ fn decide_few(
     }
 }
 
-/// The same where the fits of all groups of compounds are known.
+/// The answer where the fits of all groups of compounds are known.
 fn decide_fitted(
     alloc: Global,
     x: &Selector,

@@ -1,4 +1,4 @@
-//! An answer for two selectors of which one has a combinator, by the formula of the pair.
+//! An answer for two selectors by the formula of the pair, where one has a combinator.
 
 ghost use Rattle.std.specs.Prelude.{◌≡◌, ◌↔◌, IfOk, IsTrue, None};
 ghost use Rattle.css_model.specs.Cascade.Order.{Meet as TheyMeet};
@@ -44,8 +44,8 @@ pub(crate) fn decide_combined(
     decide_by_formula(alloc, plan, table, budget)
 }
 
-/// The same by the formula of the pair: that they do not meet, where no values satisfy it; the example of a shape
-/// that satisfying values give; or the ledger on which the budget of learned clauses was spent.
+/// The answer by the formula of the pair. They do not meet, where no values satisfy it; it is the example of a shape of
+/// satisfying values; or it is the ledger on which the budget of learned clauses was spent.
 fn decide_by_formula(
     alloc: Global,
     plan: &PairPlan,
@@ -77,7 +77,7 @@ fn decide_by_formula(
     }
 }
 
-/// Whether no element passes both targets, so that the selectors do not meet. This saves making the formula.
+/// Whether no element passes both targets. Then the selectors do not meet, and the formula need not be made.
 fn targets_clash(table: &FitTable) -> bool
     requires { AreFits table.now.fits (groups table.now.left.chain table.now.right.chain) }
     ensures { IsTrue result → TheyMeet table.now.left table.now.right → ⊥ }
@@ -93,7 +93,7 @@ fn is_misfit(found: &Option<Features>) -> bool
     found.is_none()
 }
 
-/// The example of the shape that values give which satisfy the formula of the pair.
+/// The example of the shape of values that satisfy the formula of the pair.
 fn example_of(
     alloc: Global,
     plan: &PairPlan,

@@ -1,4 +1,4 @@
-//! The laws. They do nothing when they run.
+//! What is known of pairs of selectors, as functions that do nothing.
 
 ghost use Rattle.overlap.specs.Laws.{ApartSelectorsDoNotMeet, ReasonsAreDefined};
 

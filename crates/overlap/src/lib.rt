@@ -1,5 +1,5 @@
-//! Whether two selectors meet: some legal document has an element that both match. Answers with evidence, which are
-//! remembered.
+//! Whether two selectors meet: some legal document has an element that both match. It answers with evidence, and the
+//! answers are remembered.
 #![tactic(auto)]
 
 mod answer;

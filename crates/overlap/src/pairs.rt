@@ -16,13 +16,13 @@ use std::alloc::{AllocError, Global};
 use std::hash::BuildHasherDefault;
 use std::marker::Model;
 
-/// Answers for ordered pairs of selectors, in the order in which they were given, and the budget of learned
-/// clauses for each pair.
+/// Answers for ordered pairs of selectors, in the order in which they were given, and the budget of learned clauses for
+/// each pair.
 #[derive(Debug, Drop)]
 pub struct Pairs {
     alloc: Global,
     budget: u32,
-    /// The selectors that were asked, each once. One without an answer may stand here after a want of memory.
+    /// The selectors that were asked, each once. One without an answer may be here after a want of memory.
     selectors: Selectors,
     /// The answers, by the places of both selectors.
     answers: IndexMap<Places, Answer>,
@@ -43,8 +43,8 @@ impl Pairs {
     ghost use Rattle.std.specs.Borrow.{sem};
     ghost use Rattle.overlap.specs.Lending as lending;
 
-    /// No answers yet. The budget is how many clauses may be learned for a pair; `NO_LIMIT` of `cnf` stands
-    /// for a number above the length of every list. Takes no memory.
+    /// No answers yet. The budget is how many clauses may be learned for a pair. `NO_LIMIT` of `cnf` is a number above
+    /// the length of every list.
     pub fn new(alloc: Global, budget: u32) -> Pairs
         ensures { result ≡ record { budget = budget; answers = [] } }
     {
@@ -56,7 +56,7 @@ impl Pairs {
         }
     }
 
-    /// The answer that is held for the ordered pair: `None` exactly where there is none. Takes no memory.
+    /// The answer that is held for the ordered pair; `None` exactly where there is none.
     pub fn known(&self, x: &Selector, y: &Selector) -> Option<&Answer>
         ensures known { spec.Known self.now.answers x.now y.now result }
         ensures list { ∥ spec.IsTrueList self.now ∥₁ }
@@ -65,8 +65,8 @@ impl Pairs {
         self.answers.get(&places)
     }
 
-    /// Says that the answers that are held are true for the budget, and that no ordered pair has two. By
-    /// `apart_selectors_do_not_meet`, selectors for which `Apart` is held do not meet. Does nothing when it runs.
+    /// The answers that are held are true for the budget, and no ordered pair has two. By
+    /// `apart_selectors_do_not_meet`, selectors for which `Apart` is held do not meet. It does nothing when it runs.
     pub fn are_true(&self)
         ensures { ∥ spec.IsTrueList self.now ∥₁ }
     {
@@ -74,7 +74,7 @@ impl Pairs {
         let _budget = self.budget;
     }
 
-    /// Where the answer for the ordered pair stands, if there is one.
+    /// The place of the answer for the ordered pair, if there is one.
     fn place(&self, x: &Selector, y: &Selector) -> Option<usize>
         ensures { spec.StandsAt self.now.answers x.now y.now result }
     {
@@ -95,7 +95,7 @@ impl Pairs {
         store(&mut self.selectors, &mut self.answers, x, y, answer)
     }
 
-    /// Where the answer for the ordered pair stands, which is given now where there is none.
+    /// The place of the answer for the ordered pair. The answer is given now where there is none.
     fn answered(&mut self, x: &Selector, y: &Selector) -> Result<usize, AllocError>
         requires first { IsInProfile x.now }
         requires second { IsInProfile y.now }
@@ -111,8 +111,9 @@ impl Pairs {
         self.remember(x, y, decision.answer)
     }
 
-    /// Answers for the ordered pair of two selectors of the profile, unless an answer is held for it; `known`
-    /// then gives it. All that was held stays, and comes first; after `AllocError` that is all that is held.
+    /// Answers for the ordered pair of two selectors of the profile, unless an answer is held for it; `known` then
+    /// gives it. All that was held stays, and comes first. `AllocError` where memory runs out; then nothing else is
+    /// held.
     pub fn settle(&mut self, x: &Selector, y: &Selector) -> Result<(), AllocError>
         requires first { IsInProfile x.now }
         requires second { IsInProfile y.now }
@@ -126,9 +127,9 @@ impl Pairs {
     }
 
     /// Answers for an ordered pair of selectors of the profile for which no answer is held; `known` then gives the
-    /// answer. Some log comes exactly where they do not meet, both are of one pseudo-element, and one has a
-    /// combinator: the formula of the pair, and the ledger that refutes it. All that was held stays, and comes
-    /// first; after `AllocError` that is all that is held.
+    /// answer. A log comes exactly where the answer is `Apart`, both are of one pseudo-element, and one has a
+    /// combinator: the formula of the pair, and the ledger that refutes it. All that was held stays, and comes first.
+    /// `AllocError` where memory runs out; then nothing else is held.
     pub fn ask_with_log(
         &mut self,
         x: &Selector,
@@ -147,8 +148,9 @@ impl Pairs {
         Ok(log)
     }
 
-    /// The answer for the ordered pair of two selectors of the profile: the one that is held for it, or else
-    /// one that is given now and held from then on. All that was held stays, also after `AllocError`.
+    /// The answer for the ordered pair of two selectors of the profile: the one that is held for it, or else one that
+    /// is given now and held from then on. All that was held stays. `AllocError` where memory runs out; all that was
+    /// held stays then too.
     pub fn ask(&mut self, x: &Selector, y: &Selector) -> Result<&Answer, AllocError>
         requires first { IsInProfile x.now }
         requires second { IsInProfile y.now }

@@ -21,8 +21,7 @@ pub(crate) fn only(chain: &[Compound]) -> Option<&[Simple]>
     }
 }
 
-/// The answer for two compounds: that they do not meet where no features fit both, and else by the three
-/// documents.
+/// The answer for two compounds. They do not meet where no features fit both; else the three documents decide.
 pub(crate) fn decide_single(
     alloc: Global,
     x: &[Simple],

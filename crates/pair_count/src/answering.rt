@@ -42,7 +42,7 @@ fn ask(pairs: &mut Pairs, x: &Selector, y: &Selector) -> Result<Kind, AllocError
     Ok(kind_of(answer))
 }
 
-/// Puts the kinds of the answers for a selector with each of a list behind the others.
+/// Puts the kinds of the answers for a selector with each of a list after the others.
 fn ask_row(
     pairs: &mut Pairs,
     x: &Selector,

@@ -43,9 +43,9 @@ fn counts_of(kinds: &[Kind]) -> Counts
 }
 
 /// How many ordered pairs of the selectors of the style rules of a sheet meet, are apart, and are not compared, each
-/// decided without a limit. A selector that stands twice is asked twice.
+/// decided without a limit. A selector that occurs twice is asked twice.
 ///
-/// `Fault` comes exactly where the sheet has one. `NoMemory` comes where memory is short.
+/// `Fault` exactly where the sheet has one, with its place in bytes from 0. `NoMemory` where memory is short.
 #[tactic(auto, using(crate::proofs::Profile::read_in_profile))]
 pub(crate) fn count_pairs(alloc: Global, source: &[u8]) -> Result<Counts, SheetError>
     ensures counts { IfOk result (spec.IsCount source.now) }

@@ -1,5 +1,5 @@
-//! `pair_count`: how many ordered pairs of the selectors of the style sheet on standard input meet, are apart, and
-//! are not compared. It is there to measure the answers for pairs by themselves.
+//! `pair_count`: how many ordered pairs of the selectors of the style sheet on standard input meet, are apart, and are
+//! not compared. It serves to measure the answers for pairs by themselves.
 #![tactic(auto)]
 
 mod answering;

@@ -6,7 +6,7 @@ ghost use Rattle.pair_count.specs.Asking as spec;
 use css_model::{Item, SelItem, Selector};
 use std::alloc::{AllocError, Global};
 
-/// Puts the selectors of a rule behind the others.
+/// Puts the selectors of a rule after the others.
 fn push_rule(found: &mut Vec<Selector>, selectors: &[SelItem]) -> Result<(), AllocError>
     ensures { OnOk result (found.new.items ≡ found.old.items ++ map (λ s. s.selector) selectors.now) }
 {
@@ -16,7 +16,7 @@ fn push_rule(found: &mut Vec<Selector>, selectors: &[SelItem]) -> Result<(), All
     Ok(())
 }
 
-/// Puts the selectors of an item behind the others: none of what is kept as it stands.
+/// Puts the selectors of an item after the others: none of what is kept.
 fn push_item(found: &mut Vec<Selector>, item: &Item) -> Result<(), AllocError>
     ensures { OnOk result (found.new.items ≡ found.old.items ++ spec.selectors_in item.now) }
 {

@@ -9,7 +9,7 @@ use mixing::Mixer;
 use std::alloc::{AllocError, Global};
 use std::hash::Hash;
 
-/// The digest of a selector. Equal selectors have equal digests. Takes no memory.
+/// The digest of a selector. Equal selectors have equal digests.
 #[tactic(auto, unfolding(crate::specs::Digests::selector_digest))]
 pub fn selector_digest(selector: &Selector) -> u32
     ensures { result ≡ spec.selector_digest selector.now }
@@ -20,7 +20,6 @@ pub fn selector_digest(selector: &Selector) -> u32
 }
 
 /// The digest of a declaration: of its property, its value and its importance. Equal declarations have equal digests.
-/// Takes no memory.
 #[tactic(auto, unfolding(crate::specs::Digests::decl_digest))]
 pub fn decl_digest(decl: &Decl) -> u32
     ensures { result ≡ spec.decl_digest decl.now }
@@ -32,7 +31,7 @@ pub fn decl_digest(decl: &Decl) -> u32
     state.digest()
 }
 
-/// The digests of selectors, in their order. The error comes where memory is short.
+/// The digests of selectors, in their order. `AllocError` where memory is short.
 pub fn selector_digests(alloc: Global, selectors: &[SelItem]) -> Result<Vec<u32>, AllocError>
     ensures { IfOk result (λ digests. digests.items ≡ tables.selector_digests selectors.now) }
 {
@@ -43,7 +42,7 @@ pub fn selector_digests(alloc: Global, selectors: &[SelItem]) -> Result<Vec<u32>
     Ok(digests)
 }
 
-/// The digests of declarations, in their order. The error comes where memory is short.
+/// The digests of declarations, in their order. `AllocError` where memory is short.
 pub fn decl_digests(alloc: Global, decls: &[DeclItem]) -> Result<Vec<u32>, AllocError>
     ensures { IfOk result (λ digests. digests.items ≡ tables.decl_digests decls.now) }
 {

@@ -14,7 +14,7 @@ use std::collections::HashMap;
 use std::hash::BuildHasherDefault;
 use std::marker::Model;
 
-/// Where a label stands among labels that ascend, or where it is to be put.
+/// Where a label is among labels that ascend, or where it is to be put.
 fn find_place(labels: &[u64], label: u64) -> Result<usize, usize>
     requires { IsStrictlyIncreasing labels.now }
     ensures { IsPlaceAmong labels.now label result }
@@ -25,7 +25,7 @@ fn find_place(labels: &[u64], label: u64) -> Result<usize, usize>
     }
 }
 
-/// Whether a label stands among labels that ascend.
+/// Whether a label is among labels that ascend.
 pub(crate) fn has_label(labels: &[u64], label: u64) -> bool
     requires { IsStrictlyIncreasing labels.now }
     ensures { IsTrue result ↔ Contains labels.now label }
@@ -33,7 +33,7 @@ pub(crate) fn has_label(labels: &[u64], label: u64) -> bool
     find_place(labels, label).is_ok()
 }
 
-/// Whether no other label than this one stands there.
+/// Whether no other label than this one is there.
 pub(crate) fn has_no_other(labels: &[u64], own: u64) -> bool
     ensures { IsTrue result ↔ ((labels.now ≡ []) ⊎ (labels.now ≡ own ∷ [])) }
 {

@@ -6,9 +6,9 @@ ghost use Rattle.rule_tables.specs.Labels.{labels_of};
 /// Labels of rules.
 #[derive(Debug, Drop)]
 pub enum Labels<'a> {
-    /// Those under one digest.
+    /// The labels under one digest.
     Under(&'a [u64]),
-    /// Those under several ones, put together.
+    /// The labels under several digests, put together.
     Made(Vec<u64>),
 }
 

@@ -1,4 +1,4 @@
-//! What is told of steps by labelled rules. The functions do nothing.
+//! What is known of steps by labelled rules, as functions that do nothing.
 
 ghost use Rattle.rule_tables.specs.Cutting.{DeclCutsAreTold, SelectorCutsAreTold};
 ghost use Rattle.rule_tables.specs.StepPartners.{LabelledRulesStand, RulesAreLabelled, StepsHavePartners};
@@ -13,18 +13,19 @@ pub fn rules_are_labelled()
     ensures { RulesAreLabelled }
 {}
 
-/// And each labelled rule stands among the items, where its label does.
+/// Each labelled rule is among the items, where its label is.
 pub fn labelled_rules_stand()
     ensures { LabelledRulesStand }
 {}
 
-/// A declaration of a rule can be cut exactly where it stands in the rule again, or each of its pairs stands in a rule
-/// with another label.
+/// A declaration of a rule can be cut exactly where it is in the rule again, or each of its pairs is in a rule with
+/// another label.
 pub fn decl_cuts_are_told()
     ensures { DeclCutsAreTold }
 {}
 
-/// And so a selector.
+/// A selector of a rule can be cut exactly where it is in the rule again, or each of its pairs is in a rule with
+/// another label.
 pub fn selector_cuts_are_told()
     ensures { SelectorCutsAreTold }
 {}

@@ -1,4 +1,4 @@
-//! Which rules of a sheet can be partners of a rule in a step of two rules, found by tables of the rules by their parts.
+//! Which rules of a sheet can be partners of a rule in a step of two rules, by tables of the rules by their parts.
 #![tactic(auto)]
 
 mod digests;

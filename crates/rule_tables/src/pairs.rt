@@ -1,4 +1,4 @@
-//! Whether a pair of a selector and a declaration stands in another rule.
+//! Whether a pair of a selector and a declaration is in another rule.
 
 ghost use Rattle.std.specs.Prelude.{◌≢◌, ◌↔◌, ℕ, IsTrue, List};
 ghost use Rattle.std.specs.List.{Contains};
@@ -9,12 +9,12 @@ ghost use Rattle.rule_tables.specs.Tables as spec;
 use crate::label_lists::has_label;
 use css_model::{Decl, Selector};
 
-/// Rules with labels, which tell whether one of them has a pair.
+/// Rules with labels, which answer whether one of them has a pair.
 pub trait LabelledRules {
     /// The rules, each with its label.
     ghost rules: { Self → List spec.Labelled };
 
-    /// Whether a rule with this label has a selector and a declaration. Takes no memory.
+    /// Whether a rule with this label has a selector and a declaration. It takes no memory.
     fn has_pair(&self, label: u64, selector: &Selector, decl: &Decl) -> bool
         ensures { IsTrue result ↔ pairs.LabelHasBoth (rules self.now) label selector.now decl.now };
 }
@@ -35,7 +35,8 @@ fn is_pair_of_other<R: LabelledRules>(
     rules.has_pair(label, selector, decl)
 }
 
-/// The same, where the label of a rule that has both stands among others.
+/// Whether a label is another one, and a rule with it has a selector and a declaration, where the label of each rule
+/// that has both is among others.
 fn is_pair_of_listed<R: LabelledRules>(
     others: &[u64],
     rules: &R,
@@ -82,7 +83,7 @@ pub(crate) fn is_pair_soon<R: LabelledRules>(
 }
 
 /// Whether one of these labels is another one whose rule has a selector and a declaration, where the label of each rule
-/// that has both stands in both lists.
+/// that has both is in both lists.
 pub(crate) fn is_pair_in_both<R: LabelledRules>(
     labels: &[u64],
     others: &[u64],

@@ -25,7 +25,7 @@ fn first_few(selectors: &[SelItem]) -> &[SelItem]
     &selectors[..FEW.min(selectors.len())]
 }
 
-/// The labels under the digest of one of the first selectors: those that stand under all of them, and maybe others.
+/// The labels under the digest of one of the first selectors: those that are under all of them, and maybe others.
 pub(crate) fn labels_of_selectors<'a>(entries: &'a LabelLists, selectors: &[SelItem]) -> &'a [u64]
     ensures ascends { IsStrictlyIncreasing result.now }
     ensures shared { spec.PutsShared entries.now (spec.selector_digests selectors.now) [] result.now }
@@ -42,7 +42,7 @@ pub(crate) fn labels_of_selectors<'a>(entries: &'a LabelLists, selectors: &[SelI
     found
 }
 
-/// Whether under the digests of selectors no other label than this one stands. It is not looked for where there are many.
+/// Whether no other label than this one is under the digests of selectors. It is not looked for where there are many.
 pub(crate) fn have_no_others(entries: &LabelLists, selectors: &[SelItem], own: u64) -> bool
     ensures { IsTrue result → (label : ℕ) → spec.IsUnderOne entries.now (spec.selector_digests selectors.now) label → label ≡ own }
 {
@@ -59,14 +59,14 @@ pub(crate) fn have_no_others(entries: &LabelLists, selectors: &[SelItem], own: u
     true
 }
 
-/// Puts labels behind the others.
+/// Puts labels after the others.
 fn put_labels(found: &mut Vec<u64>, labels: &[u64]) -> Result<(), AllocError>
     ensures { OnOk result (Puts found.old.items labels.now found.new.items) }
 {
     found.extend_from_slice(labels)
 }
 
-/// Puts in labels that stand under digests of selectors: at least those that stand under all of them.
+/// Puts in labels that are under digests of selectors: at least those that are under all of them.
 pub(crate) fn put_shared(
     found: &mut Vec<u64>,
     entries: &LabelLists,
@@ -77,7 +77,7 @@ pub(crate) fn put_shared(
     put_labels(found, labels_of_selectors(entries, selectors))
 }
 
-/// Puts in the labels that stand under one of these digests.
+/// Puts in the labels that are under one of these digests.
 fn put_under_each(
     found: &mut Vec<u64>,
     entries: &LabelLists,
@@ -93,7 +93,7 @@ fn put_under_each(
     Ok(())
 }
 
-/// The same digests, each once. Takes no memory.
+/// The same digests, each once.
 fn each_once(mut digests: Vec<u32>) -> Vec<u32>
     ensures { HaveSameMembers result.items digests.items }
 {
@@ -102,7 +102,7 @@ fn each_once(mut digests: Vec<u32>) -> Vec<u32>
     digests
 }
 
-/// Puts in the labels that stand under the digest of one of these declarations. Each digest is looked for once.
+/// Puts in the labels that are under the digest of one of these declarations. Each digest is looked for once.
 pub(crate) fn put_under_decls(
     alloc: Global,
     found: &mut Vec<u64>,
@@ -115,7 +115,8 @@ pub(crate) fn put_under_decls(
     put_under_each(found, entries, &digests)
 }
 
-/// The same labels, each once, ascending. They are a few lists that ascend, one behind the other, which a stable sort finds.
+/// The same labels, each once, ascending. They are a few lists that ascend, one after the other, which a stable sort
+/// finds.
 pub(crate) fn in_order(mut found: Vec<u64>) -> Result<Vec<u64>, AllocError>
     ensures ascends { IfOk result (λ list. IsStrictlyIncreasing list.items) }
     ensures same { IfOk result (λ list. HaveSameMembers list.items found.items) }
@@ -151,7 +152,8 @@ fn labels_alike<'a>(entries: &'a LabelLists, decls: &[DeclItem]) -> Option<&'a [
     Some(found)
 }
 
-/// The labels under the digest of one of these declarations, ascending. Takes no memory where the declarations have all the same.
+/// The labels under the digest of one of these declarations, ascending. It takes no memory where the declarations have
+/// all the same.
 pub(crate) fn labels_of_decls<'a>(
     alloc: Global,
     entries: &'a LabelLists,

@@ -23,9 +23,9 @@ use css_model::{Decl, Item, Rule, Selector};
 use std::alloc::{AllocError, Global};
 use std::marker::Model;
 
-/// The rules of a sheet by the digests of their selectors and of their declarations. Each rule has a label, which
-/// tells it from the others. Entries of rules that are gone may stay, since each rule that is found is tested. Whoever
-/// takes a rule out of the sheet takes its entries out by `remove`: what stays makes each look longer.
+/// The rules of a sheet by the digests of their selectors and of their declarations. Each rule has a label of its own.
+/// Entries of rules that are gone may stay, since each rule that is found is tested. Whoever takes a rule out of the
+/// sheet takes its entries out by `remove`: what stays makes each look longer.
 #[derive(Debug, Drop)]
 pub struct Tables {
     selectors: LabelLists,
@@ -41,7 +41,7 @@ impl Model for Tables {
 }
 
 impl Tables {
-    /// Tables of the rules among these items, which have these labels. The error comes where memory is short.
+    /// Tables of the rules among these items, which have these labels. `AllocError` where memory is short.
     pub fn new(alloc: Global, items: &[Item], labels: &[u64]) -> Result<Tables, AllocError>
         ensures exact { IfOk result (λ tables. spec.StandFor tables (spec.labelled items.now labels.now)) }
         ensures covers { IfOk result (λ tables. spec.Cover tables (spec.labelled items.now labels.now)) }
@@ -82,8 +82,8 @@ impl Tables {
         put_decls(&mut self.decls, &rule.decls, label)
     }
 
-    /// Puts a rule in with its label: what they cover they still cover, and the rule too. The error comes where memory
-    /// is short; then some of the rule's entries may be there.
+    /// Puts a rule in with its label. What the tables cover they still cover, and the rule too. `AllocError` where
+    /// memory is short; then some of the rule's entries may be there.
     pub fn insert(&mut self, rule: &Rule, label: u64) -> Result<(), AllocError>
         ensures ok { OnOk result (spec.PutsRule self.old rule.now label self.new) }
         ensures err { OnErr result (spec.PutsSomeOf self.old rule.now label self.new) }
@@ -94,8 +94,8 @@ impl Tables {
         self.put_rule(rule, label)
     }
 
-    /// Takes the entries of a rule with its label out, and no others: what the tables cover they still cover, where none
-    /// of it has the label. Takes no memory.
+    /// Takes the entries of a rule with its label out, and no others. What the tables cover they still cover, where
+    /// none of it has the label.
     pub fn remove(&mut self, rule: &Rule, label: u64)
         ensures exact { spec.TakesRule self.old rule.now label self.new }
         ensures still { (rules : List spec.Labelled) → spec.HaveOtherLabels rules label → spec.Cover self.old rules
@@ -105,11 +105,15 @@ impl Tables {
         take_decls(&mut self.decls, &rule.decls, label);
     }
 
-    /// The labels of the rules that can be partners of a rule in a step of two rules, ascending: of those that the
-    /// tables cover at least each that has the same selectors or a declaration in common, and none that stands under no
-    /// digest of a part of the rule. Its own label is among them, if the tables cover it. Labels of rules that are gone
-    /// may be among them. The error comes where memory is short. The time is that of the rule's parts and of what is
-    /// found, each with a logarithm.
+    /// The labels of the rules that can be partners of a rule in a step of two rules, ascending. `AllocError` where
+    /// memory is short.
+    ///
+    /// - Of the rules that the tables cover, each is found that has the same selectors or a declaration in common.
+    /// - None is found that is under no digest of a part of the rule.
+    /// - The rule's own label is among them, if the tables cover it.
+    /// - Labels of rules that are gone may be among them.
+    ///
+    /// The time is that of the rule's parts and of what is found, each with a logarithm.
     pub fn partners(&self, alloc: Global, rule: &Rule) -> Result<Vec<u64>, AllocError>
         ensures ascends { IfOk result (λ found. IsStrictlyIncreasing found.items) }
         ensures all { IfOk result (λ found. (rules : List spec.Labelled) (x : spec.Labelled) → spec.Cover self.now rules
@@ -122,8 +126,9 @@ impl Tables {
         in_order(found)
     }
 
-    /// The labels, ascending, of the rules with the same selectors, and maybe of others that have a selector whose digest
-    /// one of them has. At most eight digests are looked at. Takes no memory today, so that no error comes.
+    /// The labels, ascending, of the rules with the same selectors, and maybe of others that have a selector whose
+    /// digest one of them has. At most eight digests are looked at. By its contract `AllocError` may come; today it
+    /// takes no memory.
     pub fn with_selectors(&self, _alloc: Global, rule: &Rule) -> Result<Labels<'_>, AllocError>
         ensures ascends { IfOk result (λ l. IsStrictlyIncreasing (labels_of l)) }
         ensures all { IfOk result (λ l. (rules : List spec.Labelled) (x : spec.Labelled) (s : SelectorParts) → spec.Cover self.now rules
@@ -135,8 +140,8 @@ impl Tables {
         Ok(Labels::Under(labels_of_selectors(&self.selectors, &rule.selectors)))
     }
 
-    /// The labels, ascending, of the rules that have one of the declarations, and maybe of others that have one with the
-    /// digest of one of them. The error comes where memory is short.
+    /// The labels, ascending, of the rules that have one of the declarations, and maybe of others that have one with
+    /// the digest of one of them. `AllocError` where memory is short.
     pub fn with_decl(&self, alloc: Global, rule: &Rule) -> Result<Labels<'_>, AllocError>
         ensures ascends { IfOk result (λ l. IsStrictlyIncreasing (labels_of l)) }
         ensures all { IfOk result (λ l. (rules : List spec.Labelled) (x : spec.Labelled) (d : Decl) → spec.Cover self.now rules
@@ -147,8 +152,8 @@ impl Tables {
         labels_of_decls(alloc, &self.decls, &rule.decls)
     }
 
-    /// Whether no other rule than that with the label `own` has one of the rule's selectors. Where it has more than
-    /// eight, or others have the digest of one, the answer is no. Takes no memory.
+    /// Whether no other rule than that with the label `own` has one of the rule's selectors. The answer is no too where
+    /// the rule has more than eight, or where others have the digest of one.
     pub fn has_own_selectors(&self, rule: &Rule, own: u64) -> bool
         ensures { result ≡ true → (rules : List spec.Labelled) (x : spec.Labelled) (s : SelectorParts) → spec.Cover self.now rules
             → Contains rules x → x.label ≢ own → Contains (selectors_of rule.now) s → Contains (selectors_of x.rule) s → ⊥ }
@@ -156,9 +161,9 @@ impl Tables {
         have_no_others(&self.selectors, &rule.selectors, own)
     }
 
-    /// Whether a selector and a declaration stand together in one of these rules that has another label than `own`, where
-    /// the tables cover the rules. Takes no memory. The time is that of the entries of the rarer one of the two digests,
-    /// or short where one of the first rules with the declaration has the selector.
+    /// Whether a selector and a declaration are together in one of these rules that has another label than `own`. The
+    /// tables cover the rules. The time is that of the entries of the rarer one of the two digests; it is short where
+    /// one of the first rules with the declaration has the selector.
     pub fn is_elsewhere<R: LabelledRules>(
         &self,
         rules: &R,

@@ -14,17 +14,16 @@ use std::alloc::{AllocError, Global};
 pub struct Siblings {
     /// Before it.
     pub before: u32,
-    /// Behind it.
+    /// After it.
     pub behind: u32,
 }
 
-/// The least number of siblings before a child that passes the simple selectors of two compounds, as far as
-/// they ask for its position
-/// (Selectors 3, sections 6.6.1 and 6.6.5), and the least number behind it that passes with that. `None`
-/// exactly where no child passes.
+/// The least numbers of siblings of a child that passes the simple selectors of two compounds, as far as they ask for
+/// its position (Selectors 3, sections 6.6.1 and 6.6.5). They are the least number before it, and the least number
+/// after it that passes with that. `None` exactly where no child passes. `AllocError` where memory runs out.
 ///
-/// Each step that is asked for is at most 32 and each offset at most 1,000 in size, and at most four steps
-/// have a size of 2 or more.
+/// Each step that is asked for is at most 32 and each offset at most 1,000 in size, and at most four steps have a size
+/// of 2 or more.
 pub fn least_siblings(
     alloc: Global,
     x: &[Simple],
@@ -51,8 +50,8 @@ pub fn least_siblings(
     ))
 }
 
-/// The same, from the tests of each side and from whether those of both sides hold of a child that is alone,
-/// and of one that is not.
+/// The least numbers of siblings, from the tests of each side, and from whether those of both sides hold of a child
+/// that is alone, and of one that is not.
 fn least(
     fronts: &[Asked],
     front_limit: u32,
@@ -85,7 +84,7 @@ fn least(
     }
 }
 
-/// The same where a child that is alone does not pass, for another cause than its sides.
+/// The least numbers of siblings, where a child that is alone does not pass for another cause than its sides.
 fn least_apart(
     fronts: &[Asked],
     front_limit: u32,

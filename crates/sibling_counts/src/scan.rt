@@ -16,7 +16,8 @@ use std::alloc::{AllocError, Global};
 /// How many positions are kept without an allocation.
 const INLINE: usize = 8;
 
-/// A number below which some number passes, if any does: 0 or one from 1 on.
+/// The limit of the numbers of siblings to try: the threshold and the period of the positions of tests together.
+/// `AllocError` where memory runs out.
 pub(crate) fn limit(alloc: Global, tests: &[Asked]) -> Result<u32, AllocError>
     requires in_range { All IsInRange (positions_of tests.now) }
     requires few { count_by is_stepped (positions_of tests.now) ≤ max_stepped }
@@ -26,7 +27,7 @@ pub(crate) fn limit(alloc: Global, tests: &[Asked]) -> Result<u32, AllocError>
     Ok(limit_of(parts.as_slice()))
 }
 
-/// The same from the positions.
+/// The threshold and the period of positions together.
 fn limit_of(parts: &[AnB]) -> u32
     requires in_range { All IsInRange parts.now }
     requires few { count_by is_stepped parts.now ≤ max_stepped }
@@ -49,7 +50,7 @@ fn positions_of(alloc: Global, tests: &[Asked]) -> Result<SmallVec<AnB, INLINE>,
     Ok(parts)
 }
 
-/// The least number from `start` on, which is 0 or 1, that passes.
+/// The least number from `start` on that passes. `start` is 0 or 1.
 pub(crate) fn first_passing(tests: &[Asked], limit: u32, start: u32) -> Option<u32>
     requires near { start ≤ 1 }
     requires limit { IsLimit tests.now limit }
@@ -79,7 +80,7 @@ fn passes(tests: &[Asked], number: u32) -> bool
     true
 }
 
-/// Whether it passes a test.
+/// Whether a number of siblings passes a test.
 fn passes_one(test: &Asked, number: u32) -> bool
     requires { number < 2 ^ 27 }
     ensures { IsTrue result ↔ PassesTest number test.now }

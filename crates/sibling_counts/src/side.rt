@@ -16,7 +16,7 @@ const INLINE: usize = 8;
 pub(crate) struct Asked {
     /// The positions.
     pub positions: AnB,
-    /// Whether the test stands in `:not()`.
+    /// Whether the test is in `:not()`.
     pub negated: bool,
 }
 
@@ -93,8 +93,8 @@ fn behind_test(simple: &Simple) -> Option<Asked>
     }
 }
 
-/// Whether each test of an only child, or of the root, holds of a child that is alone, or is not, of both
-/// compounds.
+/// Whether each test of an only child, or of the root, holds of a child for both compounds. `alone` says whether the
+/// child is alone.
 #[tactic(auto, using(crate::proofs::Splitting::both_joined))]
 pub(crate) fn both_pass(alone: bool, x: &[Simple], y: &[Simple]) -> bool
     ensures { result ≡ list_all (both_hold alone) (x.now ++ y.now) }
@@ -102,7 +102,8 @@ pub(crate) fn both_pass(alone: bool, x: &[Simple], y: &[Simple]) -> bool
     both_hold(alone, x) && both_hold(alone, y)
 }
 
-/// The same of one.
+/// Whether each test of an only child, or of the root, holds of a child for one compound. `alone` says whether the
+/// child is alone.
 fn both_hold(alone: bool, simples: &[Simple]) -> bool
     ensures { result ≡ list_all (both_hold alone) simples.now }
 {

@@ -28,7 +28,7 @@ fn asks_for_none(x: &[Simple], y: &[Simple]) -> bool
     has_none(x) || has_none(y)
 }
 
-/// The same of one compound.
+/// Whether one compound asks for `:empty`.
 fn has_none(simples: &[Simple]) -> bool
     ensures { result ≡ asks_for_none simples.now }
 {
@@ -48,7 +48,7 @@ pub(crate) fn asks_for_content(x: &[Simple], y: &[Simple]) -> bool
     has_content(x) || has_content(y)
 }
 
-/// The same of one compound.
+/// Whether one compound asks for `:not(:empty)`.
 fn has_content(simples: &[Simple]) -> bool
     ensures { result ≡ asks_for_content simples.now }
 {

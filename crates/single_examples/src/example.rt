@@ -12,14 +12,17 @@ use css_model::{Example, Features, Pseudo, RunDocument, RunLine, Simple, Text};
 use sibling_counts::least_siblings;
 use std::alloc::{AllocError, Global};
 
-/// The first of three documents in which an element passes two compounds, as far as they ask for its position
-/// and for `:empty` (Selectors 3, sections 6.6.1, 6.6.5 and 6.6.5.12): a plain root with the element as a child
-/// that has the least number of plain siblings before it, and behind it the least that goes with that; the
-/// element as the root, which counts as no child; and the same where it counts as one. Its features are these,
-/// with text exactly where `:not(:empty)` is asked for. `None` exactly where it passes in none of the three.
+/// The first of three documents in which an element passes two compounds, as far as they ask for its position and for
+/// `:empty` (Selectors 3, sections 6.6.1, 6.6.5 and 6.6.5.12). `None` exactly where it passes in none of the three.
+/// `AllocError` where memory runs out.
 ///
-/// Each step that is asked for is at most 32 and each offset at most 1,000 in size, and at most four steps
-/// have a size of 2 or more.
+/// - A plain root has the element as a child. The child has the least number of plain siblings before it, and after it
+///   the least that goes with that.
+/// - The element is the root, which counts as no child.
+/// - The element is the root, which counts as a child.
+///
+/// Its features are these, with text exactly where `:not(:empty)` is asked for. Each step that is asked for is at most
+/// 32 and each offset at most 1,000 in size, and at most four steps have a size of 2 or more.
 pub fn first_example(
     alloc: Global,
     x: &[Simple],

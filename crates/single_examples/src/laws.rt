@@ -1,4 +1,4 @@
-//! The laws. They do nothing when they run.
+//! Two selectors of one compound each, as functions that do nothing.
 
 ghost use Rattle.single_examples.specs.Laws.{ExamplesShowMeeting, MeetingPasses};
 

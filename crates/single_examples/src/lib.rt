@@ -1,5 +1,5 @@
-//! The documents that are tried for two selectors of one compound each: a child with the least numbers of
-//! siblings, and the root. One of them shows that the selectors meet, if they do.
+//! The documents that are tried for two selectors of one compound each: a child with the least numbers of siblings, and
+//! the root. One of them shows that the selectors meet, if they do.
 #![tactic(auto)]
 
 mod empties;

@@ -16,7 +16,7 @@ pub(crate) fn root_passes(root_is_child: bool, x: &[Simple], y: &[Simple]) -> bo
     passes_all(root_is_child, x) && passes_all(root_is_child, y)
 }
 
-/// The same of one compound.
+/// Whether the root passes one compound, where it counts as a child or does not.
 fn passes_all(root_is_child: bool, simples: &[Simple]) -> bool
     ensures { IsTrue result ↔ RootPasses root_is_child simples.now }
 {
@@ -28,7 +28,7 @@ fn passes_all(root_is_child: bool, simples: &[Simple]) -> bool
     true
 }
 
-/// The same of a simple selector.
+/// Whether the root passes a simple selector, where it counts as a child or does not.
 fn passes(root_is_child: bool, simple: &Simple) -> bool
     ensures { IsTrue result ↔ PositionFits true root_is_child 0 0 simple.now }
 {

@@ -1,5 +1,5 @@
-//! `solve_count`: how many of the formulas on standard input have a model, how many have none, and how many clauses
-//! the ledgers of these have. It is there to measure the solver by itself.
+//! `solve_count`: how many of the formulas on standard input have a model, how many have none, and how many clauses the
+//! ledgers of these have. It serves to measure the solver by itself.
 //!
 //! The input is numbers: how often each formula is decided; then for each formula its variables and its clauses,
 //! counted, and the clauses, as in a DIMACS file, each with 0 at its end.

@@ -5,7 +5,7 @@ ghost use Rattle.cnf.specs.Lits.{are_below};
 use cnf::{Formula, Lit};
 use std::alloc::{AllocError, Global};
 
-/// The numbers of a text, and whether a hyphen stands in front of each.
+/// The numbers of a text, and whether a hyphen is in front of each.
 pub(crate) fn numbers(alloc: Global, text: &[u8]) -> Result<Vec<(bool, u32)>, AllocError> {
     let mut all = Vec::new(alloc);
     let mut number: u32 = 0;
@@ -33,7 +33,7 @@ pub(crate) fn numbers(alloc: Global, text: &[u8]) -> Result<Vec<(bool, u32)>, Al
     Ok(all)
 }
 
-/// The formulas that numbers behind the first say. Literals of other variables leave their clause out.
+/// The formulas that the numbers after the first one say. A clause with a literal of another variable is left out.
 pub(crate) fn formulas(alloc: Global, numbers: &[(bool, u32)]) -> Result<Vec<Formula>, AllocError> {
     let mut all = Vec::new(alloc);
     let mut f = Formula::new(alloc, 0);

@@ -8,7 +8,7 @@ ghost use Rattle.step_laws.specs.Steps.{first_item, last_item};
 use css_model::{Item, Rule, Sheet};
 use step_laws::Step;
 
-/// The numbers of the first and the last item of a step; of a cut both are its rule's.
+/// The numbers of the first and the last item of a step, from 0. For a cut both are its rule's.
 pub fn items_of(step: &Step) -> (u32, u32)
     ensures { result ≡ (first_item step.now, last_item step.now) }
 {
@@ -22,7 +22,7 @@ pub fn items_of(step: &Step) -> (u32, u32)
     }
 }
 
-/// The rule of this number.
+/// The rule of this number, from 0 among the items of a sheet.
 pub fn rule_at(sheet: &Sheet, number: u32) -> &Rule
     requires { (r : RuleParts) × (slice_get sheet.now.items number ≡ Some (item.Rule r)) }
     ensures { slice_get sheet.now.items number ≡ Some (item.Rule result.now) }

@@ -334,8 +334,8 @@ fn difference(more: u32, less: u32) -> i64
     i64::from(more) - i64::from(less)
 }
 
-/// What a step of a sheet saves, as `saving_by` tells. `apart` says that the rules of a step of two items are known to have
-/// no selector in common; their selectors are not compared then. Takes no memory.
+/// What a step of a sheet saves, in bytes, as `saving_by` gives it. `apart` says that the rules of a step of two items
+/// have no selector in common. Their selectors are not compared then.
 pub fn saving_if_apart<L: Lengths>(lengths: &L, sheet: &Sheet, step: &Step, apart: bool) -> i64
     requires is_step { HasStep sheet.now.items step.now }
     requires sound { IsSound (L.source lengths.now) sheet.now.items }
@@ -351,9 +351,8 @@ pub fn saving_if_apart<L: Lengths>(lengths: &L, sheet: &Sheet, step: &Step, apar
     difference(taken as u32, brought as u32)
 }
 
-/// What a step of a sheet saves, in bytes, where the lengths of the parts are told: the length of the items'
-/// printed texts before the step less that after it. A space before a byte order mark does not count. Takes
-/// no memory.
+/// What a step of a sheet saves, in bytes, by the lengths of the parts: the length of the items' printed texts before
+/// the step less that after it. A space before a byte order mark does not count.
 pub fn saving_by<L: Lengths>(lengths: &L, sheet: &Sheet, step: &Step) -> i64
     requires is_step { HasStep sheet.now.items step.now }
     requires sound { IsSound (L.source lengths.now) sheet.now.items }

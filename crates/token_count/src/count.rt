@@ -17,11 +17,10 @@ pub enum Refused {
     Token(TokenFault),
 }
 
-/// How many tokens a style sheet of at most 1,048,576 bytes has, the white space among them counted too
-/// (CSS Syntax 3, section 4.3). A byte order mark at its front is none.
+/// How many tokens a style sheet of at most 1,048,576 bytes has, with the white space among them (CSS Syntax 3,
+/// section 4.3). A byte order mark at its front is none.
 ///
-/// `NotUtf8` comes exactly where the sheet is not UTF-8, and else `Token` where one of them cannot be read.
-/// Takes no memory.
+/// `NotUtf8` exactly where the sheet is not UTF-8; else `Token` where one of them cannot be read.
 pub fn token_count(source: &[u8]) -> Result<usize, Refused>
     requires { length source.now ≤ max_bytes }
     ensures counts { IfOk result (IsCount source.now) }

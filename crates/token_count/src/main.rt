@@ -1,5 +1,5 @@
-//! `token_count`: how many tokens the style sheet on standard input has. It is there to measure the
-//! reading of tokens by itself.
+//! `token_count`: how many tokens the style sheet on standard input has. It serves to measure the reading of tokens by
+//! itself.
 #![tactic(auto)]
 
 mod count;
