@@ -1,5 +1,5 @@
-//! The report of a merged sheet: what it had and has, and which of its steps still save something, with what blocks
-//! each of them.
+//! The report of a merged sheet: what it had and has, and the steps that still save something, with what blocks each of
+//! them.
 #![tactic(auto)]
 
 mod remaining;

@@ -1,4 +1,5 @@
-//! The steps of a sheet that still save something, where nothing is left to do; and those of the bodies of its opened blocks.
+//! The steps of a sheet that still save something, where nothing is left to do, and those of the bodies of its opened
+//! blocks.
 
 ghost use Rattle.std.specs.Prelude.{◌≡◌, ◌++◌, ◌∷◌, [], List, IfOk, OnOk, map, Ok, Some};
 ghost use Rattle.std.specs.List.{AllByRecursion, AllZip};
@@ -82,9 +83,9 @@ fn remaining_of(
     Ok(found)
 }
 
-/// Of all steps of a sheet in which nothing is left to do those that still save something, in their order, each with its
-/// cause by the answers that are held afterwards. It is the sheet itself, or the body of this block. All that was answered
-/// stays, also after `AllocError`.
+/// The steps that still save something of a sheet in which nothing is left to do, in their order. Each has its cause by
+/// the answers that are held afterwards. It is the sheet itself, or the body of this block. All that was answered
+/// stays. `AllocError` where memory runs out; it stays then too.
 #[tactic(auto, using(merge_plan::proofs::ForCallers::short_source))]
 fn remaining_steps(
     alloc: Global,
@@ -105,7 +106,7 @@ fn remaining_steps(
     remaining_of(alloc, pairs, &index, block, candidates.saving_steps())
 }
 
-/// Those of the body of an opened block.
+/// The steps that still save something of the body of an opened block.
 fn remaining_in_block(
     alloc: Global,
     pairs: &mut Pairs,
@@ -122,7 +123,7 @@ fn remaining_in_block(
     remaining_steps(alloc, pairs, body, &block.sheet, Some(block.item))
 }
 
-/// Those of the bodies of opened blocks, one block after the other.
+/// The steps that still save something of the bodies of opened blocks, one block after the other.
 fn remaining_inside(
     alloc: Global,
     pairs: &mut Pairs,
@@ -144,8 +145,8 @@ fn remaining_inside(
     Ok(found)
 }
 
-/// The same of a sheet that is read from these bytes, and then of the bodies of its opened blocks, where nothing is left to
-/// do in it nor in them.
+/// The steps that still save something of a sheet that is read from these bytes, and then those of the bodies of its
+/// opened blocks. Nothing is left to do in it nor in them.
 pub(crate) fn remaining_opened(
     alloc: Global,
     pairs: &mut Pairs,

@@ -17,7 +17,7 @@ use report_text::report;
 use sheet_read::{SheetError, read_sheet};
 use std::alloc::{AllocError, Global};
 
-/// The sheet that a text is, which has no fault.
+/// The sheet of a text that has no fault.
 fn sheet_of_text(alloc: Global, text: &[u8]) -> Result<Sheet, AllocError>
     requires { (items : List declared.Item) × (sheet_of text.now ≡ Ok items) }
     ensures { IfOk result (λ sheet. sheet_of text.now ≡ Ok sheet.items) }
@@ -29,9 +29,10 @@ fn sheet_of_text(alloc: Global, text: &[u8]) -> Result<Sheet, AllocError>
     }
 }
 
-/// The report of the text that a source was merged to: its numbers, and each step of it that still saves something,
-/// with its cause by the answers that are held afterwards; those inside opened blocks come last. It asks for more
-/// pairs than merging does. All that was answered stays, also after `AllocError`.
+/// The report of the text that a source was merged to, as bytes: its numbers, and each step of it that still saves
+/// something, with its cause by the answers that are held afterwards. The steps inside opened blocks come last. It asks
+/// for more pairs than merging does. All that was answered stays. `AllocError` where memory runs out; it stays then
+/// too.
 pub fn merge_report(
     alloc: Global,
     pairs: &mut Pairs,
@@ -51,7 +52,8 @@ pub fn merge_report(
     report(alloc, items, bytes, merged.taken, blocked.as_slice())
 }
 
-/// The first lines of this report: how many items and how many bytes were read and written, and how many steps were taken.
+/// The first lines of the report of a merged text, as bytes: how many items and how many bytes were read and written,
+/// and how many steps were taken. `AllocError` where memory runs out.
 pub fn merge_summary(
     alloc: Global,
     pairs: &Pairs,

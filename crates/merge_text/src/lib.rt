@@ -1,4 +1,4 @@
-//! The text of a merged sheet, from bytes to bytes: reads, opens blocks of media, takes steps until nothing is left
+//! The text of a merged sheet, from bytes to bytes. It reads, opens blocks of media, takes steps until nothing is left
 //! to do, in the sheet and in each opened body, and prints.
 #![tactic(auto)]
 

@@ -18,7 +18,7 @@ use sheet_laws::read_is_sound;
 use sheet_read::{SheetError, read_sheet};
 use std::alloc::Global;
 
-/// The text of a merged sheet, and what is told of it.
+/// The text of a merged sheet, and what a report says of it.
 #[derive(Debug, Drop)]
 pub struct MergedText {
     /// The text.
@@ -31,7 +31,7 @@ pub struct MergedText {
     pub taken: u32,
 }
 
-/// What is told of the text of a planned sheet.
+/// The text of a planned sheet, with what a report says of it.
 fn told<O: Obstacles>(obstacles: &O, source: &[u8], planned: &Planned, text: Vec<u8>) -> MergedText
     requires from { IsPlannedFrom (O.answers obstacles.now) source.now planned.now }
     requires printed { text.items ≡ printed_with source.now planned.now.media.items planned.now.bodies.items planned.now.sheet.items }
@@ -54,13 +54,13 @@ fn told<O: Obstacles>(obstacles: &O, source: &[u8], planned: &Planned, text: Vec
     }
 }
 
-/// The merged text of a style sheet: no more bytes than the source has, with the same winners of the cascade
-/// in every document and every scene of its kept items (CSS Cascading 3, section 6), and nothing is left to do in it,
-/// nor in the body of an opened block, by the answers that `obstacles` holds afterwards. All earlier answers stay,
-/// and the budget.
+/// The merged text of a style sheet, as bytes: no more of them than the source has, with the same winners of the
+/// cascade in every legal document and every scene of its kept items (CSS Cascading 3, section 6). Nothing is left to
+/// do in it, nor in the body of an opened block, by the answers that `obstacles` holds afterwards. All earlier answers
+/// stay, and the budget.
 ///
-/// `source` is any list of bytes. `Fault` comes exactly where the sheet has one, with its place in bytes
-/// from 0. `NoMemory` comes where memory is short.
+/// `source` is any list of bytes. `Fault` exactly where the sheet has one, with its place in bytes from 0. `NoMemory`
+/// where memory is short.
 pub fn merge_text<O: Obstacles>(
     alloc: Global,
     obstacles: &mut O,

@@ -12,7 +12,7 @@ use crate::turning::{is_turned, is_turned_kept};
 use sheet_order::{Counterpart, Reversal};
 use std::alloc::{AllocError, Global};
 
-/// Puts a moved pair and another one behind the entries, if they are reversed.
+/// Puts a moved pair and another one after the entries, if they are reversed.
 fn push_if_turned<'a>(
     found: &mut Vec<Reversal<'a>>,
     change: &StepWindow<'_>,
@@ -34,7 +34,7 @@ fn push_if_turned<'a>(
     Ok(())
 }
 
-/// Puts the entries of a moved pair and other pairs behind the others.
+/// Puts the entries of a moved pair and other pairs after the others.
 #[tactic(auto, using(sheet_order::proofs::ForCallers::map_append, sheet_order::proofs::ForCallers::filter_append))]
 fn push_turned<'a>(
     found: &mut Vec<Reversal<'a>>,
@@ -54,7 +54,7 @@ fn push_turned<'a>(
     Ok(())
 }
 
-/// Puts a moved pair and a kept item behind the entries, if they are reversed.
+/// Puts a moved pair and a kept item after the entries, if they are reversed.
 fn push_if_kept_turned<'a>(
     found: &mut Vec<Reversal<'a>>,
     change: &StepWindow<'_>,
@@ -76,7 +76,7 @@ fn push_if_kept_turned<'a>(
     Ok(())
 }
 
-/// Puts the entries of a moved pair and kept items behind the others.
+/// Puts the entries of a moved pair and kept items after the others.
 #[tactic(auto, using(sheet_order::proofs::ForCallers::map_append, sheet_order::proofs::ForCallers::filter_append))]
 fn push_kept_turned<'a>(
     found: &mut Vec<Reversal<'a>>,
@@ -96,7 +96,7 @@ fn push_kept_turned<'a>(
     Ok(())
 }
 
-/// Puts all that a moved pair is reversed with behind the entries: pairs among these, beside which none is.
+/// Puts all that a moved pair is reversed with after the entries. The pairs that it is reversed with are among these.
 fn push_turned_with<'a>(
     found: &mut Vec<Reversal<'a>>,
     change: &StepWindow<'_>,

@@ -34,7 +34,7 @@ use std::alloc::{AllocError, Global};
 use std::marker::Model;
 use step_laws::{Step, parts_are_few};
 
-/// The pairs from the first one on that stands in the item of this number or behind it.
+/// The pairs from the first one on that is in the item of this number or after it.
 fn from_item<'i, 'a>(pairs: &'i [Marked<'a>], item: usize) -> &'i [Marked<'a>]
     requires { IsNonDecreasingBy (λ q. q.place.item) pairs.now }
     ensures { result.now ≡ drop (prefix_len (λ q. nat_lt q.place.item item) pairs.now) pairs.now }
@@ -47,7 +47,7 @@ fn from_item<'i, 'a>(pairs: &'i [Marked<'a>], item: usize) -> &'i [Marked<'a>]
     &pairs[n..]
 }
 
-/// The first pairs, up to the last one that stands in the item of this number or above it.
+/// The first pairs, up to the last one that is in the item of this number or above it.
 fn up_to_item<'i, 'a>(pairs: &'i [Marked<'a>], item: usize) -> &'i [Marked<'a>]
     requires { IsNonDecreasingBy (λ q. q.place.item) pairs.now }
     ensures { result.now ≡ take (prefix_len (λ q. nat_le q.place.item item) pairs.now) pairs.now }
@@ -61,7 +61,7 @@ fn up_to_item<'i, 'a>(pairs: &'i [Marked<'a>], item: usize) -> &'i [Marked<'a>]
 }
 
 /// An index of a sheet: its pairs, each at its last place, and its kept items, with the masks of what they may weigh
-/// with, and those of its items. It stands for the items of the sheet, and contracts see it as these.
+/// with, and those of its items. Contracts see it as the items of the sheet.
 #[derive(Drop)]
 pub struct Index<'a> {
     sheet: &'a Sheet,
@@ -104,7 +104,7 @@ impl<'a> Index<'a> {
         })
     }
 
-    /// The index of a sheet. The error comes where memory is short.
+    /// The index of a sheet. `AllocError` where memory is short.
     pub fn new(alloc: Global, sheet: &'a Sheet) -> Result<Index<'a>, AllocError>
         ensures { IfOk result (λ index. index ≡ sheet.now.items) }
     {
@@ -124,8 +124,8 @@ impl<'a> Index<'a> {
     }
 
     /// Makes it the index of `next`, the sheet after one of its sheet's steps. The masks of the items that stay are
-    /// kept. The pairs and the kept items are listed anew, so that the time is that of the whole sheet. The error comes
-    /// where memory is short; then the index is as it was.
+    /// kept. The pairs and the kept items are listed anew: the time is that of the whole sheet. `AllocError` where
+    /// memory is short; then the index is as it was.
     pub fn change(&mut self, alloc: Global, next: &'a Sheet, step: &Step) -> Result<(), AllocError>
         requires is_step { HasStep self.old step.now }
         requires made { (e : Edit) → IsStep self.old step.now e → next.now.items ≡ edited e self.old }
@@ -137,7 +137,7 @@ impl<'a> Index<'a> {
         Ok(())
     }
 
-    /// The pairs that stand last in the window of a step.
+    /// The pairs that are last in the window of a step.
     #[tactic(auto, using(crate::proofs::Rising::pairs_rise))]
     fn around(&self, change: &StepWindow<'_>) -> &[Marked<'a>]
         requires change { IsChange change.now.window change.now.step }
@@ -195,9 +195,9 @@ impl<'a> Index<'a> {
         ascending(alloc, found)
     }
 
-    /// What a step of the sheet reverses, as `reversed` of `sheet_order` tells it of the sheet after the step. Of the
-    /// pairs it looks at those that stand last in the items from the step's first to its last one alone, of a cut from
-    /// the first item of the sheet on.
+    /// What a step of the sheet reverses, as `reversed` of `sheet_order` finds it for the sheet after the step. It
+    /// looks only at the pairs that are last in the items from the step's first to its last one; for a cut, from the
+    /// first item of the sheet on. `AllocError` where memory runs out.
     pub fn reversed(&self, alloc: Global, step: &Step) -> Result<Vec<Reversed>, AllocError>
         requires is_step { HasStep self.now step.now }
         requires planned { CanBePlanned self.now }
@@ -209,9 +209,9 @@ impl<'a> Index<'a> {
         narrow_all(alloc, &found)
     }
 
-    /// Whether a step of the sheet may be taken, by what is answered for pairs of selectors, the moved pair's first. It
-    /// asks for those that it has to know, from the nearest entry on, up to the first that blocks. All answers that were
-    /// held stay, also after `AllocError`.
+    /// Whether a step of the sheet may be taken, by what is answered for pairs of selectors. It asks for the answers
+    /// that it has to know, from the nearest entry on, up to the first that blocks; the moved pair's selector comes
+    /// first. All answers that were held stay. `AllocError` where memory runs out; they stay then too.
     #[tactic(auto, using(sheet_order::proofs::ForCallers::stays_itself))]
     pub fn permitted(
         &self,

@@ -1,4 +1,4 @@
-//! What the steps of a sheet reverse, told by an index that is made once for the sheet.
+//! What the steps of a sheet reverse, by an index that is made once for the sheet.
 #![tactic(auto)]
 
 mod entries;

@@ -75,7 +75,7 @@ pub(crate) fn all_marked<'a>(
     Ok(list)
 }
 
-/// Puts an item with its mask behind the others, if it is kept.
+/// Puts an item with its mask after the others, if it is kept.
 fn push_if_kept<'a>(
     found: &mut Vec<MarkedKept<'a>>,
     number: usize,
@@ -110,7 +110,7 @@ pub(crate) fn list_kept<'a>(
 }
 
 impl<'a> Marked<'a> {
-    /// The pair where its parts stand.
+    /// The pair, by references to its parts.
     pub(crate) fn parts(&self) -> PairRef<'a>
         ensures { result ≡ self.now.pair }
     {
@@ -121,7 +121,7 @@ impl<'a> Marked<'a> {
         }
     }
 
-    /// Whether two pairs weigh. By their masks most that do not are told.
+    /// Whether two pairs weigh. Most that do not are known by their masks.
     #[tactic(auto, using(crate::proofs::Masked::weigh_shows))]
     pub(crate) fn weighs(&self, q: &Marked<'_>) -> bool
         requires first { KeepsLimits self.now.pair.selector }
@@ -135,7 +135,7 @@ impl<'a> Marked<'a> {
         weigh(&self.pair, &q.pair)
     }
 
-    /// Whether a pair weighs with a kept item. By their masks most that do not are told.
+    /// Whether a pair weighs with a kept item. Most that do not are known by their masks.
     #[tactic(auto, using(crate::proofs::Masked::kept_shows))]
     pub(crate) fn weighs_with(&self, kept: &MarkedKept<'_>) -> bool
         ensures { result ≡ order.weighs_kept self.now.pair kept.now.1 }

@@ -7,7 +7,7 @@ use item_masks::{ItemMask, item_masks};
 use merge_steps::Change;
 use std::alloc::{AllocError, Global};
 
-/// Puts the masks of what stands in the place of an item behind the others, its own if it stays.
+/// Puts the masks of what takes the place of an item after the others; its own if it stays.
 fn push_masks(
     alloc: Global,
     list: &mut Vec<ItemMask>,
@@ -30,8 +30,8 @@ fn push_masks(
     Ok(())
 }
 
-/// The masks of the items with what stands in the places of those that are changed. Those of the items that stay are
-/// taken from these.
+/// The masks of the items with what takes the places of those that are changed. Those of the items that stay are taken
+/// from these.
 pub(crate) fn changed_masks(
     alloc: Global,
     changes: &[Change],

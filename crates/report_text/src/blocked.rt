@@ -30,14 +30,14 @@ fn kind_name(step: &Step) -> &'static [u8]
     }
 }
 
-/// Appends a number from 0 as one from 1.
+/// Appends a number that counts from 0 as one that counts from 1.
 fn push_counted(out: &mut Vec<u8>, number: u32) -> Result<(), AllocError>
     ensures { OnOk result (out.new.items ≡ out.old.items ++ decimal (number + 1)) }
 {
     push_number(out, u64::from(number) + 1)
 }
 
-/// Appends the number of an item, behind that of the item whose body it is in.
+/// Appends the number of an item, after that of the item whose body it is in.
 fn push_item(out: &mut Vec<u8>, block: Option<u32>, item: u32) -> Result<(), AllocError>
     ensures { OnOk result (out.new.items ≡ out.old.items ++ item_text block item) }
 {

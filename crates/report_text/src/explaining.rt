@@ -6,7 +6,7 @@ ghost use Rattle.report_text.specs.Explanation.{explanation_text};
 use crate::lines::push_number;
 use std::alloc::{AllocError, Global};
 
-/// What is told of a move, in a word.
+/// What is found of a move, as a word.
 #[derive(Clone, Copy, Debug, PartialEq, Eq, Hash)]
 pub enum Word {
     /// Nothing hinders it.
@@ -21,14 +21,14 @@ pub enum Word {
     Spent,
 }
 
-/// What is told of a move.
+/// What is found of a move.
 #[derive(Debug, Drop)]
 pub struct Explanation {
-    /// In a word.
+    /// The word for it.
     pub word: Word,
     /// The text of the moved pair, where two pairs hinder the move.
     pub moved: Vec<u8>,
-    /// That of the other one.
+    /// The text of the other one.
     pub other: Vec<u8>,
     /// The text of a document with an element that both selectors match.
     pub document: Vec<u8>,
@@ -44,7 +44,7 @@ fn numbered(alloc: Global, word: &[u8], number: u64) -> Result<Vec<u8>, AllocErr
     Ok(line)
 }
 
-/// Two pairs and a document, behind their word.
+/// Two pairs and a document, after their word.
 fn blocked(
     alloc: Global,
     moved: &[u8],
@@ -62,8 +62,9 @@ fn blocked(
     Ok(text)
 }
 
-/// The lines of an explanation: its word, with the number of a kept item from 1, or of a reason. Behind
-/// `blocked` stand the moved pair, the other one and the document, which are read for this word alone.
+/// The lines of an explanation, as bytes: its word, with the number of a kept item from 1, or of a reason. After
+/// `blocked` come the moved pair, the other one and the document. They are read for this word alone. `AllocError` where
+/// memory runs out.
 pub fn explained(alloc: Global, x: &Explanation) -> Result<Vec<u8>, AllocError>
     ensures { IfOk result (λ text. text.items ≡ explanation_text x.now) }
 {

@@ -1,4 +1,4 @@
-//! The lines of a report: what a sheet had and has, how many steps were taken, and which are blocked; and those
+//! The lines of a report: what a sheet had and has, how many steps were taken, and the blocked steps. Also the lines
 //! that explain a move.
 #![tactic(auto)]
 

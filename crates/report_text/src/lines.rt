@@ -43,10 +43,12 @@ fn push_all_blocked(
     Ok(())
 }
 
-/// The report of a run: how many items and how many bytes were read and were written, how many steps were
-/// taken, and a line for each step that is blocked in the sheet that was written, in the order given. With
-/// a blocked step stands the number from 0 of the item whose body it is in, or none where it is one of the
-/// sheet itself. `AllocError` comes where memory runs out.
+/// The report of a run, as bytes. `AllocError` where memory runs out.
+///
+/// - How many items and how many bytes were read and were written.
+/// - How many steps were taken.
+/// - A line for each step that is blocked in the sheet that was written, in the order given. With it comes the number
+///   from 0 of the item whose body it is in, or none where it is a step of the sheet itself.
 pub fn report(
     alloc: Global,
     items: (u32, u32),

@@ -1,4 +1,4 @@
-//! What it means that nothing is found in two sheets, each law as the contract of a function that does nothing.
+//! What it means that nothing is found in two sheets, as functions that do nothing.
 
 ghost use Rattle.same_laws.specs.Same.{SamePartsKeep, SameSheetsHaveOneScene, SameSheetsWinAlike};
 
@@ -19,8 +19,8 @@ pub fn same_parts_keep()
     apart_selectors_do_not_meet();
 }
 
-/// Two sheets that compare as the same have the same scenes, and in each scene the same winners: in every legal document,
-/// for every target and of all understood declarations that compete (CSS Cascading 3, section 6).
+/// Two sheets that compare as the same have the same scenes, and in each scene the same winners in every legal document
+/// (CSS Cascading 3, section 6). It holds for every target and of all understood declarations that compete.
 pub fn same_sheets_win_alike()
     ensures scenes { SameSheetsHaveOneScene }
     ensures winners { SameSheetsWinAlike }

@@ -70,7 +70,7 @@ pub fn weighs_kept(p: &Placed<'_>, item: &Item) -> bool
     }
 }
 
-/// Whether the first place is later.
+/// Whether the first of two places is later.
 fn is_later(x: &Placed<'_>, y: &Placed<'_>) -> bool
     ensures { result ≡ order.is_later x.now.place y.now.place }
 {
@@ -93,7 +93,7 @@ fn stands_before(pairs: &[Placed<'_>], p: &Placed<'_>, q: &Placed<'_>) -> bool
         .any(|x| x.is_same(p) && stands_later(pairs, q, x))
 }
 
-/// Whether the last of the first pair stands before the last of the second.
+/// Whether the last of the first pair is before the last of the second.
 fn comes_before(sheet: &Ordered<'_>, p: &Placed<'_>, q: &Placed<'_>) -> bool
     ensures { result ≡ order.comes_before sheet.now.items.now p.now.pair q.now.pair }
 {
@@ -107,7 +107,7 @@ pub fn is_kept(item: &Item) -> bool
     !matches!(item, Item::Rule(_))
 }
 
-/// One for a kept item, and else nothing.
+/// One for a kept item, otherwise 0.
 fn kept_count(item: &Item) -> usize
     ensures exact { result ≡ count_of item.now }
     ensures small { result ≤ 1 }
@@ -115,7 +115,7 @@ fn kept_count(item: &Item) -> usize
     if is_kept(item) { 1 } else { 0 }
 }
 
-/// How many of so many first items are kept.
+/// How many of the first `number` items are kept.
 #[tactic(auto, using(crate::proofs::KeptNumbers::kept_next, crate::proofs::KeptNumbers::kept_none))]
 pub fn kept_before(number: usize, items: &[Item]) -> usize
     ensures { result ≡ kept.kept_before number items.now }
@@ -134,7 +134,7 @@ pub fn kept_before(number: usize, items: &[Item]) -> usize
     kept
 }
 
-/// Whether the last of a pair stands before the kept item of this number among the kept items.
+/// Whether the last of a pair is before the kept item of this number among the kept items.
 fn comes_before_kept(sheet: &Ordered<'_>, p: &Placed<'_>, number: usize) -> bool
     ensures { result ≡ order.comes_before_kept sheet.now.items.now p.now.pair number }
 {

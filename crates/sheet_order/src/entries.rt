@@ -40,7 +40,7 @@ impl<'a> Model for Reversal<'a> {
 }
 
 impl<'a> Counterpart<'a> {
-    /// The same.
+    /// The same counterpart.
     fn copy(&self) -> Counterpart<'a>
         ensures { other_seen result ≡ other_seen self.now }
     {
@@ -62,7 +62,7 @@ impl<'a> Reversal<'a> {
     }
 }
 
-/// Puts a moved pair and another one behind the entries, if they are reversed.
+/// Puts a moved pair and another one after the entries, if they are reversed.
 fn push_if_reversed<'a>(
     found: &mut Vec<Reversal<'a>>,
     old: &Ordered<'a>,
@@ -84,7 +84,7 @@ fn push_if_reversed<'a>(
     Ok(())
 }
 
-/// Puts the entries of a moved pair and other pairs behind the others.
+/// Puts the entries of a moved pair and other pairs after the others.
 #[tactic(auto, using(crate::proofs::Lists::map_append, crate::proofs::Lists::filter_append))]
 fn push_pairs_reversed<'a>(
     found: &mut Vec<Reversal<'a>>,
@@ -104,7 +104,7 @@ fn push_pairs_reversed<'a>(
     Ok(())
 }
 
-/// Puts a moved pair and an item behind the entries, if it is kept and they are reversed.
+/// Puts a moved pair and an item after the entries, if it is kept and they are reversed.
 fn push_if_kept_reversed<'a>(
     found: &mut Vec<Reversal<'a>>,
     old: &Ordered<'a>,
@@ -127,7 +127,7 @@ fn push_if_kept_reversed<'a>(
     Ok(())
 }
 
-/// Puts the entries of a moved pair and kept items behind the others.
+/// Puts the entries of a moved pair and kept items after the others.
 #[tactic(auto, using(crate::proofs::Lists::map_append, crate::proofs::Lists::filter_append, crate::proofs::KeptNumbers::kept_from_cons))]
 fn push_kept_reversed<'a>(
     found: &mut Vec<Reversal<'a>>,
@@ -148,7 +148,7 @@ fn push_kept_reversed<'a>(
     Ok(())
 }
 
-/// Puts all that a moved pair is reversed with behind the entries.
+/// Puts all that a moved pair is reversed with after the entries.
 fn push_reversed_with<'a>(
     found: &mut Vec<Reversal<'a>>,
     old: &Ordered<'a>,

@@ -1,4 +1,4 @@
-//! Selectors, declarations and pairs as keys of tables, in which they are the same wherever they stand.
+//! Selectors, declarations and pairs as keys of tables. There they are the same wherever they are in a sheet.
 
 use crate::pairs::Placed;
 use css_model::{Decl, Selector};

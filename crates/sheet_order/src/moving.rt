@@ -19,9 +19,14 @@ fn moved_item(items: Vec<Item>, from: usize, to: usize) -> Result<Vec<Item>, All
     Ok(moved)
 }
 
-/// The sheet once an item is moved, both numbers from 0: it stands directly behind the item of number `to`
-/// where it stood before it, directly before it where it stood behind, and where the numbers are equal the
-/// sheet is the same. It is a copy, in the memory of the allocators of the sheet's lists.
+/// The sheet with an item moved from one number to another, both from 0. The sheet is a copy, in the memory of the
+/// allocators of the sheet's lists. `AllocError` where memory runs out.
+///
+/// | `from` is | the item is then |
+/// |---|---|
+/// | less than `to` | directly after the item of number `to` |
+/// | greater than `to` | directly before the item of number `to` |
+/// | equal to `to` | where it was |
 pub fn move_rule(sheet: &Sheet, from: u32, to: u32) -> Result<Sheet, AllocError>
     requires from { from < length sheet.now.items }
     requires to { to < length sheet.now.items }

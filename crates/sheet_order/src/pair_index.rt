@@ -46,7 +46,7 @@ fn firsts_of<'a>(alloc: Global, pairs: &[Placed<'a>]) -> Result<IndexSet<PairKey
 }
 
 impl<'a> PairIndex<'a> {
-    /// The index of these pairs.
+    /// The index of these pairs. `AllocError` where memory runs out.
     pub fn new(alloc: Global, pairs: &'a [Placed<'a>]) -> Result<PairIndex<'a>, AllocError>
         ensures { IfOk result (λ index. index ≡ pairs.now) }
     {
@@ -54,7 +54,7 @@ impl<'a> PairIndex<'a> {
         Ok(PairIndex { pairs, firsts })
     }
 
-    /// The first of the pairs that is this one, wherever it stands. Takes no memory.
+    /// The first of the pairs that is the same as this one, whatever its place.
     pub fn find(&self, p: &Placed<'a>) -> Option<&Placed<'a>>
         ensures { option_copied result ≡ find (λ q. same_pair q.pair p.now.pair) self.now }
     {
@@ -65,7 +65,7 @@ impl<'a> PairIndex<'a> {
         }
     }
 
-    /// Whether a pair is among these. Takes no memory.
+    /// Whether a pair is among these.
     #[tactic(auto, using(crate::proofs::Finding::has_first))]
     pub fn has(&self, p: &Placed<'a>) -> bool
         ensures { result ≡ order.has_pair self.now p.now.pair }

@@ -14,8 +14,8 @@ use indexmap::IndexSet;
 use std::alloc::{AllocError, Global};
 use std::marker::Model;
 
-/// A pair of a sheet at one of its places, by the numbers of its item, and in this of its selector and its
-/// declaration.
+/// A pair of a sheet at one of its places: the number of its item, and the numbers of its selector and its declaration
+/// in it.
 #[derive(Drop)]
 pub struct Placed<'a> {
     /// The selector.
@@ -24,9 +24,9 @@ pub struct Placed<'a> {
     pub decl: &'a Decl,
     /// The number of its item.
     pub item: usize,
-    /// That of the selector.
+    /// The number of the selector.
     pub selector_number: usize,
-    /// That of the declaration.
+    /// The number of the declaration.
     pub decl_number: usize,
 }
 
@@ -55,7 +55,7 @@ impl<'a> Placed<'a> {
         }
     }
 
-    /// Whether two pairs are the same, wherever they stand.
+    /// Whether two pairs are the same, whatever their places.
     pub fn is_same(&self, other: &Placed<'_>) -> bool
         ensures { result ≡ same_pair self.now.pair other.now.pair }
     {
@@ -63,7 +63,7 @@ impl<'a> Placed<'a> {
     }
 }
 
-/// The selectors of a rule with their numbers: of equal ones the first.
+/// The selectors of a rule with their numbers. Of equal ones it is the first.
 fn first_selectors<'a>(
     alloc: Global,
     selectors: &'a [SelItem],
@@ -84,7 +84,7 @@ fn first_selectors<'a>(
     Ok(firsts)
 }
 
-/// The declarations of a rule with their numbers, the last one first: of equal ones the last.
+/// The declarations of a rule with their numbers, the last one first. Of equal ones it is the last.
 fn last_decls<'a>(alloc: Global, decls: &'a [DeclItem]) -> Result<IndexSet<DeclKey<'a>>, AllocError>
     ensures { IfOk result (λ lasts. lasts.keys ≡ reverse (order.last_decls 0 decls.now)) }
 {
@@ -100,7 +100,7 @@ fn last_decls<'a>(alloc: Global, decls: &'a [DeclItem]) -> Result<IndexSet<DeclK
     Ok(lasts)
 }
 
-/// Puts the pairs of a selector and these declarations behind the others, in their order, unless they are there.
+/// Puts the pairs of a selector and these declarations after the others, in their order, unless they are there.
 #[tactic(auto, using(crate::proofs::Lists::map_append, crate::proofs::Inserting::inserted_append))]
 fn put_pairs<'a>(
     found: &mut IndexSet<PairKey<'a>>,
@@ -123,7 +123,7 @@ fn put_pairs<'a>(
     Ok(())
 }
 
-/// Puts the pairs of selectors and declarations behind the others, those of the last selector first, unless they are
+/// Puts the pairs of selectors and declarations after the others, those of the last selector first, unless they are
 /// there.
 #[tactic(auto, using(crate::proofs::Inserting::products_next))]
 fn put_products<'a>(
@@ -141,7 +141,7 @@ fn put_products<'a>(
     Ok(())
 }
 
-/// Puts the pairs of a rule behind the others, the last one first, unless they are there.
+/// Puts the pairs of a rule after the others, the last one first, unless they are there.
 #[tactic(auto, using(crate::proofs::RulePairs::rule_put))]
 fn put_rule<'a>(
     alloc: Global,
@@ -158,7 +158,7 @@ fn put_rule<'a>(
     put_products(found, item, selectors, decls.as_slice())
 }
 
-/// Puts the pairs of an item behind the others, the last one first, unless they are there.
+/// Puts the pairs of an item after the others, the last one first, unless they are there.
 fn put_item<'a>(
     alloc: Global,
     found: &mut IndexSet<PairKey<'a>>,
@@ -173,7 +173,7 @@ fn put_item<'a>(
     }
 }
 
-/// Whether the item of this number counts: all do, or these.
+/// Whether the item of this number counts. All do where `counts` is `None`; otherwise those that it lists.
 fn is_counted(counts: Option<&[u32]>, number: usize) -> bool
     ensures { result ≡ counted counts.entry number }
 {
@@ -183,8 +183,7 @@ fn is_counted(counts: Option<&[u32]>, number: usize) -> bool
     }
 }
 
-/// Puts the pairs of an item that counts behind those of the items behind it, the last one first, unless they are
-/// there.
+/// Puts the pairs of an item that counts after those of the items after it, the last one first, unless they are there.
 fn put_counted<'a>(
     alloc: Global,
     counts: Option<&[u32]>,
@@ -231,7 +230,8 @@ fn turned<'a>(alloc: Global, pairs: IndexSet<PairKey<'a>>) -> Result<Vec<Placed<
     Ok(list)
 }
 
-/// The pairs of the items that count, each once: where it stands last in these.
+/// The pairs of the items that count, each once, at its last place in these. All items count where `counts` is `None`;
+/// otherwise those whose numbers it lists. `AllocError` where memory runs out.
 pub fn last_pairs<'a>(
     alloc: Global,
     counts: Option<&[u32]>,

@@ -44,7 +44,7 @@ pub fn moved_of(step: &Step) -> Moved
     }
 }
 
-/// The cause that an answer for a moved pair and one of this item is, if it is not that they are apart.
+/// The cause in an answer for a moved pair and one of this item, if the answer is not that they are apart.
 fn cause_of(answer: &Answer, item: u32) -> Option<BlockCause>
     ensures { result ≡ allowing.cause_by item answer.now }
 {
@@ -68,7 +68,7 @@ fn known_cause(pairs: &Pairs, x: &Selector, y: &Selector, item: u32) -> Option<B
     }
 }
 
-/// The cause by the answer for two selectors, which is asked for.
+/// The cause by the answer for two selectors. The answer is asked for.
 #[tactic(auto, using(crate::proofs::Held::asked_stays))]
 fn asked_cause(
     pairs: &mut Pairs,
@@ -100,8 +100,8 @@ fn hindrance(pairs: &mut Pairs, entry: &Reversal<'_>) -> Result<Option<BlockCaus
     }
 }
 
-/// Whether all entries are pairs whose selectors are answered to be apart, or the cause by the first that is
-/// not.
+/// Whether all entries are pairs whose selectors are answered to be apart; otherwise the cause by the first that is
+/// not. All answers that were held stay. `AllocError` where memory runs out; they stay then too.
 #[tactic(auto, using(crate::proofs::Held::stays_itself))]
 pub fn judged(pairs: &mut Pairs, entries: &[Reversal<'_>]) -> Result<Allowed, AllocError>
     requires { AllByRecursion allowing.IsAskable entries.now }
@@ -116,9 +116,9 @@ pub fn judged(pairs: &mut Pairs, entries: &[Reversal<'_>]) -> Result<Allowed, Al
     Ok(Allowed::Free)
 }
 
-/// Whether a step of a sheet may be taken, by what is answered for
-/// pairs of selectors, the moved pair's first. It asks for those that it has to know, from the nearest entry
-/// on, up to the first that blocks. All answers that were held stay, also after `AllocError`.
+/// Whether a step of a sheet may be taken, by what is answered for pairs of selectors. It asks for the answers that it
+/// has to know, from the nearest entry on, up to the first that blocks; the moved pair's selector comes first. All
+/// answers that were held stay. `AllocError` where memory runs out; they stay then too.
 #[tactic(auto, using(crate::proofs::Limited::planned_limited, crate::proofs::Askable::all_askable, crate::proofs::Askable::allowed_is, crate::proofs::Held::stays_itself))]
 pub fn permitted(
     alloc: Global,

@@ -1,10 +1,10 @@
 //! What is reversed, by its places in a sheet.
 
-/// A place of a pair of a sheet: the numbers of its item, and in this of its selector and its declaration,
+/// A place of a pair of a sheet: the number of its item, and the numbers of its selector and its declaration in it,
 /// each from 0.
 #[derive(Clone, Copy, Debug, PartialEq, Eq, Hash)]
 pub struct PairPlace {
-    /// The item, which is a rule.
+    /// The number of the item, a rule.
     pub item: u32,
     /// The selector of the rule.
     pub sel: u32,
@@ -33,9 +33,9 @@ pub struct Reversed {
 /// Which pairs of a sheet are moved.
 #[derive(Clone, Copy, Debug, PartialEq, Eq, Hash)]
 pub enum Moved {
-    /// Those of the rule of this number, from 0 among all items.
+    /// The pairs of the rule of this number, from 0 among all items.
     Rule(u32),
-    /// Those of a selector of either rule and a declaration of both, by the numbers of the rules.
+    /// The pairs of a selector of either rule and a declaration of both, by the numbers of the rules.
     Common {
         /// The upper rule.
         upper: u32,

@@ -20,7 +20,7 @@ use selector_laws::read_selectors_keep_the_limits;
 use std::alloc::{AllocError, Global};
 use step_laws::parts_are_few;
 
-/// The items of a sheet with its last pairs.
+/// The items of a sheet with its last pairs. `AllocError` where memory runs out.
 pub fn ordered<'a>(alloc: Global, items: &'a [Item]) -> Result<Ordered<'a>, AllocError>
     ensures { IfOk result (λ sheet. sheet.items.now ≡ items.now) }
 {
@@ -47,7 +47,7 @@ pub(crate) fn reversals<'a>(
     ascending(alloc, found)
 }
 
-/// The place of a pair.
+/// The place of a pair, as numbers of 32 bits.
 pub fn narrow_place(p: &Placed<'_>) -> PairPlace
     requires { IsNarrowPlace p.now.place }
     ensures { result ≡ place_of p.now.place }
@@ -59,7 +59,7 @@ pub fn narrow_place(p: &Placed<'_>) -> PairPlace
     }
 }
 
-/// The place of what is reversed with a pair.
+/// The place of what is reversed with a pair, as numbers of 32 bits.
 fn narrow_other(other: &Counterpart<'_>) -> Other
     requires { IsNarrowOther (other_seen other.now) }
     ensures { result ≡ other_of (other_seen other.now) }
@@ -80,7 +80,7 @@ fn narrow(entry: &Reversal<'_>) -> Reversed
     Reversed { moved, other }
 }
 
-/// The entries by their places.
+/// The entries by their places, in their order. `AllocError` where memory runs out.
 pub fn narrow_all(alloc: Global, found: &[Reversal<'_>]) -> Result<Vec<Reversed>, AllocError>
     requires { AllByRecursion IsNarrow found.now }
     ensures { IfOk result (λ list. list.items ≡ map entry_of found.now) }
@@ -92,12 +92,16 @@ pub fn narrow_all(alloc: Global, found: &[Reversal<'_>]) -> Result<Vec<Reversed>
     Ok(list)
 }
 
-/// What is reversed from one sheet to another by moving some of its pairs: each moved pair, with each other
-/// pair and each kept item that weighs with it and with which its last order differs in the two sheets. The
-/// entries ascend: by how far the other's item is from the moved pair's, then by the other's place, then by
-/// the moved pair's. A place is that of a pair's last occurrence, of a moved one's in what is moved; of equal
-/// selectors of a rule it is the first, of equal declarations the last. Whether selectors meet does not
-/// count. Each two pairs of the first sheet are looked at.
+/// What is reversed from one sheet to another by moving some of its pairs. It is each moved pair with each other pair
+/// and each kept item that weighs with it and has another last order with it in the second sheet. `AllocError` where
+/// memory runs out.
+///
+/// - The entries ascend: by how far the other's item is from the moved pair's, then by the other's place, then by the
+///   moved pair's.
+/// - A place is that of a pair's last occurrence, of a moved one's in what is moved. Of equal selectors of a rule it is
+///   the first, of equal declarations the last.
+/// - Whether selectors meet does not count.
+/// - Each two pairs of the first sheet are looked at.
 #[tactic(auto, using(crate::proofs::Limited::planned_limited, crate::proofs::NarrowEntries::all_narrow))]
 pub fn reversed(
     alloc: Global,

@@ -13,14 +13,14 @@ use crate::places::Moved;
 use css_model::{Item, Rule};
 use std::alloc::{AllocError, Global};
 
-/// Whether a pair stands in a rule.
+/// Whether a pair is in a rule.
 fn is_of_rule(rule: &Rule, number: u32, p: &Placed<'_>) -> bool
     ensures { result ≡ edits.is_moved (edits.whole_rule number rule.now) p.now.pair }
 {
     has_selector(&rule.selectors, p.selector) && has_decl(&rule.decls, p.decl)
 }
 
-/// Whether a selector stands in one of two rules, and a declaration in both.
+/// Whether a selector is in one of two rules, and a declaration in both.
 fn is_of_both(upper: &Rule, lower: &Rule, p: &Placed<'_>) -> bool
     ensures { result ≡ taking.is_of_both upper.now lower.now p.now.pair }
 {
@@ -36,7 +36,7 @@ fn is_common(upper: &Rule, lower: &Rule, p: &Placed<'_>) -> bool
     is_of_both(upper, lower, p)
 }
 
-/// Those of some pairs that stand in a rule.
+/// Those of some pairs that are in a rule.
 #[tactic(auto, using(crate::proofs::Lists::filter_append))]
 fn among_rule<'a>(
     alloc: Global,
@@ -102,7 +102,7 @@ fn of_both<'a>(
     among_both(alloc, &pairs, upper, lower)
 }
 
-/// The rule of this number, if a rule stands there.
+/// The rule of this number, if it is one.
 fn find_rule(items: &[Item], number: u32) -> Option<&Rule>
     ensures { option_copied result ≡ taking.rule_in (slice_get items.now number) }
 {
@@ -154,7 +154,7 @@ fn moved_common<'a>(
     }
 }
 
-/// The pairs that are moved, each at its last place in what it is moved out of.
+/// The pairs that are moved, each at its last place in what it is moved out of. `AllocError` where memory runs out.
 pub fn moved_pairs<'a>(
     alloc: Global,
     items: &'a [Item],

@@ -20,15 +20,16 @@ pub enum Compared {
         first: PairPlace,
         /// The other one.
         second: PairPlace,
-        /// Both selectors match the marked element of it.
+        /// A document; both selectors match its marked element.
         example: Example,
     },
-    /// Two pairs come in the other order, and it is not known whether their selectors meet: for the reason of this
-    /// number, or for 0 because the budget was spent.
+    /// Two pairs come in the other order, and it is not known whether their selectors meet. The number is that of the
+    /// reason; 0 where the budget was spent.
     Unsure(u32),
 }
 
-/// What is found in two sheets or in the bodies of their opened blocks. Where nothing is, the winners are the same.
+/// What is found in two sheets or in the bodies of their opened blocks. Where nothing is, the same declarations win in
+/// every legal document and scene (`same_sheets_win_alike`).
 #[derive(Debug, PartialEq, Eq, Drop)]
 pub struct Difference {
     /// What is found; its places are those of the sheets, or of the bodies in which it is found.

@@ -39,7 +39,7 @@ struct Side<'a> {
     ghost listed: { members.items ≡ order.members sheet.items.now },
 }
 
-/// A sheet that is read from this source, of which these blocks count as opened.
+/// A sheet that is read from this source. These blocks of it count as opened.
 #[tactic(auto, using(crate::proofs::Askable::members_askable, crate::proofs::Askable::few_items))]
 fn side_of<'a>(
     alloc: Global,
@@ -213,7 +213,7 @@ fn found_in_bodies(
     found_in_texts(alloc, pairs, &body, &other)
 }
 
-/// That nothing is found.
+/// The answer that nothing is found.
 fn nothing() -> Difference
     ensures { result ≡ spec.nothing }
 {
@@ -223,7 +223,7 @@ fn nothing() -> Difference
     }
 }
 
-/// What is told of the bodies of opened blocks.
+/// What is found in the bodies of opened blocks.
 #[tactic(auto, using(sheet_order::proofs::ForCallers::stays_itself))]
 fn compare_bodies(
     alloc: Global,
@@ -259,13 +259,18 @@ fn compare_bodies(
     Ok(nothing())
 }
 
-/// Compares two sheets, each read from its source, by five tests, of which the first that finds something answers: the
-/// first pair that the second sheet lacks; the first pair that the first sheet lacks; the first place at which the
-/// lists of kept items differ, where two opened blocks of media count by their heads; the first couple of members that
-/// weigh and whose last order differs, unless it is of two pairs whose selectors are answered to be apart; and the
-/// first opened blocks in whose bodies these four tests find something, where no block inside counts as opened. Places
-/// are those where a pair stands last; they ascend by item, declaration and selector. The answers are asked for couple
-/// by couple, the earlier selector first. All answers that were held stay, also after `AllocError`.
+/// What is found in two sheets, each read from its source, by five tests. The first test that finds something answers:
+///
+/// - the first pair that the second sheet lacks;
+/// - the first pair that the first sheet lacks;
+/// - the first place at which the lists of kept items differ, where two opened blocks of media count by their heads;
+/// - the first couple of members that weigh and whose last order differs, unless it is of two pairs whose selectors are
+///   answered to be apart;
+/// - the first opened blocks in whose bodies these four tests find something, where no block inside counts as opened.
+///
+/// Places are the last ones of pairs. They ascend by item, declaration and selector. The answers are asked for couple
+/// by couple, the earlier selector first. All answers that were held stay. `AllocError` where memory runs out; they
+/// stay then too.
 #[tactic(auto, using(crate::proofs::Bodies::few_blocks))]
 pub fn compare(
     alloc: Global,

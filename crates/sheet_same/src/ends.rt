@@ -1,4 +1,4 @@
-//! Behind which member no later one stands before another one in one of two sheets alone.
+//! After which member no later one is before another one in one of two sheets alone.
 
 ghost use Rattle.std.specs.Prelude.{◌≡◌, ◌≤◌, IfOk, drop, false, length, not};
 ghost use Rattle.std.specs.List.{AllByRecursion};
@@ -22,7 +22,7 @@ fn earlier_of(x: Spot, y: Spot) -> Spot
     if is_later(x, y) { y } else { x }
 }
 
-/// The least places of a member and of those behind it, if there are some.
+/// The least places of a member and of those after it, if there are some.
 fn with_least(member: &Standing<'_>, behind: Option<Least>) -> Least
     ensures { result ≡ spec.with_least member.now behind }
 {
@@ -63,8 +63,7 @@ fn is_past(least: &Least, member: &Standing<'_>) -> bool
     is_later(least.here, member.here) && is_later(least.there, member.there)
 }
 
-/// How many of some members, whose least places these are, there are before those that stand behind a member in both
-/// sheets.
+/// How many of some members come before those that are after a member in both sheets. `leasts` are their least places.
 pub(crate) fn end_of(leasts: &[Least], member: &Standing<'_>, later: &[Standing<'_>]) -> usize
     requires { leasts.now ≡ spec.leasts later.now }
     ensures within { result ≤ length later.now }

@@ -62,7 +62,7 @@ fn known_found(
     }
 }
 
-/// What is found by the answer for two pairs, which is asked for.
+/// What is found by the answer for two pairs. The answer is asked for.
 #[tactic(auto, using(sheet_order::proofs::ForCallers::asked_stays))]
 fn asked_found(
     pairs: &mut Pairs,
@@ -166,7 +166,7 @@ fn found_behind(
     Ok(None)
 }
 
-/// What is found in the couples of a member and later ones, whose least places these are.
+/// What is found in the couples of a member and later ones with these least places.
 #[tactic(auto, using(crate::proofs::Lists::all_take))]
 fn found_with(
     pairs: &mut Pairs,

@@ -81,7 +81,7 @@ fn same_kept(
     }
 }
 
-/// The first kept one of some items, and the items behind it.
+/// The first kept one of some items, and the items after it.
 fn next_kept(items: &[Item]) -> Option<(&Item, &[Item])>
     ensures next { spec.NextKept items.now result }
 {
@@ -105,7 +105,7 @@ fn is_block(block: &Media, item: &Item) -> bool
     }
 }
 
-/// The first of some opened blocks, if an item is it, and the blocks behind the item.
+/// The first of some opened blocks, if an item is it, and the blocks after the item.
 fn split_block<'a>(media: &'a [Media], item: &Item) -> (Option<&'a Media>, &'a [Media])
     ensures block { option_copied result.0 ≡ spec.block_of media.now item.now }
     ensures behind { result.1.now ≡ spec.blocks_behind media.now item.now }
@@ -118,7 +118,7 @@ fn split_block<'a>(media: &'a [Media], item: &Item) -> (Option<&'a Media>, &'a [
     (None, media)
 }
 
-/// Whether two items are kept and say the same, which are these opened blocks, if any.
+/// Whether two items are kept and say the same. They are these opened blocks, if any.
 fn same_item(
     alloc: Global,
     reading: &Reading<'_>,
@@ -153,8 +153,8 @@ fn unlike(
     }
 }
 
-/// The number of the first place at which the kept ones of two lists of items differ, among which these blocks are
-/// opened; where none does, that of the first place at which one item alone is an opened block.
+/// The number of the first place at which the kept ones of two lists of items differ. These blocks among them are
+/// opened. Where no place differs, it is the first one at which one item alone is an opened block.
 pub(crate) fn first_differing(
     alloc: Global,
     reading: &Reading<'_>,

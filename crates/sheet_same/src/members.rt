@@ -33,7 +33,7 @@ impl<'a> Model for Member<'a> {
 }
 
 impl<'a> Kind<'a> {
-    /// The same.
+    /// The same kind, of the same member.
     fn copy(&self) -> Kind<'a>
         ensures { member_seen result ≡ member_seen self.now }
     {
@@ -77,7 +77,7 @@ fn in_order(members: Vec<Member<'_>>) -> Result<Vec<Member<'_>>, AllocError>
     Ok(sorted)
 }
 
-/// Puts pairs behind the members.
+/// Puts pairs after the members.
 #[tactic(auto, using(crate::proofs::Lists::map_append))]
 fn push_pairs<'a>(found: &mut Vec<Member<'a>>, pairs: &[Placed<'a>]) -> Result<(), AllocError>
     ensures { OnOk result (found.new.items ≡ found.old.items ++ map spec.Paired pairs.now) }
@@ -90,7 +90,7 @@ fn push_pairs<'a>(found: &mut Vec<Member<'a>>, pairs: &[Placed<'a>]) -> Result<(
     Ok(())
 }
 
-/// Puts the kept ones of some items behind the members.
+/// Puts the kept ones of some items after the members.
 #[tactic(auto, using(crate::proofs::Lists::map_append, crate::proofs::Lists::kept_from_cons))]
 fn push_kept<'a>(found: &mut Vec<Member<'a>>, items: &'a [Item]) -> Result<(), AllocError>
     ensures { OnOk result (found.new.items ≡ found.old.items ++ map spec.kept_member (kept_from 0 items.now)) }
@@ -105,7 +105,7 @@ fn push_kept<'a>(found: &mut Vec<Member<'a>>, items: &'a [Item]) -> Result<(), A
     Ok(())
 }
 
-/// Puts an item behind the members, if it is kept.
+/// Puts an item after the members, if it is kept.
 fn push_if_kept<'a>(
     found: &mut Vec<Member<'a>>,
     number: usize,
@@ -121,7 +121,7 @@ fn push_if_kept<'a>(
     Ok(())
 }
 
-/// The pairs of a sheet, each where it stands last, and its kept items, in their order.
+/// The pairs of a sheet, each at its last place, and its kept items, in their order.
 pub(crate) fn members<'a>(alloc: Global, sheet: &Ordered<'a>) -> Result<Vec<Member<'a>>, AllocError>
     ensures { IfOk result (λ found. found.items ≡ spec.members sheet.now.items.now) }
 {

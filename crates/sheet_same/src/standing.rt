@@ -1,4 +1,4 @@
-//! Where the members of a sheet stand in it and in another one.
+//! Where the members of a sheet are in it and in another one.
 
 ghost use Rattle.std.specs.Prelude.{◌≡◌, IfOk, map};
 ghost use Rattle.std.specs.List.{AllByRecursion};
@@ -116,7 +116,7 @@ pub(crate) fn is_later(x: Spot, y: Spot) -> bool
     y.item < x.item || x.item == y.item && y.decl < x.decl
 }
 
-/// Whether one comes before the other in one of the sheets alone.
+/// Whether one of two members comes before the other in one of the sheets alone.
 fn spots_differ(m: &Standing<'_>, x: &Standing<'_>) -> bool
     ensures { result ≡ spec.spots_differ m.now x.now }
 {
@@ -156,7 +156,7 @@ fn members_weigh(m: &Member<'_>, x: &Member<'_>) -> bool
     }
 }
 
-/// Whether two members weigh. Their weights are looked at first: most that does not weigh has other ones.
+/// Whether two members weigh. Their weights are looked at first: most members that do not weigh have different ones.
 fn both_weigh(m: &Standing<'_>, x: &Standing<'_>) -> bool
     requires first { IsAskable m.now.member }
     requires second { IsAskable x.now.member }

@@ -1,4 +1,4 @@
-//! Two sheets, in the second of which the pairs and the kept items of the first one are found at once.
+//! Two sheets, where each pair and each kept item of the first one is found at once in the second.
 
 ghost use Rattle.std.specs.Prelude.{◌≡◌, ◌≤◌, ◌++◌, [], ◌∷◌, IfOk, OnOk};
 ghost use Rattle.css_model.specs.Sheets.KeptItems.{kept_before as before};
@@ -9,7 +9,7 @@ use css_model::Item;
 use sheet_order::{Ordered, PairIndex, is_kept, kept_before};
 use std::alloc::{AllocError, Global};
 
-/// Two sheets, in the second of which the pairs and the kept items of the first one are found at once.
+/// Two sheets, where each pair and each kept item of the first one is found at once in the second.
 #[derive(Drop)]
 pub(crate) struct Twins<'a> {
     pub(crate) sheet: &'a Ordered<'a>,
@@ -25,7 +25,7 @@ pub(crate) struct Twins<'a> {
     ghost placed: { places.items ≡ spec.places_from 0 other.now.items.now },
 }
 
-/// One for a kept item, and else nothing.
+/// One for a kept item, otherwise 0.
 fn count_of(item: &Item) -> usize
     ensures exact { result ≡ spec.count_of item.now }
     ensures small { result ≤ 1 }
@@ -48,7 +48,7 @@ fn counts(alloc: Global, items: &[Item]) -> Result<Vec<usize>, AllocError>
     Ok(found)
 }
 
-/// Puts the number of an item behind the others, if it is kept.
+/// Puts the number of an item after the others, if it is kept.
 fn push_if_kept(found: &mut Vec<usize>, number: usize, item: &Item) -> Result<(), AllocError>
     ensures { OnOk result (found.new.items ≡ found.old.items ++ spec.places_from number (item.now ∷ [])) }
 {

@@ -1,4 +1,4 @@
-//! What of members tells at once that they do not weigh with one another.
+//! What of members shows at once that they do not weigh with one another.
 
 ghost use Rattle.std.specs.Prelude.{◌≡◌};
 ghost use Rattle.sheet_same.specs.Judging.{IsAskable, IsAskablePair};
@@ -17,8 +17,8 @@ pub(crate) struct Rank {
     pub(crate) specificity: Specificity,
 }
 
-/// What of a member tells at once that it does not weigh with another one: the mask of what it declares and, of a
-/// pair, its rank.
+/// What of a member shows at once that it does not weigh with another one: the mask of what it declares and, of a pair,
+/// its rank.
 #[derive(Clone, Copy)]
 pub(crate) struct Weight {
     pub(crate) mask: u64,

@@ -35,7 +35,7 @@ fn held_apart(pairs: &Pairs, x: &Selector, y: &Selector) -> Option<bool>
     }
 }
 
-/// Whether two selectors are answered to be apart, which is asked for.
+/// Whether two selectors are answered to be apart. The answer is asked for.
 fn asked_apart(pairs: &mut Pairs, x: &Selector, y: &Selector) -> Result<bool, AllocError>
     requires first { IsInProfile x.now }
     requires second { IsInProfile y.now }
@@ -46,7 +46,7 @@ fn asked_apart(pairs: &mut Pairs, x: &Selector, y: &Selector) -> Result<bool, Al
     Ok(says_apart(answer))
 }
 
-/// Whether two selectors are answered to be apart: by what is held of them, or else they are asked for.
+/// Whether two selectors are answered to be apart, by what is held of them; where nothing is, the answer is asked for.
 #[tactic(auto, using(crate::proofs::HeldAnswers::stays_itself))]
 fn told_apart(
     pairs: &mut Pairs,
@@ -66,7 +66,7 @@ fn told_apart(
     }
 }
 
-/// Whether two pairs block that weigh. Their selectors are asked for only where they are reversed.
+/// Whether two pairs that weigh block. Their selectors are asked for only where they are reversed.
 #[tactic(auto, using(crate::proofs::HeldAnswers::stays_itself))]
 fn pairs_block(
     pairs: &mut Pairs,

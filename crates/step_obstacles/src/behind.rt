@@ -1,4 +1,4 @@
-//! Whether all pairs of a rule stand behind a window too: such a rule may go, since none of them comes last in it.
+//! Whether all pairs of a rule are after a window too. Such a rule may go, since none of them comes last in it.
 
 ghost use Rattle.std.specs.Prelude.{◌≡◌};
 ghost use Rattle.std.specs.List.{list_all};
@@ -9,14 +9,14 @@ ghost use Rattle.window_order.specs.Standing.{stands};
 use css_model::{Decl, DeclItem, Rule, SelItem};
 use window_order::{Window, pair_of};
 
-/// Whether the pair of a selector and a declaration stands behind.
+/// Whether the pair of a selector and a declaration is after the window.
 fn is_behind(window: &Window<'_>, selector: &SelItem, decl: &Decl) -> bool
     ensures { result ≡ stands (behind_of window.now) (turns.pair_of selector.now decl.now) }
 {
     window.is_behind(&pair_of(&selector.selector, decl))
 }
 
-/// Whether the pairs of a declaration and each of some selectors do.
+/// Whether the pairs of a declaration and each of some selectors are after the window.
 fn are_behind(window: &Window<'_>, selectors: &[SelItem], decl: &Decl) -> bool
     ensures { result ≡ list_all (λ s. stands (behind_of window.now) (turns.pair_of s decl.now)) selectors.now }
 {
@@ -25,7 +25,7 @@ fn are_behind(window: &Window<'_>, selectors: &[SelItem], decl: &Decl) -> bool
         .all(|selector| is_behind(window, selector, decl))
 }
 
-/// Whether those of each of some declarations do.
+/// Whether the pairs of each of some declarations and each of some selectors are after the window.
 fn all_are_behind(window: &Window<'_>, selectors: &[SelItem], decls: &[DeclItem]) -> bool
     ensures { result ≡ list_all (λ d. list_all (λ s. stands (behind_of window.now) (turns.pair_of s d.decl)) selectors.now) decls.now }
 {
@@ -34,7 +34,7 @@ fn all_are_behind(window: &Window<'_>, selectors: &[SelItem], decls: &[DeclItem]
         .all(|item| are_behind(window, selectors, &item.decl))
 }
 
-/// Whether all pairs of a rule do.
+/// Whether all pairs of a rule are after the window.
 pub(crate) fn rule_is_behind(window: &Window<'_>, rule: &Rule) -> bool
     ensures { result ≡ list_all (λ d. list_all (λ s. stands (behind_of window.now) (turns.pair_of s d.decl)) rule.now.selectors) rule.now.decls }
 {

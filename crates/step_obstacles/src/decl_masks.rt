@@ -8,7 +8,7 @@ use related_props::decl_mask;
 use std::alloc::{AllocError, Global};
 use step_savings::has_decl;
 
-/// Whether a declaration stands in another rule too, if one is given.
+/// Whether a declaration is in another rule too, if one is given.
 pub(crate) fn is_common(with: Option<&Rule>, decl: &Decl) -> bool
     ensures { result ≡ turns.is_common with.entry decl.now }
 {
@@ -18,7 +18,7 @@ pub(crate) fn is_common(with: Option<&Rule>, decl: &Decl) -> bool
     }
 }
 
-/// The mask of a declaration that is common, and of others 0.
+/// The mask of a declaration that is common; 0 for any other.
 fn mask_in(with: Option<&Rule>, item: &DeclItem) -> u64
     ensures { result ≡ turns.mask_in with.entry item.now }
 {
@@ -29,7 +29,7 @@ fn mask_in(with: Option<&Rule>, item: &DeclItem) -> u64
     }
 }
 
-/// The masks of some declarations, of those that are not common 0. The error comes where memory is short.
+/// The masks of some declarations; 0 for those that are not common. `AllocError` where memory is short.
 pub(crate) fn masks_of(
     alloc: Global,
     decls: &[DeclItem],
@@ -44,7 +44,7 @@ pub(crate) fn masks_of(
     Ok(list)
 }
 
-/// The masks of the declarations of an item, if it is a rule. The error comes where memory is short.
+/// The masks of the declarations of an item, if it is a rule. `AllocError` where memory is short.
 pub(crate) fn masks_in(alloc: Global, item: &Item) -> Result<Vec<u64>, AllocError>
     ensures { IfOk result (λ list. turns.AreMasksIn item.now list.items) }
 {

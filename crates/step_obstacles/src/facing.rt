@@ -22,10 +22,10 @@ pub(crate) struct DeclAt<'a> {
     pub(crate) mask: u64,
 }
 
-/// A declaration of a rule of a sheet, whose pairs are moved.
+/// A declaration of a rule of a sheet, with its pairs to be moved.
 #[derive(Clone, Copy)]
 pub(crate) struct MovedDecl<'a> {
-    /// Where it stands.
+    /// Where it is.
     pub(crate) at: DeclAt<'a>,
     /// The specificities of the rule's selectors, by their numbers.
     pub(crate) specificities: &'a [Specificity],
@@ -33,7 +33,7 @@ pub(crate) struct MovedDecl<'a> {
     pub(crate) selectors: &'a [u64],
 }
 
-/// A rule of a sheet whose pairs are moved: all, or those of the declarations that stand in another rule too.
+/// A rule of a sheet, with pairs to be moved: all, or those of the declarations that are in another rule too.
 #[derive(Drop)]
 pub(crate) struct Source<'a> {
     /// The rule's number in the sheet.
@@ -83,7 +83,7 @@ impl<'a> Facing<'a> {
         }
     }
 
-    /// The same, by its place.
+    /// What is faced, by its place.
     pub(crate) fn other(&self) -> Other
         ensures { result ≡ other_of self.now }
     {

@@ -76,7 +76,7 @@ fn pair_faced<'a>(other: &DeclAt<'a>, selector: &'a SelItem, number: u32) -> Fac
     Facing::Pair(q, place, specificity_in_profile(&selector.selector))
 }
 
-/// The pair of a declaration, which weighs, and the selector of this number, if there is one.
+/// The pair of a declaration that weighs and the selector of this number, if there is one.
 fn selector_faced<'a>(
     window: &Window<'a>,
     moved: &DeclAt<'_>,
@@ -150,7 +150,7 @@ fn kept_faced<'a>(window: &Window<'a>, moved: &DeclAt<'_>, number: u32) -> Optio
     }
 }
 
-/// Whether the item of this number lies in a window.
+/// Whether the item of this number is in a window.
 fn is_within(window: &Window<'_>, number: u32) -> bool
     ensures above { IsTrue result → window.now.start ≤ number }
     ensures below { IsTrue result → number ≤ window.now.last }
@@ -159,7 +159,7 @@ fn is_within(window: &Window<'_>, number: u32) -> bool
     window.start <= number && number <= window.last
 }
 
-/// What stands at a place of a window, if something does and weighs.
+/// What is at a place of a window, if something is and weighs.
 fn faced<'a>(window: &Window<'a>, moved: &DeclAt<'_>, other: &Other) -> Option<Facing<'a>>
     requires askable { turns.IsAskable window.now.items.now }
     ensures { IfSome result (λ f. FacesWithin window.now moved.now.decl.now f) }
@@ -182,7 +182,7 @@ fn faced<'a>(window: &Window<'a>, moved: &DeclAt<'_>, other: &Other) -> Option<F
     }
 }
 
-/// Of a selector of the declaration's rule with what it faces.
+/// What blocks of a selector of the declaration's rule with what it faces.
 #[tactic(auto, using(crate::proofs::Hinting::unasked, crate::proofs::Hinting::unasked_pair, crate::proofs::HeldAnswers::stays_itself))]
 fn with_facing(
     pairs: &mut Pairs,
@@ -213,7 +213,7 @@ fn with_facing(
     Ok(None)
 }
 
-/// Of a moved declaration and the selector of this number with what stands there.
+/// What blocks of a moved declaration and the selector of this number with what is at a place.
 #[tactic(auto, using(crate::proofs::Hinting::decl_stands, crate::proofs::HeldAnswers::stays_itself))]
 fn with_other(
     pairs: &mut Pairs,
@@ -240,7 +240,8 @@ fn with_other(
     }
 }
 
-/// Of a moved declaration and the selector of this number with what stands there, if the declaration counts.
+/// What blocks of a moved declaration and the selector of this number with what is at a place, if the declaration
+/// counts.
 #[tactic(auto, using(crate::proofs::HeldAnswers::stays_itself))]
 fn by_decl(
     pairs: &mut Pairs,
@@ -263,7 +264,7 @@ fn by_decl(
     }
 }
 
-/// Of a rule's pair at a place with what stands at another.
+/// What blocks of a rule's pair at a place with what is at another place.
 #[tactic(auto, using(crate::proofs::HeldAnswers::stays_itself))]
 fn by_places(
     pairs: &mut Pairs,
@@ -289,7 +290,7 @@ fn by_places(
     }
 }
 
-/// Of a rule with what blocked it before, if that is known, where it stands now.
+/// What blocks of a rule with what blocked it before, if that is known, at its place now.
 #[tactic(auto, using(crate::proofs::HeldAnswers::stays_itself))]
 pub(crate) fn by_hint(
     pairs: &mut Pairs,

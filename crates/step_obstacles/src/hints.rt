@@ -1,17 +1,17 @@
-//! What blocked earlier steps, by the rules that they moved. It is looked at first, and tells nothing for sure.
+//! What blocked earlier steps, by the rules that they moved. It is looked at first, and says nothing for sure.
 
 use css_model::{Item, Rule};
 use obstacles::{Obstacle, Other, PairPlace};
 use std::alloc::{AllocError, Global};
 use step_laws::Step;
 
-/// By how many numbers what blocked is looked for further up and down: most steps shift it by few.
+/// By how many numbers further up and down what blocked is looked for. Most steps shift it by few.
 const NEAR: u32 = 16;
 
 /// Which pairs of a rule a step moves, and where to.
 #[derive(Clone, Copy, Debug)]
 pub(crate) enum Way {
-    /// All, which stand elsewhere too.
+    /// All, as they are elsewhere too.
     Away,
     /// All, up to another rule.
     Up,
@@ -26,7 +26,7 @@ pub(crate) enum Way {
 pub(crate) struct Mover {
     /// Where its first selector begins in the source.
     selector: u32,
-    /// Where its first declaration does.
+    /// Where its first declaration begins in the source.
     decl: u32,
     /// What of it is moved.
     way: Way,
@@ -43,7 +43,7 @@ pub(crate) struct Hint {
     start: u32,
 }
 
-/// What blocked earlier steps. What is moved has one slot, which others may have too: of these the last noted is known.
+/// What blocked earlier steps. What is moved has one slot, which others may have too; of these the last noted is known.
 /// The slots are made when the first is noted.
 #[derive(Debug, Drop)]
 pub(crate) struct Hints {
@@ -68,7 +68,7 @@ pub(crate) fn way_of(step: &Step) -> Way {
     }
 }
 
-/// A rule that is moved so.
+/// A rule that is moved in this way.
 pub(crate) fn mover_of(rule: &Rule, way: Way) -> Mover {
     let selector = match rule.selectors.first() {
         Some(item) => item.piece.start,
@@ -95,14 +95,14 @@ fn number_of(way: Way) -> usize {
     }
 }
 
-/// Whether two rules are moved in one way, and are one as far as their places tell.
+/// Whether two rules are moved in one way, and are the same as far as their places show.
 fn same_mover(one: Mover, other: Mover) -> bool {
     one.selector == other.selector
         && one.decl == other.decl
         && number_of(one.way) == number_of(other.way)
 }
 
-/// How many slots are made for a sheet of as many items: a power of two.
+/// How many slots are made for a sheet of so many items: a power of two.
 fn room_for(items: usize) -> usize {
     if items <= 16 {
         64
@@ -115,7 +115,7 @@ fn room_for(items: usize) -> usize {
     }
 }
 
-/// The slot of what is moved, among as many slots, a power of two.
+/// The slot of what is moved, among so many slots, a power of two.
 fn slot_of(mover: Mover, slots: usize) -> usize {
     let spread = (mover.selector as usize)
         .wrapping_mul(0x9e37_79b1)
@@ -138,7 +138,7 @@ pub(crate) fn hint_of(hints: &Hints, mover: Mover) -> Option<Hint> {
     }
 }
 
-/// As many empty slots. The error comes where memory is short.
+/// So many empty slots. `AllocError` where memory is short.
 fn empty_slots(alloc: Global, count: usize) -> Result<Vec<Option<Hint>>, AllocError> {
     let mut list = Vec::with_capacity(alloc, count)?;
     for _ in 0..count {
@@ -188,7 +188,7 @@ fn note_obstacle(hints: &mut Hints, items: &[Item], mover: Mover, obstacle: Obst
     }
 }
 
-/// Makes the slots, if there are none, for a sheet of as many items. The error comes where memory is short.
+/// Makes the slots, if there are none, for a sheet of so many items. `AllocError` where memory is short.
 fn make_slots(alloc: Global, hints: &mut Hints, items: usize) -> Result<(), AllocError> {
     if hints.slots.len() == 0 {
         hints.slots = empty_slots(alloc, room_for(items))?;
@@ -196,7 +196,7 @@ fn make_slots(alloc: Global, hints: &mut Hints, items: usize) -> Result<(), Allo
     Ok(())
 }
 
-/// Notes what blocks what is moved of a rule of these items, if something does. The error comes where memory is short.
+/// Notes what blocks what is moved of a rule of these items, if something does. `AllocError` where memory is short.
 pub(crate) fn note_found(
     alloc: Global,
     hints: &mut Hints,
@@ -211,7 +211,7 @@ pub(crate) fn note_found(
     Ok(())
 }
 
-/// The same item as many numbers further up or down.
+/// The same item so many numbers further up or down.
 fn moved_by(other: &Other, distance: u32, upwards: bool) -> Other {
     match other {
         Other::Pair(place) => Other::Pair(PairPlace {
@@ -223,7 +223,7 @@ fn moved_by(other: &Other, distance: u32, upwards: bool) -> Other {
     }
 }
 
-/// The number that is by as much less or more.
+/// The number that is less or more by so much.
 fn number_by(number: u32, distance: u32, upwards: bool) -> u32 {
     if upwards {
         number.saturating_sub(distance)
@@ -232,7 +232,7 @@ fn number_by(number: u32, distance: u32, upwards: bool) -> u32 {
     }
 }
 
-/// Whether what blocked stands at a place, as far as its place in the source tells.
+/// Whether what blocked is at a place, as far as its place in the source shows.
 fn is_there(items: &[Item], hint: &Hint, other: &Other) -> bool {
     match start_of(items, other) {
         Some(start) => start == hint.start,
@@ -240,7 +240,7 @@ fn is_there(items: &[Item], hint: &Hint, other: &Other) -> bool {
     }
 }
 
-/// Where what blocked stands now among these items, if that is near to where it stood.
+/// Where what blocked is now among these items, if that is near to where it was.
 fn other_now(items: &[Item], hint: &Hint) -> Option<Other> {
     for distance in 0..NEAR {
         let above = moved_by(&hint.obstacle.other, distance, true);

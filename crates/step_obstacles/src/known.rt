@@ -1,4 +1,4 @@
-//! What is known of where pairs stand while the items of a window are looked at.
+//! What is known of where pairs are while the items of a window are looked at.
 
 ghost use Rattle.std.specs.Prelude.{◌≡◌, ◌↔◌, IfOk, IsTrue};
 ghost use Rattle.std.specs.List.{All};
@@ -15,11 +15,11 @@ use window_order::{KnownPair, unknown_pair};
 pub(crate) struct Entry {
     /// The place.
     pub(crate) place: PairPlace,
-    /// Where the pair stands.
+    /// Where the pair is.
     pub(crate) standing: KnownPair,
 }
 
-/// What is known of pairs. A pair has one slot, by its place, which others may have too: of these the last noted is
+/// What is known of pairs. A pair has one slot, by its place, which others may have too; of these the last noted is
 /// known. The slots are made when the first is noted.
 #[derive(Drop)]
 pub(crate) struct Known {
@@ -27,7 +27,7 @@ pub(crate) struct Known {
     pub(crate) entries: Vec<Entry>,
 }
 
-/// Nothing known.
+/// A table in which nothing is known.
 pub(crate) fn nothing_known(alloc: Global) -> Known
     ensures { (w : windows.Window) → IsKnown w result }
 {
@@ -50,7 +50,7 @@ fn empty_entry() -> Entry
     }
 }
 
-/// How many slots are made for as many pairs: a power of two.
+/// How many slots are made for so many pairs: a power of two.
 fn room_for(pairs: usize) -> usize {
     if pairs <= 8 {
         16
@@ -65,7 +65,7 @@ fn room_for(pairs: usize) -> usize {
     }
 }
 
-/// As many empty entries. The error comes where memory is short.
+/// So many empty entries. `AllocError` where memory is short.
 fn empty_entries(alloc: Global, count: usize) -> Result<Vec<Entry>, AllocError>
     ensures { IfOk result (λ list. All (λ e. e.standing ≡ unknown) list.items) }
 {
@@ -81,7 +81,7 @@ fn slots_in(known: &Known) -> usize {
     known.entries.len()
 }
 
-/// The slot of a place in a rule with as many selectors, among as many slots, a power of two.
+/// The slot of a place in a rule with so many selectors, among so many slots, a power of two.
 fn slot_of(place: PairPlace, selectors: usize, slots: usize) -> usize {
     let number = (place.decl as usize)
         .wrapping_mul(selectors)
@@ -90,14 +90,14 @@ fn slot_of(place: PairPlace, selectors: usize, slots: usize) -> usize {
     spread & slots.wrapping_sub(1)
 }
 
-/// Whether two places are one.
+/// Whether two places are the same.
 fn same_place(first: PairPlace, second: PairPlace) -> bool
     ensures { IsTrue result ↔ first ≡ second }
 {
     first.item == second.item && first.sel == second.sel && first.decl == second.decl
 }
 
-/// What an entry tells of a place.
+/// What an entry says of a place.
 #[tactic(auto, using(crate::proofs::Noted::unknown_noted))]
 fn told_by(entry: &Entry, place: PairPlace) -> KnownPair
     ensures { (w : windows.Window) → IsEntry w entry.now → IsNoted w place result }
@@ -109,7 +109,7 @@ fn told_by(entry: &Entry, place: PairPlace) -> KnownPair
     }
 }
 
-/// What is known of the pair at a place of a rule with as many selectors.
+/// What is known of the pair at a place of a rule with so many selectors.
 #[tactic(auto, using(crate::proofs::Noted::unknown_noted))]
 pub(crate) fn noted(known: &Known, place: PairPlace, selectors: usize) -> KnownPair
     ensures { (w : windows.Window) → IsKnown w known.now → IsNoted w place result }
@@ -132,7 +132,7 @@ fn put(known: &mut Known, slot: usize, entry: Entry)
     }
 }
 
-/// Makes the slots, if there are none, for as many pairs. The error comes where memory is short.
+/// Makes the slots, if there are none, for so many pairs. `AllocError` where memory is short.
 #[tactic(auto, using(crate::proofs::Noted::all_unknown))]
 fn make_slots(alloc: Global, known: &mut Known, pairs: usize) -> Result<(), AllocError>
     ensures { (w : windows.Window) → IsKnown w known.old → IsKnown w known.new }
@@ -143,8 +143,8 @@ fn make_slots(alloc: Global, known: &mut Known, pairs: usize) -> Result<(), Allo
     Ok(())
 }
 
-/// Notes where the pair at a place of a rule with as many selectors and pairs stands, if it is known. The error comes
-/// where memory is short.
+/// Notes where the pair at a place of a rule with so many selectors and pairs is, if it is known. `AllocError` where
+/// memory is short.
 pub(crate) fn note(
     alloc: Global,
     known: &mut Known,

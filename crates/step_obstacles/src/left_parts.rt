@@ -1,4 +1,4 @@
-//! What a step leaves in the places of its items, by the parts of their rules, which stay where they are.
+//! What a step leaves in the places of its items, by references to the parts of their rules.
 
 ghost use Rattle.std.specs.Prelude.{◌≡◌, ◌++◌, ◌<◌, ◌∷◌, [], length};
 ghost use Rattle.std.specs.List.{remove};
@@ -114,7 +114,7 @@ fn shared<'a>(upper: &'a Rule, lower: &'a Rule) -> LeftRule<'a>
     }
 }
 
-/// A rule without the declarations that stand in another one.
+/// A rule without the declarations that are in another one.
 fn without_others<'a>(rule: &'a Rule, other: &'a Rule) -> LeftRule<'a>
     ensures { left.rule_of result ≡ parting.without_decls other.now.decls rule.now }
 {
@@ -144,7 +144,7 @@ fn below_share<'a>(upper: &'a Rule, lower: &'a Rule) -> Left<'a>
     }
 }
 
-/// What stands in the place of the first item of two after a step of these rules, of a cut nothing.
+/// What takes the place of the first item of two after a step of these rules; nothing for a cut.
 fn first_left<'a>(step: &Step, upper: &'a Rule, lower: &'a Rule) -> Left<'a>
     ensures { left.items_of result ≡ windows.first_left (edit_of step.now upper.now lower.now).changes }
 {
@@ -159,7 +159,7 @@ fn first_left<'a>(step: &Step, upper: &'a Rule, lower: &'a Rule) -> Left<'a>
     }
 }
 
-/// What stands in the place of the last item.
+/// What takes the place of the last item after a step of these rules.
 fn last_left<'a>(step: &Step, upper: &'a Rule, lower: &'a Rule) -> Left<'a>
     requires { HasPart step.now upper.now }
     ensures { left.items_of result ≡ windows.last_left (edit_of step.now upper.now lower.now).changes }

@@ -1,4 +1,4 @@
-//! What blocks a step of merging, by answers for pairs of selectors, which are asked for.
+//! What blocks a step of merging, by answers for pairs of selectors. The answers are asked for.
 #![tactic(auto)]
 
 mod answering;

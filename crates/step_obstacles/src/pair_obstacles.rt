@@ -1,4 +1,4 @@
-//! Answers for pairs of selectors, by which steps are told to be free or blocked.
+//! Answers for pairs of selectors, by which steps are free or blocked.
 
 ghost use Rattle.std.specs.Prelude.{◌≡◌};
 
@@ -13,8 +13,8 @@ use std::alloc::{AllocError, Global};
 use std::marker::Model;
 use step_laws::Step;
 
-/// The answers for pairs of selectors; those that tell of a step whether it is free are asked for. What blocked is looked
-/// at first the next time.
+/// The answers for pairs of selectors by which steps are free or blocked. Those that decide whether a step is free are
+/// asked for. What blocked is looked at first the next time.
 #[derive(Debug, Drop)]
 pub struct PairObstacles {
     alloc: Global,
@@ -31,7 +31,7 @@ impl Model for PairObstacles {
 }
 
 impl PairObstacles {
-    /// By these answers. Takes no memory.
+    /// The obstacles by these answers.
     pub fn new(alloc: Global, pairs: Pairs) -> PairObstacles
         ensures { result ≡ pairs }
     {
@@ -42,7 +42,7 @@ impl PairObstacles {
         }
     }
 
-    /// The answers that it holds. Takes no memory.
+    /// The answers that it holds.
     pub fn into_pairs(self) -> Pairs
         ensures { result ≡ self }
     {

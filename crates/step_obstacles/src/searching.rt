@@ -55,7 +55,7 @@ fn counts_of(rule: &Rule) -> (usize, usize) {
     (selectors, selectors.wrapping_mul(rule.decls.len()))
 }
 
-/// Notes where the pair of the selector of this number stands.
+/// Notes where the pair of the selector of this number is.
 fn note_selector(
     alloc: Global,
     known: &mut Known,
@@ -73,7 +73,7 @@ fn note_selector(
     note(alloc, known, place, standing, selectors, pairs)
 }
 
-/// What is known of it.
+/// What is known of the pair of the selector of this number.
 fn noted_selector(known: &Known, window: &Window<'_>, moved: &DeclAt<'_>, number: u32) -> KnownPair
     requires { IsKnown window.now known.now }
     ensures { IsNoted window.now (record { item = moved.now.item; sel = number; decl = moved.now.number }) result }
@@ -82,7 +82,7 @@ fn noted_selector(known: &Known, window: &Window<'_>, moved: &DeclAt<'_>, number
     noted(known, place_of(moved, number), selectors)
 }
 
-/// Of the selector of this number, which is passed over where its specificity is not that of what it faces.
+/// What blocks of the selector of this number. It is passed over where its specificity is not that of what it faces.
 fn of_selector(
     alloc: Global,
     pairs: &mut Pairs,
@@ -126,7 +126,7 @@ fn of_selector(
     Ok(None)
 }
 
-/// Of all selectors of the declaration's rule.
+/// What blocks of all selectors of the declaration's rule.
 fn of_selectors(
     alloc: Global,
     pairs: &mut Pairs,
@@ -158,8 +158,8 @@ fn of_selectors(
     Ok(None)
 }
 
-/// With the pair of another declaration and the selector of this number, which is passed over where no selector of the
-/// moved rule has its specificity.
+/// What blocks with the pair of another declaration and the selector of this number. It is passed over where no
+/// selector of the moved rule has its specificity.
 fn with_selector(
     alloc: Global,
     pairs: &mut Pairs,
@@ -206,7 +206,7 @@ fn with_selector(
     )
 }
 
-/// With the pairs of another declaration, which weighs.
+/// What blocks with the pairs of another declaration, which weighs.
 fn with_decl(
     alloc: Global,
     pairs: &mut Pairs,
@@ -248,7 +248,8 @@ fn differ(first: &Decl, second: &Decl) -> bool
     !is_same_decl(first, second)
 }
 
-/// Whether two declarations weigh. The tests come in the order of what they cost: most that get as far are of one property.
+/// Whether two declarations weigh. The tests come in the order of what they cost: most that get as far are of one
+/// property.
 #[tactic(auto, using(crate::proofs::Masked::weigh_shows))]
 fn weigh(moved: &DeclAt<'_>, other: &DeclAt<'_>) -> bool
     requires first { moved.now.mask ≡ decl_mask moved.now.decl.now }
@@ -268,7 +269,7 @@ fn weigh(moved: &DeclAt<'_>, other: &DeclAt<'_>) -> bool
     related(&moved.decl.name, &other.decl.name)
 }
 
-/// With the pairs of another declaration, if it weighs.
+/// What blocks with the pairs of another declaration, if it weighs.
 fn with_other(
     alloc: Global,
     pairs: &mut Pairs,
@@ -293,7 +294,7 @@ fn with_other(
     }
 }
 
-/// With the pairs of the declaration of this number of a rule.
+/// What blocks with the pairs of the declaration of this number of a rule.
 fn with_number(
     alloc: Global,
     pairs: &mut Pairs,
@@ -326,7 +327,7 @@ fn with_number(
     with_other(alloc, pairs, known, window, moved, &other)
 }
 
-/// With the pairs of a rule.
+/// What blocks with the pairs of a rule.
 fn with_rule(
     alloc: Global,
     pairs: &mut Pairs,
@@ -358,7 +359,7 @@ fn with_rule(
     Ok(None)
 }
 
-/// With a kept item, if it weighs.
+/// What blocks with a kept item, if it weighs.
 fn with_kept(
     alloc: Global,
     pairs: &mut Pairs,
@@ -392,7 +393,7 @@ fn with_kept(
     }
 }
 
-/// With an item.
+/// What blocks with an item.
 fn with_item(
     alloc: Global,
     pairs: &mut Pairs,
@@ -428,8 +429,8 @@ fn own_mask(source: &Source<'_>, part: u32) -> u64
     mask_at(&source.masks, part)
 }
 
-/// Of the declaration of this number of a rule with an item. It is passed over where it does not count, or the masks
-/// have no bit in common.
+/// What blocks of the declaration of this number of a rule with an item. It is passed over where it does not count, or
+/// the masks have no bit in common.
 #[tactic(auto, using(crate::proofs::Masked::decl_passed, crate::proofs::HeldAnswers::stays_itself))]
 fn of_decl(
     alloc: Global,
@@ -470,7 +471,7 @@ fn of_decl(
     with_item(alloc, pairs, known, window, &moved, met)
 }
 
-/// Of each declaration of a rule with an item.
+/// What blocks of each declaration of a rule with an item.
 fn of_each(
     alloc: Global,
     pairs: &mut Pairs,
@@ -497,8 +498,8 @@ fn of_each(
     Ok(None)
 }
 
-/// Of a rule with an item of this mask, which is passed over where the masks have no bit in common, or no specificity of
-/// the item is one of the rule.
+/// What blocks of a rule with an item of this mask. It is passed over where the masks have no bit in common, or no
+/// specificity of the item is one of the rule.
 #[tactic(auto, using(crate::proofs::HeldAnswers::stays_itself))]
 pub(crate) fn of_source(
     alloc: Global,

@@ -15,7 +15,7 @@ pub(crate) fn selector_mask(selector: &Selector) -> u64
     1 << (selector_digest(selector) % 64)
 }
 
-/// The masks of some selectors. The error comes where memory is short.
+/// The masks of some selectors. `AllocError` where memory is short.
 pub(crate) fn selector_masks_of(
     alloc: Global,
     selectors: &[SelItem],

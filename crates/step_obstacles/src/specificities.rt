@@ -22,7 +22,7 @@ pub(crate) fn specificity_in_profile(selector: &Selector) -> Specificity
     specificity(selector)
 }
 
-/// The specificities of some selectors of the profile. The error comes where memory is short.
+/// The specificities of some selectors of the profile. `AllocError` where memory is short.
 pub(crate) fn specificities_of(
     alloc: Global,
     selectors: &[SelItem],
@@ -69,7 +69,7 @@ pub(crate) fn is_among(specificities: &[Specificity], specificity: Specificity) 
     false
 }
 
-/// Whether one of some selectors of the profile has a specificity that is among these. Those behind it are not counted.
+/// Whether one of some selectors of the profile has a specificity that is among these. Those after it are not counted.
 fn have_one_of(specificities: &[Specificity], selectors: &[SelItem]) -> bool
     requires { All (λ x. IsInProfile x.selector) selectors.now }
     ensures { IsTrue result ↔ turns.HaveOneOf specificities.now selectors.now }

@@ -123,7 +123,7 @@ fn span_of(step: &Step) -> Span
     }
 }
 
-/// All pairs of the rule of this number. The error comes where memory is short.
+/// All pairs of the rule of this number. `AllocError` where memory is short.
 fn whole(alloc: Global, sheet: &Sheet, item: u32) -> Result<Source<'_>, AllocError>
     requires askable { turns.IsAskable sheet.now.items }
     requires rule { (r : RuleParts) × (slice_get sheet.now.items item ≡ Some (kinds.Rule r)) }
@@ -148,8 +148,7 @@ fn whole(alloc: Global, sheet: &Sheet, item: u32) -> Result<Source<'_>, AllocErr
     })
 }
 
-/// The pairs of the rule of this number whose declarations stand in another rule too. The error comes where memory is
-/// short.
+/// The pairs of the rule of this number whose declarations are in another rule too. `AllocError` where memory is short.
 fn common(alloc: Global, sheet: &Sheet, item: u32, other: u32) -> Result<Source<'_>, AllocError>
     requires askable { turns.IsAskable sheet.now.items }
     requires rule { (r : RuleParts) × (slice_get sheet.now.items item ≡ Some (kinds.Rule r)) }
@@ -189,13 +188,13 @@ fn moved_of(step: &Step) -> Moved
     }
 }
 
-/// Whether what is moved so is nearer to the last item of the window than to the first.
+/// Whether what is moved in this way is nearer to the last item of the window than to the first.
 fn is_from_below(way: Way) -> bool {
     !matches!(way, Way::Down)
 }
 
-/// What blocks of the pairs of the rule of this number. A cut takes most rules whose pairs all stand below; then no item above
-/// needs to be looked at.
+/// What blocks of the pairs of the rule of this number. A cut takes most rules whose pairs are all below; then no item
+/// above needs to be looked at.
 #[tactic(auto, using(crate::proofs::Sources::told_whole))]
 fn by_whole(
     alloc: Global,
@@ -272,7 +271,7 @@ fn by_search(
     }
 }
 
-/// The rule of this number, of which nothing is looked up. Takes no memory.
+/// The rule of this number. Nothing of it is looked up, which takes no memory.
 fn bare<'a>(alloc: Global, sheet: &'a Sheet, item: u32, with: Option<&'a Rule>) -> Source<'a>
     requires rule { (r : RuleParts) × (slice_get sheet.now.items item ≡ Some (kinds.Rule r)) }
     ensures item { result.item ≡ item }
@@ -290,7 +289,7 @@ fn bare<'a>(alloc: Global, sheet: &'a Sheet, item: u32, with: Option<&'a Rule>) 
     }
 }
 
-/// The rule that is moved, of two the upper one, of which nothing is looked up. Takes no memory.
+/// The rule that is moved, of two the upper one. Nothing of it is looked up, which takes no memory.
 fn first_moved<'a>(alloc: Global, sheet: &'a Sheet, moved: &Moved) -> Source<'a>
     requires there { AreThere sheet.now.items moved.now }
     ensures { IsFirstOf sheet.now.items moved.now result }
@@ -301,7 +300,7 @@ fn first_moved<'a>(alloc: Global, sheet: &'a Sheet, moved: &Moved) -> Source<'a>
     }
 }
 
-/// What blocks of the pairs that are moved: what blocked them before, if it does still, or else what is looked for.
+/// What blocks of the pairs that are moved: what blocked them before, if it does still; otherwise what is looked for.
 #[tactic(auto, using(crate::proofs::HeldAnswers::stays_on, crate::proofs::Hinting::first_there, crate::proofs::Hinting::told_first))]
 fn by_moved(
     alloc: Global,
@@ -331,11 +330,14 @@ fn by_moved(
     Ok(found)
 }
 
-/// What blocks a step of a sheet, and `None` where it is free, by the answers for pairs of selectors, which are
-/// asked for. All that was answered stays, and the budget, also after `AllocError`. The time is that of a look at
-/// each moved pair with each pair of the items from the step's first to its last one, but for the receiver of a join by
-/// selectors, and of a cut with those of all items above; it is less where what blocked before does still. The memory is
-/// that of the masks of what is moved, besides that of answers and of hints: no part of a rule is copied.
+/// What blocks a step of a sheet, and `None` where it is free, by the answers for pairs of selectors. The answers are
+/// asked for. All that was answered stays, and the budget. `AllocError` where memory runs out; they stay then too.
+///
+/// - The time is that of a look at each moved pair with each pair of the items from the step's first to its last one.
+///   The receiver of a join by selectors is left out; for a cut the items are all those above. It is less where what
+///   blocked before does still.
+/// - The memory is that of the masks of what is moved, besides that of answers and of hints. No part of a rule is
+///   copied.
 pub(crate) fn step_obstacle(
     alloc: Global,
     pairs: &mut Pairs,

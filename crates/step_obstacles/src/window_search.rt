@@ -18,7 +18,7 @@ use overlap::Pairs;
 use std::alloc::{AllocError, Global};
 use window_order::Window;
 
-/// Of some rules with an item of this mask.
+/// What blocks of some rules with an item of this mask.
 fn of_sources(
     alloc: Global,
     pairs: &mut Pairs,
@@ -56,7 +56,7 @@ fn mask_of(window: &Window<'_>, number: usize) -> u64
     window.masks[number].families
 }
 
-/// Of some rules with the item of this number.
+/// What blocks of some rules with the item of this number.
 fn of_number(
     alloc: Global,
     pairs: &mut Pairs,
@@ -94,7 +94,7 @@ fn of_number(
 pub(crate) struct Span {
     /// The first one.
     pub(crate) first: usize,
-    /// The number behind the last one.
+    /// The number after the last one.
     pub(crate) end: usize,
 }
 
@@ -118,7 +118,7 @@ fn number_of(span: Span, upwards: bool, turn: usize) -> usize
     }
 }
 
-/// Of some rules with all items of a window, of which those of a span are looked at, upwards or downwards: they are
+/// What blocks of some rules with all items of a window. Those of a span are looked at, upwards or downwards: they are
 /// enough.
 pub(crate) fn in_window(
     alloc: Global,

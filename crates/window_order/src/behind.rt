@@ -1,4 +1,4 @@
-//! Whether a pair stands behind a window, for who looks at no other pair.
+//! Whether a pair is after a window, for callers that look at no other pair.
 
 ghost use Rattle.std.specs.Prelude.{◌≡◌};
 ghost use Rattle.window_order.specs.Reversed as reversed;
@@ -8,7 +8,7 @@ use crate::pair::PairRef;
 use crate::window::Window;
 
 impl<'a> Window<'a> {
-    /// Whether a pair stands behind it.
+    /// Whether a pair is after the window.
     pub fn is_behind(&self, p: &PairRef<'_>) -> bool
         ensures { result ≡ standing.stands (reversed.behind_of self.now) p.now }
     {

@@ -1,11 +1,11 @@
-//! What the parts at the ends of a window tell of an order, whatever stands between them.
+//! What the parts at the ends of a window say of an order, whatever is between them.
 
 ghost use Rattle.std.specs.Prelude.{◌≡◌, ◌↔◌, IsTrue};
 ghost use Rattle.window_order.specs.Orders as orders;
 
 use crate::order::PairOrder;
 
-/// How two pairs stand in the parts at the ends.
+/// How two pairs are ordered in the parts at the ends.
 #[derive(Clone, Copy)]
 pub(crate) struct PairEnds {
     /// In the first part.
@@ -14,7 +14,7 @@ pub(crate) struct PairEnds {
     pub below: PairOrder,
 }
 
-/// How two pairs stand in items of which some lie above the others.
+/// How two pairs are ordered in items of which some are above the others.
 pub(crate) fn joined(above: PairOrder, below: PairOrder) -> PairOrder
     ensures { result ≡ orders.joined above below }
 {
@@ -29,7 +29,7 @@ pub(crate) fn joined(above: PairOrder, below: PairOrder) -> PairOrder
     }
 }
 
-/// Whether the first of two pairs comes last before the second, by how they stand in the parts.
+/// Whether the first of two pairs comes last before the second, by how they are ordered in the parts.
 pub(crate) fn comes_before(ends: PairEnds, between: PairOrder) -> bool
     ensures { result ≡ orders.comes_before ends between }
 {
@@ -39,14 +39,14 @@ pub(crate) fn comes_before(ends: PairEnds, between: PairOrder) -> bool
     )
 }
 
-/// Whether two pairs have the same order before and after a step, by how they stand in the parts.
+/// Whether two pairs have the same order before and after a step, by how they are ordered in the parts.
 fn same_with(old: PairEnds, new: PairEnds, between: PairOrder) -> bool
     ensures { result ≡ orders.same_with old new between }
 {
     comes_before(old, between) == comes_before(new, between)
 }
 
-/// Whether they have the same order before and after, whatever stands between.
+/// Whether two pairs have the same order before and after a step, whatever is between the ends.
 pub(crate) fn always_same(old: PairEnds, new: PairEnds) -> bool
     ensures { IsTrue result ↔ orders.AreAlwaysSame old new }
 {

@@ -1,4 +1,4 @@
-//! Where pairs stand in the parts at the ends of a window, which is looked for once.
+//! Where pairs are in the parts at the ends of a window. It is looked for once.
 
 ghost use Rattle.std.specs.Prelude.{◌≡◌, ◌↔◌, IsTrue};
 ghost use Rattle.css_model.specs.Cascade.Order.{HasPair};
@@ -15,7 +15,7 @@ use crate::pair::PairRef;
 use crate::place::Standing;
 use crate::window::Window;
 
-/// Whether a pair stands in the parts at the ends, before a step and after it.
+/// Whether a pair is in the parts at the ends, before a step and after it.
 #[derive(Clone, Copy)]
 pub struct Ends {
     /// Before it.
@@ -24,16 +24,16 @@ pub struct Ends {
     pub new: KeptEnds,
 }
 
-/// What is known of where a pair stands in a window.
+/// What is known of where a pair is in a window.
 #[derive(Clone, Copy)]
 pub struct KnownPair {
     /// In the parts at the ends, if it was looked for there.
     pub ends: Option<Ends>,
-    /// Between them, and behind it.
+    /// Between them, and after the window.
     pub standing: Standing,
 }
 
-/// Nothing known of a pair.
+/// A pair of which nothing is known.
 pub fn unknown_pair() -> KnownPair
     ensures { result ≡ places.unknown }
 {
@@ -44,7 +44,7 @@ pub fn unknown_pair() -> KnownPair
 }
 
 impl<'a> Window<'a> {
-    /// Whether a pair stands in the parts at the ends before the step.
+    /// Whether a pair is in the parts at the ends before the step.
     fn old_kept_ends(&self, p: &PairRef<'_>) -> KeptEnds
         ensures { orders.AreKeptEnds (reversed.first_of self.now) (reversed.last_of self.now) p.now result }
     {
@@ -54,7 +54,7 @@ impl<'a> Window<'a> {
         }
     }
 
-    /// Whether it does so afterwards.
+    /// Whether a pair is in the parts at the ends after the step.
     fn new_kept_ends(&self, p: &PairRef<'_>) -> KeptEnds
         ensures { orders.AreKeptEnds (left.items_of self.now.first_left) (left.items_of self.now.last_left) p.now result }
     {
@@ -64,7 +64,7 @@ impl<'a> Window<'a> {
         }
     }
 
-    /// Whether it does, before the step and after it.
+    /// Whether a pair is in the parts at the ends, before the step and after it.
     pub(crate) fn ends_looked_for(&self, p: &PairRef<'_>) -> Ends
         ensures { places.AreEndsOf self.now p.now result }
     {
@@ -74,7 +74,7 @@ impl<'a> Window<'a> {
         }
     }
 
-    /// The same, which is looked for if it was not yet.
+    /// Whether a pair is in the parts at the ends, before the step and after it. It is looked for if it was not yet.
     pub(crate) fn ends_of(&self, p: &PairRef<'_>, known: &mut KnownPair) -> Ends
         requires { places.IsKnownPair self.now p.now known.old }
         ensures ends { places.AreEndsOf self.now p.now result }
@@ -90,7 +90,7 @@ impl<'a> Window<'a> {
         }
     }
 
-    /// How two pairs stand in the first item, if there is one, by whether each does.
+    /// How two pairs are ordered in the first item, if there is one, by whether each is in it.
     fn first_order(&self, p: &PairRef<'_>, first: bool, q: &PairRef<'_>, second: bool) -> PairOrder
         requires first { IsTrue first ↔ HasPair (reversed.first_of self.now) p.now }
         requires second { IsTrue second ↔ HasPair (reversed.first_of self.now) q.now }
@@ -99,7 +99,7 @@ impl<'a> Window<'a> {
         order_by_both(self.first(), self.first_masks(), p, first, q, second)
     }
 
-    /// How they stand in the last item.
+    /// How two pairs are ordered in the last item, by whether each is in it.
     fn last_order(&self, p: &PairRef<'_>, first: bool, q: &PairRef<'_>, second: bool) -> PairOrder
         requires first { IsTrue first ↔ HasPair (reversed.last_of self.now) p.now }
         requires second { IsTrue second ↔ HasPair (reversed.last_of self.now) q.now }
@@ -108,7 +108,7 @@ impl<'a> Window<'a> {
         order_by_both(self.last(), self.last_masks(), p, first, q, second)
     }
 
-    /// How two pairs stand in the parts at the ends before the step.
+    /// How two pairs are ordered in the parts at the ends before the step.
     pub(crate) fn old_ends(
         &self,
         p: &PairRef<'_>,
@@ -126,7 +126,7 @@ impl<'a> Window<'a> {
         }
     }
 
-    /// How they do afterwards.
+    /// How two pairs are ordered in the parts at the ends after the step.
     pub(crate) fn new_ends(
         &self,
         p: &PairRef<'_>,

@@ -13,7 +13,7 @@ use crate::pair::PairRef;
 use css_model::Item;
 use item_masks::ItemMask;
 
-/// Whether a pair stands in the parts at the ends of a window.
+/// Whether a pair is in the parts at the ends of a window.
 #[derive(Clone, Copy)]
 pub struct KeptEnds {
     /// In the first part.
@@ -22,15 +22,15 @@ pub struct KeptEnds {
     pub below: bool,
 }
 
-/// Whether a pair, which does not stand below a kept item of the middle part, comes last before it, by whether it
-/// stands above it in that part.
+/// Whether a pair comes last before a kept item of the middle part, by whether it is above it in that part. It is not
+/// below the kept item there.
 fn comes_before_kept(ends: KeptEnds, above: bool) -> bool
     ensures { result ≡ orders.comes_before_kept ends above }
 {
     (ends.above || above) && !ends.below
 }
 
-/// Whether it comes last before it or not both before and after a step, wherever it stands between.
+/// Whether a pair has the same order with a kept item before and after a step, wherever the pair is between the ends.
 pub(crate) fn always_same_kept(old: KeptEnds, new: KeptEnds) -> bool
     ensures { IsTrue result ↔ orders.AreAlwaysSameKept old new }
 {
@@ -38,7 +38,7 @@ pub(crate) fn always_same_kept(old: KeptEnds, new: KeptEnds) -> bool
         && comes_before_kept(old, true) == comes_before_kept(new, true)
 }
 
-/// Whether a pair stands in the items below the one of this number, by the masks.
+/// Whether a pair is in the items below the one of this number, by the masks.
 fn stands_below(items: &[Item], masks: &[ItemMask], number: usize, p: &PairRef<'_>) -> bool
     requires number { number < length items.now }
     requires items { masks.now ≡ map item_mask items.now }
@@ -47,7 +47,7 @@ fn stands_below(items: &[Item], masks: &[ItemMask], number: usize, p: &PairRef<'
     stands_by_masks(&items[number + 1..], &masks[number + 1..], p)
 }
 
-/// Whether it stands in the items above the one of this number.
+/// Whether a pair is in the items above the one of this number, by the masks.
 fn stands_above(items: &[Item], masks: &[ItemMask], number: usize, p: &PairRef<'_>) -> bool
     requires number { number < length items.now }
     requires items { masks.now ≡ map item_mask items.now }
@@ -57,7 +57,7 @@ fn stands_above(items: &[Item], masks: &[ItemMask], number: usize, p: &PairRef<'
 }
 
 /// Whether a pair and the kept item of this number of the middle part have another order with the new parts at the
-/// ends, by what lies between.
+/// ends, by what is between.
 pub(crate) fn has_other_place(
     old: KeptEnds,
     new: KeptEnds,
@@ -77,7 +77,7 @@ pub(crate) fn has_other_place(
     comes_before_kept(old, above) != comes_before_kept(new, above)
 }
 
-/// Whether a pair whose last place in the middle part is this one stands below the kept item of this number.
+/// Whether a pair whose last place in the middle part is this one is below the kept item of this number.
 fn is_below(at: Option<usize>, number: usize) -> bool
     ensures { IsTrue result ↔ places.IsBelow at number }
 {
@@ -97,7 +97,8 @@ fn is_somewhere(at: Option<usize>) -> bool
     }
 }
 
-/// Whether they have, by where the pair stands last in what lies between.
+/// Whether a pair and a kept item have another order with the new parts at the ends, by the pair's last place in what
+/// is between.
 pub(crate) fn has_place_other(
     old: KeptEnds,
     new: KeptEnds,

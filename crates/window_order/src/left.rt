@@ -1,4 +1,4 @@
-//! What stands in the place of an item after a step: parts of rules of the sheet, where they stand.
+//! What takes the place of an item after a step: parts of rules of the sheet, by reference.
 
 ghost use Rattle.std.specs.Prelude.{◌≡◌, ◌++◌, ◌↔◌, ◌∷◌, ◌&&◌, ◌||◌, [], IsTrue, true};
 ghost use Rattle.std.specs.Bool.{beq};
@@ -17,31 +17,31 @@ use css_model::{Decl, DeclItem, SelItem, Selector};
 use item_masks::ItemMask;
 use step_savings::{has_decl, has_selector};
 
-/// Selectors that stand in rules of a sheet.
+/// Selectors that are in rules of a sheet.
 #[derive(Clone, Copy)]
 pub enum LeftSelectors<'a> {
-    /// These.
+    /// The selectors of this list.
     All(&'a [SelItem]),
-    /// These, then the others.
+    /// The selectors of the first list, then those of the second.
     Both(&'a [SelItem], &'a [SelItem]),
-    /// These, then those of the others that are not among them.
+    /// The selectors of the first list, then those of the second that are not among them.
     Joined(&'a [SelItem], &'a [SelItem]),
 }
 
-/// Declarations that stand in rules of a sheet.
+/// Declarations that are in rules of a sheet.
 #[derive(Clone, Copy)]
 pub enum LeftDecls<'a> {
-    /// These.
+    /// The declarations of this list.
     All(&'a [DeclItem]),
-    /// These, then the others.
+    /// The declarations of the first list, then those of the second.
     Both(&'a [DeclItem], &'a [DeclItem]),
-    /// Those of these that are among the others, each once, where it stands last.
+    /// The declarations of the first list that are in the second, each once, where it comes last.
     Common(&'a [DeclItem], &'a [DeclItem]),
-    /// Those of these that are not among the others.
+    /// The declarations of the first list that are not in the second.
     Others(&'a [DeclItem], &'a [DeclItem]),
 }
 
-/// A rule of parts that stand in rules of a sheet.
+/// A rule of parts that are in rules of a sheet.
 #[derive(Clone, Copy)]
 pub struct LeftRule<'a> {
     /// Its selectors.
@@ -50,12 +50,13 @@ pub struct LeftRule<'a> {
     pub decls: LeftDecls<'a>,
 }
 
-/// What stands in the place of an item after a step: at most two rules.
+/// What takes the place of an item after a step: at most two rules.
 #[derive(Clone, Copy)]
 pub struct Left<'a> {
     /// A rule that the step makes.
     pub made: Option<LeftRule<'a>>,
-    /// Below it what the step leaves of the item: no rule where it has no selector or no declaration.
+    /// What the step leaves of the item, below the rule that it makes. There is no rule where it has no selector or no
+    /// declaration.
     pub rest: Option<LeftRule<'a>>,
 }
 
@@ -84,7 +85,7 @@ fn has_decl_in_either(first: &[DeclItem], second: &[DeclItem], decl: &Decl) -> b
     has_decl(first, decl) || has_decl(second, decl)
 }
 
-/// Whether it is in the first list, and in the others where that is wanted, or not.
+/// Whether a declaration is in the first list, and is in the others exactly where that is wanted.
 fn has_decl_where(wanted: bool, list: &[DeclItem], others: &[DeclItem], decl: &Decl) -> bool
     ensures { result ≡ (beq (members.has_decl others.now decl.now) wanted && members.has_decl list.now decl.now) }
 {
@@ -103,14 +104,14 @@ fn has_left_decl(decls: &LeftDecls<'_>, decl: &Decl) -> bool
     }
 }
 
-/// Whether a declaration stands in the first list, and another one in the second.
+/// Whether a declaration is in the first list, and another one in the second.
 fn are_apart(first: &[DeclItem], second: &[DeclItem], decl: &Decl, other: &Decl) -> bool
     ensures { result ≡ (members.has_decl first.now decl.now && members.has_decl second.now other.now) }
 {
     has_decl(first, decl) && has_decl(second, other)
 }
 
-/// Whether the last of a declaration stands before the last of another one in two lists, the second one below.
+/// Whether the last of a declaration is before the last of another one in two lists, the second one below.
 fn before_in_both(first: &[DeclItem], second: &[DeclItem], decl: &Decl, other: &Decl) -> bool
     ensures { result ≡ standing.decl_before (first.now ++ second.now) decl.now other.now }
 {
@@ -123,15 +124,15 @@ fn before_in_both(first: &[DeclItem], second: &[DeclItem], decl: &Decl, other: &
     decl_before(first, decl, other)
 }
 
-/// Whether two declarations are both in a list where that is wanted, or are both not.
+/// Whether two declarations are both in a list where that is wanted, or are both not in it otherwise.
 fn are_both(wanted: bool, list: &[DeclItem], decl: &Decl, other: &Decl) -> bool
     ensures { result ≡ (beq (members.has_decl list.now decl.now) wanted && beq (members.has_decl list.now other.now) wanted) }
 {
     has_decl(list, decl) == wanted && has_decl(list, other) == wanted
 }
 
-/// Whether the last of a declaration stands before the last of another one in the first list, and both are in the
-/// others where that is wanted, or are both not.
+/// Whether the last of a declaration is before the last of another one in the first list, and both are in the others
+/// where that is wanted, or are both not in them otherwise.
 fn before_where(
     wanted: bool,
     list: &[DeclItem],
@@ -144,7 +145,7 @@ fn before_where(
     are_both(wanted, others, decl, other) && decl_before(list, decl, other)
 }
 
-/// Whether the last of a declaration stands before the last of another one among some that are left.
+/// Whether the last of a declaration is before the last of another one among some that are left.
 fn left_decl_before(decls: &LeftDecls<'_>, decl: &Decl, other: &Decl) -> bool
     ensures { result ≡ standing.decl_before (left.decls_of decls.now) decl.now other.now }
 {
@@ -156,14 +157,15 @@ fn left_decl_before(decls: &LeftDecls<'_>, decl: &Decl, other: &Decl) -> bool
     }
 }
 
-/// Whether a pair stands in a rule that is left.
+/// Whether a pair is in a rule that is left.
 fn is_in_left(rule: &LeftRule<'_>, p: &PairRef<'_>) -> bool
     ensures { result ≡ standing.is_in_rule (left.rule_of rule.now) p.now }
 {
     has_left_decl(&rule.decls, p.decl) && has_left_selector(&rule.selectors, p.selector)
 }
 
-/// Whether two pairs stand in it, the last of the first before the last of the second, where the first one does.
+/// Whether two pairs are in a rule that is left, the last of the first before the last of the second. The first one is
+/// in it; `second` says whether the second one is.
 fn left_before(rule: &LeftRule<'_>, p: &PairRef<'_>, q: &PairRef<'_>, second: bool) -> bool
     requires first { standing.is_in_rule (left.rule_of rule.now) p.now ≡ true }
     requires second { second ≡ standing.is_in_rule (left.rule_of rule.now) q.now }
@@ -172,7 +174,7 @@ fn left_before(rule: &LeftRule<'_>, p: &PairRef<'_>, q: &PairRef<'_>, second: bo
     second && left_decl_before(&rule.decls, p.decl, q.decl)
 }
 
-/// How two pairs stand in a rule that is left.
+/// How two pairs are ordered in a rule that is left.
 fn order_in_left(rule: &LeftRule<'_>, p: &PairRef<'_>, q: &PairRef<'_>) -> PairOrder
     ensures { orders.IsOrder (item.Rule (left.rule_of rule.now) ∷ []) p.now q.now result }
 {
@@ -190,7 +192,7 @@ fn order_in_left(rule: &LeftRule<'_>, p: &PairRef<'_>, q: &PairRef<'_>) -> PairO
     }
 }
 
-/// Whether a pair stands in a rule that is there or not, made or left.
+/// Whether a pair is in a rule that is there or not, made or left.
 fn is_in_any(rule: &Option<LeftRule<'_>>, p: &PairRef<'_>) -> bool
     ensures made { IsTrue result ↔ HasPair (left.made_of rule.now) p.now }
     ensures rest { IsTrue result ↔ HasPair (left.rest_of rule.now) p.now }
@@ -201,7 +203,7 @@ fn is_in_any(rule: &Option<LeftRule<'_>>, p: &PairRef<'_>) -> bool
     }
 }
 
-/// How two pairs stand in a rule that is there or not, made or left.
+/// How two pairs are ordered in a rule that is there or not, made or left.
 fn order_in_any(rule: &Option<LeftRule<'_>>, p: &PairRef<'_>, q: &PairRef<'_>) -> PairOrder
     ensures made { orders.IsOrder (left.made_of rule.now) p.now q.now result }
     ensures rest { orders.IsOrder (left.rest_of rule.now) p.now q.now result }
@@ -213,14 +215,14 @@ fn order_in_any(rule: &Option<LeftRule<'_>>, p: &PairRef<'_>, q: &PairRef<'_>) -
 }
 
 impl<'a> Left<'a> {
-    /// Whether a pair stands in what is left.
+    /// Whether a pair is in what is left.
     fn has_pair(&self, p: &PairRef<'_>) -> bool
         ensures { IsTrue result ↔ HasPair (left.items_of self.now) p.now }
     {
         is_in_any(&self.made, p) || is_in_any(&self.rest, p)
     }
 
-    /// Whether a pair stands in what is left, by a mask that meets those of all pairs in it.
+    /// Whether a pair is in what is left, by a mask that meets those of all pairs in it.
     pub(crate) fn has_masked(&self, mask: ItemMask, p: &PairRef<'_>) -> bool
         requires { left.Covers mask (left.items_of self.now) }
         ensures { IsTrue result ↔ HasPair (left.items_of self.now) p.now }
@@ -231,7 +233,7 @@ impl<'a> Left<'a> {
         self.has_pair(p)
     }
 
-    /// How two pairs stand in what is left, by whether each does.
+    /// How two pairs are ordered in what is left, by whether each is in it.
     pub(crate) fn order_by_both(
         &self,
         p: &PairRef<'_>,
@@ -252,7 +254,7 @@ impl<'a> Left<'a> {
         self.order_of(p, q)
     }
 
-    /// How two pairs stand in what is left.
+    /// How two pairs are ordered in what is left.
     fn order_of(&self, p: &PairRef<'_>, q: &PairRef<'_>) -> PairOrder
         ensures { orders.IsOrder (left.items_of self.now) p.now q.now result }
     {

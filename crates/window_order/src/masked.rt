@@ -1,4 +1,4 @@
-//! Whether a pair stands in items with masks, and how two pairs do.
+//! Whether a pair is in items with masks, and how two pairs are ordered there.
 
 ghost use Rattle.std.specs.Prelude.{◌≡◌, ◌↔◌, IfSome, IsTrue, ◌≤◌, ◌∷◌, [], length, map, take, zip};
 ghost use Rattle.std.specs.List.{list_any};
@@ -15,21 +15,21 @@ use crate::standing::{comes_before_if, comes_before_there, is_in_item};
 use css_model::Item;
 use item_masks::ItemMask;
 
-/// Whether a pair stands in an item with a mask. Nearly all in which it does not are told by the masks.
+/// Whether a pair is in an item with a mask. Nearly all items without the pair are known by the masks.
 fn is_in_masked(item: &Item, of_item: ItemMask, p: &PairRef<'_>) -> bool
     ensures { result ≡ standing.is_in_masked (pair_mask p.now) p.now item.now of_item }
 {
     of_item.meets(p.mask) && is_in_item(item, p)
 }
 
-/// Whether it stands in some items with masks.
+/// Whether a pair is in some items with masks.
 fn stands_masked(items: &[Item], masks: &[ItemMask], p: &PairRef<'_>) -> bool
     ensures { result ≡ list_any (λ x. standing.is_in_masked (pair_mask p.now) p.now x.0 x.1) (zip items.now masks.now) }
 {
     items.iter().zip(masks).any(|(item, of_item)| of_item.meets(p.mask) && is_in_item(item, p))
 }
 
-/// Whether it stands in some items, by its mask and theirs.
+/// Whether a pair is in some items, by its mask and theirs.
 pub(crate) fn stands_by_masks(items: &[Item], masks: &[ItemMask], p: &PairRef<'_>) -> bool
     requires { masks.now ≡ map item_mask items.now }
     ensures { IsTrue result ↔ HasPair items.now p.now }
@@ -37,7 +37,7 @@ pub(crate) fn stands_by_masks(items: &[Item], masks: &[ItemMask], p: &PairRef<'_
     stands_masked(items, masks, p)
 }
 
-/// Whether it stands in an item, by its mask and that of the item.
+/// Whether a pair is in an item, by its mask and that of the item.
 fn stands_in_masked(item: &Item, of_item: ItemMask, p: &PairRef<'_>) -> bool
     requires { of_item ≡ item_mask item.now }
     ensures { IsTrue result ↔ HasPair (item.now ∷ []) p.now }
@@ -45,7 +45,7 @@ fn stands_in_masked(item: &Item, of_item: ItemMask, p: &PairRef<'_>) -> bool
     is_in_masked(item, of_item, p)
 }
 
-/// The number of the last of some items in which a pair stands, by its mask and theirs.
+/// The number of the last of some items that has a pair, by its mask and theirs.
 pub(crate) fn last_by_masks(items: &[Item], masks: &[ItemMask], p: &PairRef<'_>) -> Option<usize>
     requires { masks.now ≡ map item_mask items.now }
     ensures { places.IsPlace items.now p.now result }
@@ -60,7 +60,7 @@ pub(crate) fn last_by_masks(items: &[Item], masks: &[ItemMask], p: &PairRef<'_>)
     None
 }
 
-/// What an item with a mask tells that has these above it.
+/// What an item with a mask, with these items above it, says of the order of two pairs.
 fn found_masked<'a>(
     above: &'a [Item],
     last: &Item,
@@ -85,7 +85,7 @@ fn found_masked<'a>(
     }
 }
 
-/// What the last of some items that has one of two pairs tells of their order, by the masks.
+/// What the last of some items that has one of two pairs says of their order, by the masks.
 fn found_by_masks<'a>(
     items: &'a [Item],
     masks: &[ItemMask],
@@ -105,7 +105,7 @@ fn found_by_masks<'a>(
     Found::Neither
 }
 
-/// Whether a pair stands in the first of some items, by the masks of all.
+/// Whether a pair is in the first of some items, by the masks of all.
 fn stands_above(above: &[Item], masks: &[ItemMask], p: &PairRef<'_>) -> bool
     requires items { take (length above.now) masks.now ≡ map item_mask above.now }
     requires count { length above.now ≤ length masks.now }
@@ -114,7 +114,7 @@ fn stands_above(above: &[Item], masks: &[ItemMask], p: &PairRef<'_>) -> bool
     stands_by_masks(above, &masks[..above.len()], p)
 }
 
-/// How two pairs stand in some items, by the masks.
+/// How two pairs are ordered in some items, by the masks.
 pub(crate) fn order_by_masks(
     items: &[Item],
     masks: &[ItemMask],
@@ -132,7 +132,7 @@ pub(crate) fn order_by_masks(
     }
 }
 
-/// The one of some items, if they are one.
+/// The only one of some items, if there is but one.
 fn only_one(items: &[Item]) -> Option<&Item>
     ensures { IfSome result (λ x. items.now ≡ x.now ∷ []) }
 {
@@ -144,7 +144,7 @@ fn only_one(items: &[Item]) -> Option<&Item>
     None
 }
 
-/// How two pairs stand in an item in which both do.
+/// How two pairs are ordered in an item that has both.
 fn order_in_one(item: &Item, p: &PairRef<'_>, q: &PairRef<'_>) -> PairOrder
     requires first { HasPair (item.now ∷ []) p.now }
     requires second { HasPair (item.now ∷ []) q.now }
@@ -157,7 +157,7 @@ fn order_in_one(item: &Item, p: &PairRef<'_>, q: &PairRef<'_>) -> PairOrder
     }
 }
 
-/// How two pairs stand in some items, by whether each of them does: they are looked at only where both do.
+/// How two pairs are ordered in some items, by whether each is in them. The items are looked at only where both are.
 pub(crate) fn order_by_both(
     items: &[Item],
     masks: &[ItemMask],

@@ -1,37 +1,37 @@
-//! How two pairs stand in items, and which of them comes last before the other.
+//! How two pairs are ordered in items, and which of them comes last before the other.
 
 ghost use Rattle.std.specs.Prelude.{◌≡◌};
 ghost use Rattle.window_order.specs.Orders as orders;
 
 use css_model::Item;
 
-/// What the last of some items that has one of two pairs tells of their order.
+/// What the last of some items that has one of two pairs says of their order.
 #[derive(Clone, Copy)]
 pub(crate) enum Found<'a> {
     /// The first pair comes before the second.
     Before,
-    /// The first pair stands in it, and does not.
+    /// The item has the first pair, which does not come before the second.
     NotBefore,
-    /// The second one alone stands in it, and these items lie above.
+    /// The item has the second pair alone; these items are above it.
     Second(&'a [Item]),
     /// No item has one of them.
     Neither,
 }
 
-/// How two pairs stand in some items.
+/// How two pairs are ordered in some items.
 #[derive(Clone, Copy)]
 pub(crate) enum PairOrder {
     /// The last of the first pair comes before the last of the second.
     Before,
-    /// The first pair stands in them, and does not.
+    /// The items have the first pair, which does not come before the second.
     NotBefore,
-    /// The second one alone stands in them.
+    /// The items have the second pair alone.
     Second,
-    /// None of them stands in them.
+    /// The items have neither.
     Neither,
 }
 
-/// How two pairs stand in items in which the second one does not, by whether the first one does.
+/// How two pairs are ordered in items that do not have the second one, by whether they have the first one.
 pub(crate) fn first_alone(stands: bool) -> PairOrder
     ensures { result ≡ orders.first_alone stands }
 {
@@ -42,7 +42,7 @@ pub(crate) fn first_alone(stands: bool) -> PairOrder
     }
 }
 
-/// How two pairs stand in items of which the last that has one has the second alone, by whether the first one stands
+/// How two pairs are ordered in items whose last one with one of them has the second alone, by whether the first one is
 /// above it.
 pub(crate) fn second_below(stands_above: bool) -> PairOrder
     ensures { result ≡ orders.second_below stands_above }

@@ -1,4 +1,4 @@
-//! A pair, by its parts where they stand, with its mask.
+//! A pair, by references to its parts, with its mask.
 
 ghost use Rattle.std.specs.Prelude.{◌≡◌};
 ghost use Rattle.item_masks.specs.Masks as masks;
@@ -7,7 +7,7 @@ use css_model::{Decl, Selector};
 use item_masks::{ItemMask, pair_mask};
 use std::marker::Model;
 
-/// A selector and a declaration, where they stand, with the mask of both, which is made once.
+/// References to a selector and a declaration, with the mask of both. The mask is made once.
 #[derive(Drop)]
 pub struct PairRef<'a> {
     /// The selector.

@@ -1,4 +1,4 @@
-//! Where pairs stand last in a window, which is looked for once.
+//! The last places of pairs in a window. They are looked for once.
 
 ghost use Rattle.std.specs.Prelude.{◌≡◌, ◌↔◌, ◌≤◌, IsTrue, Some, true, map, slice_get};
 ghost use Rattle.css_model.specs.declared.sheet.Item as declared;
@@ -21,14 +21,14 @@ use crate::standing::comes_before_there;
 use crate::window::Window;
 use css_model::Item;
 
-/// Where a pair stands last in what lies between the ends of a window and behind it.
+/// The last place of a pair in what is between the ends of a window, and whether it is after the window.
 #[derive(Clone, Copy)]
 pub enum Standing {
     /// It was not looked for yet.
     Unasked,
-    /// Behind the window.
+    /// It is after the window.
     Behind,
-    /// Not behind it, and last in the item of this number of what lies between, if it stands there.
+    /// It is not after the window. In what is between, it is last in the item of this number, if it is there.
     Last(Option<usize>),
 }
 
@@ -43,7 +43,7 @@ fn item_at(items: &[Item], number: usize) -> &Item
     }
 }
 
-/// Whether a pair comes last before another one in some items, by the numbers of the last items in which they stand.
+/// Whether a pair comes last before another one in some items, by the numbers of the last items that have them.
 fn comes_before_at(
     items: &[Item],
     p: &PairRef<'_>,
@@ -64,7 +64,7 @@ fn comes_before_at(
     comes_before_there(item_at(items, at), p, q)
 }
 
-/// How they stand in them if both do.
+/// How two pairs are ordered in some items that have both, by the numbers of the last items that have them.
 fn order_of_both(
     items: &[Item],
     p: &PairRef<'_>,
@@ -83,7 +83,7 @@ fn order_of_both(
     }
 }
 
-/// How two pairs stand in some items, by the last ones in which they stand.
+/// How two pairs are ordered in some items, by the last items that have them.
 fn order_by_places(
     items: &[Item],
     p: &PairRef<'_>,
@@ -104,14 +104,14 @@ fn order_by_places(
 }
 
 impl<'a> Window<'a> {
-    /// The last item of what lies between in which a pair stands.
+    /// The last item of what is between that has a pair.
     fn last_between(&self, p: &PairRef<'_>) -> Option<usize>
         ensures { places.IsPlace (reversed.middle_of self.now) p.now result }
     {
         last_by_masks(self.between(), self.between_masks(), p)
     }
 
-    /// Where a pair stands.
+    /// Where a pair is in the window.
     fn looked_for(&self, p: &PairRef<'_>) -> Option<Option<usize>>
         ensures { places.IsSeen self.now p.now result }
     {
@@ -122,7 +122,7 @@ impl<'a> Window<'a> {
         }
     }
 
-    /// Where a pair stands, which is looked for if it was not yet.
+    /// Where a pair is in the window. It is looked for if it was not yet.
     fn seen(&self, p: &PairRef<'_>, standing: &mut Standing) -> Option<Option<usize>>
         requires { places.IsStanding self.now p.now standing.old }
         ensures seen { places.IsSeen self.now p.now result }
@@ -142,7 +142,7 @@ impl<'a> Window<'a> {
         }
     }
 
-    /// How two pairs stand in what lies between, by the last items in which they stand.
+    /// How two pairs are ordered in what is between, by the last items that have them.
     fn order_at(
         &self,
         p: &PairRef<'_>,
@@ -157,7 +157,7 @@ impl<'a> Window<'a> {
         order_by_places(self.between(), p, at, q, other)
     }
 
-    /// Whether two pairs that stand so have another order in the window afterwards.
+    /// Whether two pairs with these orders in the parts at the ends have another order in the window afterwards.
     fn has_order_other(
         &self,
         old: PairEnds,
@@ -177,7 +177,7 @@ impl<'a> Window<'a> {
         comes_before(old, between) != comes_before(new, between)
     }
 
-    /// Whether they have, and the second one does not stand behind it.
+    /// Whether two pairs have another order in the window afterwards, and the second one is not after it.
     fn is_reversed_from(
         &self,
         old: PairEnds,
@@ -201,7 +201,7 @@ impl<'a> Window<'a> {
         }
     }
 
-    /// Whether they have, and neither stands behind it.
+    /// Whether two pairs have another order in the window afterwards, and neither is after it.
     fn is_reversed_by(
         &self,
         old: PairEnds,
@@ -225,8 +225,8 @@ impl<'a> Window<'a> {
         }
     }
 
-    /// Whether two pairs have another order in the window afterwards, and neither stands behind it, by what is known of
-    /// where they stand. What is not known and may tell is looked for, and is known afterwards.
+    /// Whether two pairs have another order in the window afterwards, and neither is after it, by what is known of
+    /// their places. What is not known and may decide is looked for, and is known afterwards.
     pub fn is_known_reversed(
         &self,
         p: &PairRef<'_>,
@@ -250,8 +250,8 @@ impl<'a> Window<'a> {
         self.is_reversed_by(old, new, p, &mut of_p.standing, q, &mut of_q.standing)
     }
 
-    /// Whether a pair that stands so and the kept item of this number of the middle part have another order in the
-    /// window afterwards.
+    /// Whether a pair with these places at the ends and the kept item of this number of the middle part have another
+    /// order in the window afterwards.
     fn has_kept_order_other(
         &self,
         old: KeptEnds,
@@ -269,7 +269,8 @@ impl<'a> Window<'a> {
         has_place_other(old, new, self.between(), place, p, at)
     }
 
-    /// Whether they have, and the pair does not stand behind it.
+    /// Whether a pair and a kept item of the middle part have another order in the window afterwards, and the pair is
+    /// not after it.
     fn is_kept_reversed_by(
         &self,
         old: KeptEnds,
@@ -291,9 +292,9 @@ impl<'a> Window<'a> {
         }
     }
 
-    /// Whether a pair and the kept item of this number have another order in the window afterwards, and the pair does
-    /// not stand behind it, by what is known of where it stands. What is not known and may tell is looked for, and is
-    /// known afterwards.
+    /// Whether a pair and the kept item of this number have another order in the window afterwards, and the pair is not
+    /// after it, by what is known of its place. What is not known and may decide is looked for, and is known
+    /// afterwards.
     pub fn is_known_kept_reversed(
         &self,
         p: &PairRef<'_>,

@@ -20,28 +20,28 @@ use css_model::Item;
 use item_masks::ItemMask;
 
 impl<'a> Window<'a> {
-    /// The first item, if there is one.
+    /// The first item of the window, if there is one.
     pub(crate) fn first(&self) -> &'a [Item]
         ensures { result.now ≡ reversed.first_of self.now }
     {
         &self.items[self.start..self.middle]
     }
 
-    /// What lies between.
+    /// The items between the first and the last item of the window.
     pub(crate) fn between(&self) -> &'a [Item]
         ensures { result.now ≡ reversed.middle_of self.now }
     {
         &self.items[self.middle..self.last]
     }
 
-    /// The last item.
+    /// The last item of the window.
     pub(crate) fn last(&self) -> &'a [Item]
         ensures { result.now ≡ reversed.last_of self.now }
     {
         &self.items[self.last..self.last + 1]
     }
 
-    /// What lies behind.
+    /// The items after the window.
     fn behind(&self) -> &'a [Item]
         ensures { result.now ≡ reversed.behind_of self.now }
     {
@@ -62,35 +62,35 @@ impl<'a> Window<'a> {
         &self.masks[self.last..self.last + 1]
     }
 
-    /// The masks of what lies between.
+    /// The masks of the items between.
     pub(crate) fn between_masks(&self) -> &'a [ItemMask]
         ensures { result.now ≡ map item_mask (reversed.middle_of self.now) }
     {
         &self.masks[self.middle..self.last]
     }
 
-    /// The masks of what lies behind.
+    /// The masks of the items after the window.
     fn behind_masks(&self) -> &'a [ItemMask]
         ensures { result.now ≡ map item_mask (reversed.behind_of self.now) }
     {
         &self.masks[self.last + 1..]
     }
 
-    /// Whether a pair stands behind.
+    /// Whether a pair is after the window.
     pub(crate) fn stands_behind(&self, p: &PairRef<'_>) -> bool
         ensures { IsTrue result ↔ HasPair (reversed.behind_of self.now) p.now }
     {
         stands_by_masks(self.behind(), self.behind_masks(), p)
     }
 
-    /// How two pairs stand in what lies between.
+    /// How two pairs are ordered in the items between.
     fn order_between(&self, p: &PairRef<'_>, q: &PairRef<'_>) -> PairOrder
         ensures { orders.IsOrder (reversed.middle_of self.now) p.now q.now result }
     {
         order_by_masks(self.between(), self.between_masks(), p, q)
     }
 
-    /// Whether two pairs that stand so in the parts at the ends have another order in the window afterwards.
+    /// Whether two pairs with these orders in the parts at the ends have another order in the window afterwards.
     fn has_other_order(
         &self,
         old: PairEnds,
@@ -106,7 +106,8 @@ impl<'a> Window<'a> {
         comes_before(old, between) != comes_before(new, between)
     }
 
-    /// Whether they have, and neither stands behind it.
+    /// Whether two pairs have another order in the window afterwards, and neither is after it, by their orders in the
+    /// parts at the ends.
     fn is_reversed_between(
         &self,
         old: PairEnds,
@@ -127,8 +128,8 @@ impl<'a> Window<'a> {
         !self.stands_behind(q)
     }
 
-    /// Whether two pairs have another order in the window afterwards, and neither stands behind it. What lies between
-    /// and behind is looked at only where it may tell.
+    /// Whether two pairs have another order in the window afterwards, and neither is after it. The items between and
+    /// after are looked at only where they may decide.
     pub fn is_reversed(&self, p: &PairRef<'_>, q: &PairRef<'_>) -> bool
         ensures { IsTrue result ↔ reversed.IsReversed self.now p.now q.now }
     {
@@ -142,7 +143,7 @@ impl<'a> Window<'a> {
         self.is_reversed_between(old, new, p, q)
     }
 
-    /// The number among the items of the middle part of the kept item of this number.
+    /// The number of a kept item among the items of the middle part.
     pub(crate) fn place_between(&self, number: usize) -> usize
         requires above { self.now.start ≤ number }
         requires below { number ≤ self.now.last }
@@ -153,8 +154,8 @@ impl<'a> Window<'a> {
         number - self.middle
     }
 
-    /// Whether a pair that stands so in the parts at the ends and the kept item of this number of the middle part have
-    /// another order in the window afterwards.
+    /// Whether a pair with these places in the parts at the ends and the kept item of this number of the middle part
+    /// have another order in the window afterwards.
     fn has_other_kept_order(
         &self,
         old: KeptEnds,
@@ -170,7 +171,8 @@ impl<'a> Window<'a> {
         has_other_place(old, new, self.between(), self.between_masks(), place, p)
     }
 
-    /// Whether they have, and the pair does not stand behind it.
+    /// Whether a pair and a kept item of the middle part have another order in the window afterwards, and the pair is
+    /// not after it, by its places in the parts at the ends.
     fn is_kept_reversed_between(
         &self,
         old: KeptEnds,
@@ -189,8 +191,8 @@ impl<'a> Window<'a> {
         !self.stands_behind(p)
     }
 
-    /// Whether a pair and the kept item of this number have another order in the window afterwards, and the pair does
-    /// not stand behind it. What lies between and behind is looked at only where it may tell.
+    /// Whether a pair and the kept item of this number have another order in the window afterwards, and the pair is not
+    /// after it. The items between and after are looked at only where they may decide.
     pub fn is_kept_reversed(&self, p: &PairRef<'_>, number: usize) -> bool
         requires above { self.now.start ≤ number }
         requires below { number ≤ self.now.last }

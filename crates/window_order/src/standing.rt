@@ -1,4 +1,4 @@
-//! Whether a pair stands in items.
+//! Whether a pair is in items.
 
 ghost use Rattle.std.specs.Prelude.{◌≡◌, ◌↔◌, IsTrue, ◌∷◌, []};
 ghost use Rattle.css_model.specs.Cascade.Order.{HasPair, IsBefore};
@@ -9,7 +9,7 @@ use crate::pair::PairRef;
 use css_model::{Decl, DeclItem, Item, Rule};
 use step_savings::{has_decl, has_selector, is_same_decl};
 
-/// Whether a pair stands in a rule. The shorter list is looked through first.
+/// Whether a pair is in a rule. The shorter list is looked through first.
 fn is_in_rule(rule: &Rule, p: &PairRef<'_>) -> bool
     ensures { result ≡ standing.is_in_rule rule.now p.now }
 {
@@ -20,7 +20,7 @@ fn is_in_rule(rule: &Rule, p: &PairRef<'_>) -> bool
     }
 }
 
-/// Whether a pair stands in an item.
+/// Whether a pair is in an item.
 pub(crate) fn is_in_item(item: &Item, p: &PairRef<'_>) -> bool
     ensures { result ≡ standing.is_in_item p.now item.now }
 {
@@ -30,7 +30,7 @@ pub(crate) fn is_in_item(item: &Item, p: &PairRef<'_>) -> bool
     }
 }
 
-/// Whether the last of a declaration stands before the last of another one.
+/// Whether the last of a declaration is before the last of another one.
 pub(crate) fn decl_before(decls: &[DeclItem], first: &Decl, second: &Decl) -> bool
     ensures { result ≡ standing.decl_before decls.now first.now second.now }
 {
@@ -44,14 +44,14 @@ pub(crate) fn decl_before(decls: &[DeclItem], first: &Decl, second: &Decl) -> bo
     false
 }
 
-/// Whether in a rule the last of the first pair's declaration stands before the last of the second's.
+/// Whether in a rule the last of the first pair's declaration is before the last of the second's.
 fn decls_before(rule: &Rule, p: &PairRef<'_>, q: &PairRef<'_>) -> bool
     ensures { result ≡ standing.decl_before rule.now.decls p.now.decl q.now.decl }
 {
     decl_before(&rule.decls, p.decl, q.decl)
 }
 
-/// Whether of two pairs that stand in an item the last of the first stands before the last of the second.
+/// Whether the last of the first of two pairs is before the last of the second in an item that has both.
 pub(crate) fn comes_before_there(item: &Item, p: &PairRef<'_>, q: &PairRef<'_>) -> bool
     requires first { HasPair (item.now ∷ []) p.now }
     requires second { HasPair (item.now ∷ []) q.now }
@@ -63,7 +63,8 @@ pub(crate) fn comes_before_there(item: &Item, p: &PairRef<'_>, q: &PairRef<'_>) 
     }
 }
 
-/// Whether it does, by whether the second pair stands in the item.
+/// Whether the last of the first of two pairs is before the last of the second in an item, by whether the item has the
+/// second.
 pub(crate) fn comes_before_if(item: &Item, p: &PairRef<'_>, q: &PairRef<'_>, second: bool) -> bool
     requires first { HasPair (item.now ∷ []) p.now }
     requires second { IsTrue second ↔ HasPair (item.now ∷ []) q.now }

@@ -43,7 +43,7 @@ fn weighs_one(decl: &Decl, kept: &Decl) -> bool
     related(&decl.name, &kept.name) && decl.important == kept.important
 }
 
-/// Whether one of some declarations of a kept rule does.
+/// Whether one of some declarations of a kept rule weighs with the pairs of a declaration.
 fn weighs_some(decl: &Decl, kept: &[Decl]) -> bool
     ensures { result ≡ list_any (λ d. related decl.now.name d.name && beq decl.now.important d.important) kept.now }
 {

@@ -10,9 +10,9 @@ use crate::left::Left;
 use css_model::Item;
 use item_masks::ItemMask;
 
-/// The items of a sheet from the first to the last one that a step changes, in three parts: the first item, if there
-/// is one, what lies between, and the last item; and what stands in the places of the first and the last item
-/// afterwards. The numbers are those of items.
+/// The part of a sheet that a step changes, from its first to its last item. It has three parts: the first item, if
+/// there is one, the items between, and the last item. It also has what takes the places of the first and the last item
+/// afterwards. The numbers are those of items, from 0.
 #[derive(Clone, Copy)]
 pub struct Window<'a> {
     /// The items of the sheet.
@@ -25,11 +25,11 @@ pub struct Window<'a> {
     pub middle: usize,
     /// The last item.
     pub last: usize,
-    /// What stands in the place of the first item.
+    /// What takes the place of the first item.
     pub first_left: Left<'a>,
-    /// What stands in the place of the last item.
+    /// What takes the place of the last item.
     pub last_left: Left<'a>,
-    /// A mask that meets those of all pairs in what stands there.
+    /// A mask that meets those of all pairs in what takes these places.
     pub left_mask: ItemMask,
     ghost masked: { masks.now ≡ map item_mask items.now },
     ghost start_first: { start ≤ middle },
