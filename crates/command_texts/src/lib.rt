@@ -1,4 +1,4 @@
-//! What is told of the words of a command line: help, the version, and why words are refused.
+//! Texts on the words of a command line: help, the version, and why words are refused.
 #![tactic(auto)]
 
 mod commands;

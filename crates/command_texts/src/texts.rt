@@ -13,8 +13,8 @@ use std::alloc::{AllocError, Global};
 /// The version of the program.
 pub const VERSION: &str = "1.0.0";
 
-/// What `clap` has to tell of words, if anything: why it refuses them, or the help or the version that they ask
-/// for. The first word is the name of the program.
+/// What `clap` has to say of words, if anything: why it refuses them, or the help or the version that they ask for. The
+/// first word is the name of the program.
 fn told<'a>(alloc: Global, words: &'a [&'a str]) -> Result<Option<Error>, AllocError> {
     match program(alloc, VERSION)?.try_get_matches_from(words) {
         Ok(_) => Ok(None),
@@ -25,7 +25,7 @@ fn told<'a>(alloc: Global, words: &'a [&'a str]) -> Result<Option<Error>, AllocE
     }
 }
 
-/// The text of what is told, or the line of usage.
+/// The text of what `clap` says, or the line of usage.
 fn text_of(alloc: Global, told: Option<Error>) -> Result<Vec<u8>, AllocError>
     ensures { IfOk result (λ text. EndsLine text.items) }
 {
@@ -47,7 +47,8 @@ fn is_refusal(error: &Error) -> bool {
     }
 }
 
-/// How the program, or a command of it, is used. It ends with the end of a line; what it says is tested.
+/// How the program, or a command of it, is used, as bytes. The text ends with the end of a line; what it says is
+/// tested. `AllocError` where memory runs out.
 pub fn help_text(alloc: Global, about: Topic) -> Result<Vec<u8>, AllocError>
     ensures { IfOk result (λ text. EndsLine text.items) }
 {
@@ -65,7 +66,7 @@ pub fn help_text(alloc: Global, about: Topic) -> Result<Vec<u8>, AllocError>
     text_of(alloc, told(alloc, words)?)
 }
 
-/// The name of the program and its version, on a line.
+/// The name of the program and its version, as a line of bytes. `AllocError` where memory runs out.
 pub fn version_text(alloc: Global) -> Result<Vec<u8>, AllocError>
     ensures { IfOk result (λ text. text.items ≡ version_text) }
 {
@@ -75,8 +76,9 @@ pub fn version_text(alloc: Global) -> Result<Vec<u8>, AllocError>
     Ok(text)
 }
 
-/// Why words are refused, in `clap`'s text; where it has none, a line that tells the form of all words. The words
-/// are those after the program's name. It ends with the end of a line; what it says is tested.
+/// Why words are refused, as bytes: `clap`'s text; where it has none, a line with the form of all words. The words are
+/// those after the program's name. The text ends with the end of a line; what it says is tested. `AllocError` where
+/// memory runs out.
 pub fn refusal_text(alloc: Global, words: &Vec<String>) -> Result<Vec<u8>, AllocError>
     ensures { IfOk result (λ text. EndsLine text.items) }
 {

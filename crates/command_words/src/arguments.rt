@@ -1,4 +1,4 @@
-//! What stands behind the name of a command: operands and options.
+//! What follows the name of a command: operands and options.
 
 ghost use Rattle.std.specs.Prelude.{◌≡◌, Some, map, string_bytes};
 ghost use Rattle.command_words.specs.Forms as forms;
@@ -34,7 +34,7 @@ fn is_operand(word: &str) -> bool
     }
 }
 
-/// The same with one operand more, of at most two.
+/// Arguments with one operand more, of at most two.
 fn with_operand<'a>(word: &'a str, before: Arguments<'a>) -> Option<Arguments<'a>>
     ensures { arguments_if_some result ≡ forms.with_operand word.now (arguments_if_some (Some before.entry)) }
 {
@@ -46,7 +46,7 @@ fn with_operand<'a>(word: &'a str, before: Arguments<'a>) -> Option<Arguments<'a
     Some(Arguments { operands, ..before })
 }
 
-/// The same with a budget that is written so, where none is named before.
+/// Arguments with the budget of this word, where none is named before.
 fn with_budget<'a>(number: &str, before: Arguments<'a>) -> Option<Arguments<'a>>
     ensures { arguments_if_some result
         ≡ forms.with_budget (forms.number_up_to forms.most_budget number.now) (arguments_if_some (Some before.entry)) }
@@ -60,7 +60,7 @@ fn with_budget<'a>(number: &str, before: Arguments<'a>) -> Option<Arguments<'a>>
     }
 }
 
-/// The same with a log, where none is asked for before.
+/// Arguments with a log, where none is asked for before.
 fn with_log<'a>(before: Arguments<'a>) -> Option<Arguments<'a>>
     ensures { arguments_if_some result ≡ forms.with_log (arguments_if_some (Some before.entry)) }
 {
@@ -74,7 +74,7 @@ fn with_log<'a>(before: Arguments<'a>) -> Option<Arguments<'a>>
     }
 }
 
-/// The same with a report, where none is asked for before.
+/// Arguments with a report, where none is asked for before.
 fn with_report<'a>(before: Arguments<'a>) -> Option<Arguments<'a>>
     ensures { arguments_if_some result ≡ forms.with_report (arguments_if_some (Some before.entry)) }
 {
@@ -88,7 +88,7 @@ fn with_report<'a>(before: Arguments<'a>) -> Option<Arguments<'a>>
     }
 }
 
-/// The same with one word that is not `--log` or `--report` more.
+/// Arguments with one more word that is neither `--log` nor `--report`.
 fn with_other_word<'a>(word: &'a str, before: Arguments<'a>) -> Option<Arguments<'a>>
     ensures { arguments_if_some result ≡ forms.with_other_word word.now (arguments_if_some (Some before.entry)) }
 {
@@ -104,7 +104,7 @@ fn with_other_word<'a>(word: &'a str, before: Arguments<'a>) -> Option<Arguments
     }
 }
 
-/// The same with one word more.
+/// Arguments with one word more.
 fn with_word<'a>(word: &'a str, before: Arguments<'a>) -> Option<Arguments<'a>>
     ensures { arguments_if_some result ≡ forms.with_word word.now (arguments_if_some (Some before.entry)) }
 {
@@ -117,7 +117,7 @@ fn with_word<'a>(word: &'a str, before: Arguments<'a>) -> Option<Arguments<'a>>
     }
 }
 
-/// The same with more words, read from the left, as long as each of them fits.
+/// Arguments with more words, read from the left, as long as each of them fits.
 fn with_words<'a>(before: Arguments<'a>, words: &'a [String]) -> Option<Arguments<'a>>
     ensures { arguments_if_some result
         ≡ forms.with_words (arguments_if_some (Some before.entry)) (map string_bytes words.now) }
@@ -141,7 +141,7 @@ fn with_words<'a>(before: Arguments<'a>, words: &'a [String]) -> Option<Argument
     }
 }
 
-/// What words behind the name of a command are, if they may stand there.
+/// The arguments in the words after the name of a command, if they may be there.
 pub(crate) fn arguments_of<'a>(words: &'a [String]) -> Option<Arguments<'a>>
     ensures { arguments_if_some result ≡ forms.arguments_of (map string_bytes words.now) }
 {

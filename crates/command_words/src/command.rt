@@ -17,7 +17,7 @@ pub struct RuleCount {
 }
 
 impl RuleCount {
-    /// The number.
+    /// The number of rules, at most `MOST_RULES`.
     pub fn number(&self) -> u32
         ensures is { result ≡ self.now.number }
         ensures few { result ≤ most_rules }
@@ -56,15 +56,15 @@ pub enum Command<'a> {
     Min {
         /// How many clauses may be learned for a pair, where the words say it: at most `MOST_BUDGET`.
         budget: Option<u32>,
-        /// Whether a report is to be told.
+        /// Whether a report is to be written.
         report: bool,
     },
-    /// Tell which selectors of a style sheet match nothing.
+    /// List which selectors of a style sheet match nothing in any legal document.
     Dead {
         /// How many clauses may be learned for a pair, where the words say it: at most `MOST_BUDGET`.
         budget: Option<u32>,
     },
-    /// Tell which declarations win in a document.
+    /// List which declarations win in a document.
     Style,
     /// Compare two selectors.
     Cmp {
@@ -74,12 +74,12 @@ pub enum Command<'a> {
         right: &'a str,
         /// How many clauses may be learned for a pair, where the words say it: at most `MOST_BUDGET`.
         budget: Option<u32>,
-        /// Whether a log is to stand in the place of `disjoint`.
+        /// Whether a log is to take the place of `disjoint`.
         log: bool,
     },
     /// Check a log that refutes a formula.
     Check,
-    /// Tell why a rule of a style sheet may not be moved to another one. Both count from 1 among the items.
+    /// Explain why a rule of a style sheet may not be moved to another one. Both count from 1 among the items.
     Why {
         /// The number of the one that is moved.
         from: u32,
@@ -88,20 +88,20 @@ pub enum Command<'a> {
         /// How many clauses may be learned for a pair, where the words say it: at most `MOST_BUDGET`.
         budget: Option<u32>,
     },
-    /// Compare two style sheets, the first of which has the first bytes of the input.
+    /// Compare two style sheets. The first has the first bytes of the input.
     Same {
         /// How many bytes the first sheet has.
         split: u32,
         /// How many clauses may be learned for a pair, where the words say it: at most `MOST_BUDGET`.
         budget: Option<u32>,
     },
-    /// Make a sheet and merge it, and tell what came of it.
+    /// Make a sheet and merge it, and report the outcome.
     Trial {
         /// How many rules the sheet is to have.
         rules: RuleCount,
     },
-    /// Tell how the program, or a command of it, is used.
+    /// Explain how the program, or a command of it, is used.
     Help(Topic),
-    /// Tell the version.
+    /// Print the version.
     Version,
 }

@@ -15,7 +15,7 @@ fn is_help(word: &str) -> bool
     word == "--help" || word == "-h"
 }
 
-/// Whether the words behind a command ask how it is used.
+/// Whether the words after a command ask how it is used.
 fn asks_help(words: &[String]) -> bool
     ensures { result ≡ forms.asks_help (map string_bytes words.now) }
 {
@@ -115,7 +115,7 @@ fn command_named(name: &str) -> Option<Topic>
     }
 }
 
-/// What a word that is no command asks for, where it stands alone.
+/// What a word that is no command asks for, where it is alone.
 fn alone<'a>(word: &'a str, words: &'a [String]) -> Option<Command<'a>>
     ensures { form_if_some result ≡ forms.alone word.now (map string_bytes words.now) }
 {
@@ -133,7 +133,7 @@ fn alone<'a>(word: &'a str, words: &'a [String]) -> Option<Command<'a>>
     }
 }
 
-/// What a name and the words behind it ask for.
+/// What a name and the words after it ask for.
 fn named<'a>(name: &'a str, words: &'a [String]) -> Option<Command<'a>>
     ensures { form_if_some result
         ≡ forms.named (forms.command_named name.now) name.now (map string_bytes words.now) }
@@ -150,7 +150,7 @@ fn named<'a>(name: &'a str, words: &'a [String]) -> Option<Command<'a>>
     }
 }
 
-/// The command that the words after the program's name are, if they are one. Takes no memory.
+/// The command that the words after the program's name are, if they are one.
 pub fn command_of<'a>(words: &'a Vec<String>) -> Option<Command<'a>>
     ensures { form_if_some result ≡ forms.form_of (map string_bytes words.now.items) }
 {

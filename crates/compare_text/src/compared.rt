@@ -12,7 +12,7 @@ use overlap::Pairs;
 use sel_parse::SelError;
 use std::alloc::{AllocError, Global};
 
-/// The lines of the answer for two selectors, which is asked for.
+/// The lines of the answer for two selectors. The answer is asked for.
 fn print_asked(
     alloc: Global,
     pairs: &mut Pairs,
@@ -28,14 +28,19 @@ fn print_asked(
     print_held(alloc, pairs, x, y)
 }
 
-/// Compares two texts as selectors (Selectors 3), and prints the answer: `disjoint` where no element of a
-/// legal document can match both; `overlap` and a legal document in which the marked element matches both;
-/// `outside R` where they are not compared, with the number of the reason; `spent` where the budget of the
-/// pairs was spent first. Each line ends with a line feed.
+/// The answer for two texts that are compared as selectors, as lines of bytes (Selectors 3). Each line ends with a line
+/// feed. The texts are any bytes.
 ///
-/// The texts are any bytes. The reason is that of the left text where it is no selector of the profile, else
-/// that of the right one, else that of the pair. The answer is asked of `pairs`, where it stands afterwards;
-/// all that was held there stays, also after `AllocError`.
+/// | text | when |
+/// |---|---|
+/// | `disjoint` | no legal document has a target that both match |
+/// | `overlap` and a document | both match its marked element |
+/// | `outside R` | they are not compared; R is the number of the reason |
+/// | `spent` | the budget of the pairs was spent first |
+///
+/// The reason is that of the left text where it is no selector of the profile, else that of the right one, else that of
+/// the pair. The answer is asked of `pairs`, which holds it afterwards. All that was held there stays. `AllocError`
+/// where memory runs out; it stays then too.
 #[tactic(auto, using(crate::proofs::Asked::asks_nothing))]
 pub fn compare_texts(
     alloc: Global,

@@ -1,4 +1,4 @@
-//! What follows of the printed text, as functions that do nothing.
+//! What follows from the printed text, as functions that do nothing.
 
 ghost use Rattle.compare_text.specs.Laws.{DisjointSelectorsDoNotMeet, LogsPass, OverlapShowsMeeting, PassedLogsShowApartness};
 
@@ -7,21 +7,21 @@ use overlap::apart_selectors_do_not_meet;
 use pair_laws::{meeting_satisfies_the_formula, profile_keeps_the_limits};
 use rup_check::ledgers_are_logs;
 
-/// Two selectors of which `disjoint` is printed do not meet: no legal document has a target that both match.
+/// Two selectors for which `disjoint` is printed do not meet: no legal document has a target that both match.
 pub fn disjoint_selectors_do_not_meet()
     ensures { DisjointSelectorsDoNotMeet }
 {
     apart_selectors_do_not_meet();
 }
 
-/// Behind `overlap` stands the text of an example, which shows that the two selectors meet: its document is
-/// legal, and both match the marked element.
+/// After `overlap` comes the text of an example, which shows that the two selectors meet: its document is legal, and
+/// both match the marked element.
 pub fn overlap_shows_meeting()
     ensures { OverlapShowsMeeting }
 {}
 
-/// Of a log that stands in the place of an answer, within the limit of bytes, `check_text` of `log_text` gives `yes`,
-/// and nothing else: only want of memory may come in its place.
+/// A log in the place of an answer, within the limit of bytes, passes: `check_text` of `log_text` gives `yes`, unless
+/// memory runs out.
 pub fn logs_pass()
     ensures { LogsPass }
 {
@@ -29,7 +29,7 @@ pub fn logs_pass()
     refuting_logs_pass();
 }
 
-/// Where `check_text` gives `yes` of a log of the formula of two selectors, whoever wrote it, the two do not meet.
+/// Two selectors do not meet where `check_text` gives `yes` for a log of their formula, whoever wrote it.
 pub fn passed_logs_show_apartness()
     ensures { PassedLogsShowApartness }
 {

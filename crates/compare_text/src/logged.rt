@@ -34,7 +34,7 @@ fn print_refutation(
     Ok(text)
 }
 
-/// The lines of the answer that is held for two selectors, or the log that stands in its place.
+/// The lines of the answer that is held for two selectors, or the log in its place.
 #[tactic(auto, using(crate::proofs::HeldLogs::held_with_log, crate::proofs::HeldLogs::log_is_small, crate::proofs::HeldLogs::log_is_ledger, crate::proofs::HeldLogs::text_with_log, crate::proofs::HeldLogs::text_without_log))]
 fn print_held_with_log(
     alloc: Global,
@@ -53,7 +53,7 @@ fn print_held_with_log(
     }
 }
 
-/// The lines of the answer for two selectors, or its log, which is asked for.
+/// The lines of the answer for two selectors, or its log. The answer is asked for.
 #[tactic(auto, using(crate::proofs::HeldLogs::none_known))]
 fn print_asked_with_log(
     alloc: Global,
@@ -71,10 +71,10 @@ fn print_asked_with_log(
     print_held_with_log(alloc, pairs, x, y, &log)
 }
 
-/// Compares two texts as selectors as [`compare_texts`](crate::compare_texts) does, over pairs that hold no answer
-/// yet. Where the selectors do not meet, both have the same pseudo-element or none, and one has a combinator, the
-/// text of a log stands in the place of `disjoint`: the formula of the two and clauses that refute it, which
-/// `read_log` of `rup_check` reads and `check_log` follows.
+/// The answer for two texts as [`compare_texts`](crate::compare_texts) gives it, or a log that shows it, over pairs
+/// that hold no answer yet. A log takes the place of `disjoint` where both selectors have the same pseudo-element or
+/// none, and one has a combinator. It is the formula of the two and clauses that refute it, which `read_log` of
+/// `rup_check` reads and `check_log` follows. `AllocError` where memory runs out.
 #[tactic(auto, using(crate::proofs::Asked::asks_nothing))]
 pub fn compare_texts_with_log(
     alloc: Global,

@@ -1,4 +1,5 @@
-//! `cssmin`: a style sheet in fewer bytes, with the same meaning. All that it does is a call of the library `cssmin_run`.
+//! `cssmin`: a style sheet in no more bytes, with the same winners in every legal document. All that it does is a call
+//! of the library `cssmin_run`.
 #![tactic(auto)]
 
 use css_io::{StdSink, StdSource};

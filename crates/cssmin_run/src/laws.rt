@@ -2,7 +2,7 @@
 
 ghost use Rattle.cssmin_run.specs.Laws as laws;
 
-/// Exactly words without a form are refused, and what other words ask for was done.
+/// Exactly words without a form are refused, and what other words ask for is done.
 pub fn words_decide_usage()
     ensures usage { laws.OtherWordsAreUsage }
     ensures min { laws.MinDoesItsWord }
@@ -26,7 +26,7 @@ pub fn each_status_has_its_cause()
     ensures told { laws.StatusIsTold }
 {}
 
-/// Which status comes, but for want of memory, where no stream failed.
+/// Which status comes where no stream failed, unless memory runs out.
 pub fn each_sheet_has_its_status()
     ensures refuses { laws.FaultIsRefused }
     ensures complete { laws.FaultlessIsDone }
@@ -38,7 +38,7 @@ pub fn each_sheet_has_its_status()
     ensures others { laws.OthersAreDone }
 {}
 
-/// Over streams whose counts of faults stay, no fault of reading or writing is answered.
+/// Over streams whose counts of faults stay the same, no fault of reading or writing is answered.
 pub fn constant_counts_answer_no_fault()
     ensures no_read_fault { laws.ConstantCountHasNoReadFault }
     ensures no_write_fault { laws.ConstantCountHasNoWriteFault }

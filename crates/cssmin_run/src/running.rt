@@ -24,7 +24,7 @@ use css_io::{Sink, Source};
 use overlap::Pairs;
 use std::alloc::{AllocError, Global};
 
-/// What a run does, by the command that the words are. Nothing is `held` before.
+/// What a run does, by the command of the words. Nothing is `held` before.
 fn obey<S: Source, O: Sink, E: Sink>(
     alloc: Global,
     words: &Vec<String>,
@@ -88,33 +88,42 @@ fn obey<S: Source, O: Sink, E: Sink>(
     }
 }
 
-/// Runs the program on the words after its name.
+/// Runs the program on the words after its name, and answers its status.
 ///
-/// - `min` reads a style sheet from `input` to its end, and writes it to `out` with the same winners of the cascade in
-///   every legal document, in no more bytes; its report is told on `err`, where it is asked for, behind the text.
-/// - `cmp LEFT RIGHT` compares two selectors, and writes to `out` whether one element of a legal
-///   document can match both.
+/// - `min` reads a style sheet from `input` to its end, and writes it to `out`, in no more bytes and with the same
+///   winners of the cascade in every legal document. Its report is written to `err`, where it is asked for, after the
+///   text.
+/// - `cmp LEFT RIGHT` compares two selectors, and writes to `out` whether one element of a legal document can match
+///   both.
 /// - `dead` reads a sheet, and writes to `out` which of its selectors match nothing in any legal document.
 /// - `style` reads a document and a sheet, and writes to `out` which declarations win.
-/// - `why FROM TO` reads a sheet, and writes to `out` what hinders the move of one rule to another. `NoItem` comes
-///   exactly where there is no item of one of these numbers.
-/// - `same N` reads two sheets, the first one of N bytes, and writes to `out` what is found in them. `NoSplit` comes
-///   exactly where there are fewer bytes, and `SecondRefused` where the second sheet has a fault.
+/// - `why FROM TO` reads a sheet, and writes to `out` what hinders the move of one rule to another.
+/// - `same N` reads two sheets, the first one of N bytes, and writes to `out` what is found in them.
 /// - `check` reads a log, and writes to `out` whether it refutes its formula.
-/// - `trial N` merges a made sheet of N rules, and writes to `out` what came of it.
+/// - `trial N` merges a made sheet of N rules, and writes to `out` how many items and bytes it had and has, and how
+///   many steps were taken.
+/// - Words that ask for help or the version have it written to `out`.
 ///
-/// Words that ask for help or the version have it written to `out`. What else happened is told on `err`.
+/// What else happened is written to `err`.
 ///
-/// `Usage` comes exactly of words that have no form. A sheet with a fault is refused (`SheetRefused`), and so is one of
-/// more than 1,048,576 bytes, after one byte more, or two of more than 2,097,152; so is a document (`DocRefused`), and a
-/// log (`LogRefused`), whose bound is 134,217,728 bytes. `ReadFault` comes only where a read failed, `WriteFault` only
-/// where a write failed, each by a count that rose or has its last value, and after the latter a front of the text stands on `out`. No clause tells when memory is short: it
-/// may be at any point before the first byte is written, and a body that always answered so for words that have a form
-/// would meet them all. Tests stand against that. What follows for each status is told by the laws.
+/// - `Usage` comes exactly where the words have no form.
+/// - `SheetRefused` comes where a sheet has a fault, or has more than 1,048,576 bytes, of which one more is read; for
+///   `same` the limit is 2,097,152 bytes for both.
+/// - `SecondRefused` comes where the second sheet has a fault.
+/// - `DocRefused` comes where a document has a fault.
+/// - `LogRefused` comes where a log has a fault, or has more than 134,217,728 bytes.
+/// - `NoItem` comes exactly where the sheet has no item of one of the numbers of `why`.
+/// - `NoSplit` comes exactly where there are fewer bytes than the number of `same`.
+/// - `ReadFault` comes only where a read failed: the count of faults rose, or has its last value.
+/// - `WriteFault` comes only where a write failed: a count of faults rose, or has its last value. A front of the text is
+///   then on `out`.
+/// - `NoMemory` comes where memory is short, before the first byte is written.
 ///
-/// `held` is a place for the answers for pairs of selectors. What it holds is dropped. Afterwards it holds those
-/// that the run asked for, with its budget, where it asked and the status is `Done` or `WriteFault`, and else
-/// none.
+/// No clause says when memory is short. A body that always answered `NoMemory` for words with a form would meet all
+/// clauses; tests exclude it. The laws say what follows for each status.
+///
+/// `held` is a place for the answers for pairs of selectors. What it holds is dropped. Afterwards it holds the answers
+/// that the run asked for, with its budget, where it asked and the status is `Done` or `WriteFault`; otherwise none.
 #[tactic(auto, using(crate::proofs::Forms::answered))]
 pub fn run<S: Source, O: Sink, E: Sink>(
     alloc: Global,
@@ -149,7 +158,8 @@ pub fn run<S: Source, O: Sink, E: Sink>(
     obey(alloc, words, command_of(words), input, out, err, held)
 }
 
-/// Runs the program on its words, where there was room for them; else it tells that there was none.
+/// Runs the program on its words, where there was room for them. Otherwise it writes to `err` that there was none, and
+/// answers `NoMemory`.
 pub fn run_words<S: Source, O: Sink, E: Sink>(
     alloc: Global,
     words: Result<Vec<String>, AllocError>,

@@ -14,7 +14,7 @@ use style_text::DocFault;
 pub enum LogFault {
     /// It has more than 134,217,728 bytes.
     TooLong,
-    /// The line of this number, from 1, is the first that is not of a log.
+    /// The first line, from 1, that no log has.
     BadLine(u64),
 }
 
@@ -39,7 +39,7 @@ pub enum Status {
     DocRefused(DocFault),
     /// The log has a fault.
     LogRefused(LogFault),
-    /// The input has fewer bytes than this, which the first sheet was to have.
+    /// The input has fewer bytes than this number, which the first sheet was to have.
     NoSplit(u32),
     /// The second sheet has a fault.
     SecondRefused(SheetFault),

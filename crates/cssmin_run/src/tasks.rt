@@ -19,7 +19,7 @@ use std::alloc::Global;
 pub(crate) struct Answer {
     /// The text that is to be written.
     pub(crate) text: Vec<u8>,
-    /// The report that is to be told on standard error, which may be empty.
+    /// The report for standard error, which may be empty.
     pub(crate) report: Vec<u8>,
     /// The answers for pairs of selectors that were asked for, if the command asks for any.
     pub(crate) held: Option<Pairs>,
@@ -47,7 +47,7 @@ pub(crate) trait Task {
         ensures cause { (read : List ℕ) → most self.now < length read
             → refuses self.now result read };
 
-    /// What is made of an input, or the status that tells why it is refused, or that memory was short.
+    /// What is made of an input; otherwise the status, that it is refused or that memory was short.
     fn answer(&self, alloc: Global, bytes: &[u8]) -> Result<Answer, Status>
         ensures { IsAnswered (makes self.now) (refuses self.now) bytes.now result };
 }
@@ -70,9 +70,9 @@ fn read_answer<T: Task, S: Source>(alloc: Global, task: &T, input: &mut S) -> Re
     task.answer(alloc, bytes.as_slice())
 }
 
-/// Reads `input` to its end, writes to `out` what the command makes of it, and tells on `err` its report, or why it is
-/// refused. Nothing is written before the whole text and the report are made. The answers that were asked for are `held`
-/// afterwards, and none where nothing was written. The status is never `Usage`.
+/// Reads `input` to its end, writes to `out` what the command makes of it, and to `err` its report, or why it is
+/// refused. Nothing is written before the whole text and the report are made. `held` is afterwards the answers that
+/// were asked for, and none where nothing was written. The status is never `Usage`.
 pub(crate) fn perform<T: Task, S: Source, O: Sink, E: Sink>(
     alloc: Global,
     words: &Vec<String>,

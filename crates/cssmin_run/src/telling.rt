@@ -1,4 +1,4 @@
-//! What a run tells on standard error.
+//! What a run writes to standard error.
 
 ghost use Rattle.std.specs.Prelude.{◌≡◌, ◌⊎◌, ◌≤◌, ℕ, List, IfOk, string_bytes};
 ghost use Rattle.cssmin_run.specs.Change.{change_of};
@@ -43,7 +43,7 @@ fn item_refusal(alloc: Global, number: u32) -> Result<String, AllocError>
     format!(in alloc; "no item {number}\n")
 }
 
-/// The line that names the number of bytes that the input has not.
+/// The line that names the number of bytes that the input lacks.
 fn split_refusal(alloc: Global, number: u32) -> Result<String, AllocError>
     ensures { IfOk result (λ text. IsMessage (Status.NoSplit number) (string_bytes text)) }
 {
@@ -66,7 +66,7 @@ fn tell_text<E: Sink>(text: &[u8], err: &mut E)
     let _ = write_all(err, text);
 }
 
-/// Tells why words are refused. Where there is no memory for that, it tells the form of all words.
+/// Writes why words are refused. Where there is no memory for that, it writes the form of all words.
 fn tell_usage<E: Sink>(alloc: Global, words: &Vec<String>, err: &mut E)
     requires { (bytes : List ℕ) → E.fits err.old bytes }
     ensures told { Tells Status.Usage (change_of E.written E.faults err.old err.new) }
@@ -78,7 +78,7 @@ fn tell_usage<E: Sink>(alloc: Global, words: &Vec<String>, err: &mut E)
     }
 }
 
-/// Tells that memory was short. The answer is the status of that.
+/// Writes that memory was short. The answer is the status of that.
 pub(crate) fn tell_no_memory<E: Sink>(err: &mut E) -> Status
     requires { (bytes : List ℕ) → E.fits err.old bytes }
     ensures is { result ≡ Status.NoMemory }
@@ -89,7 +89,7 @@ pub(crate) fn tell_no_memory<E: Sink>(err: &mut E) -> Status
     Status::NoMemory
 }
 
-/// Tells that a write failed.
+/// Writes that a write failed.
 pub(crate) fn tell_write_fault<E: Sink>(err: &mut E)
     requires { (bytes : List ℕ) → E.fits err.old bytes }
     ensures told { Tells Status.WriteFault (change_of E.written E.faults err.old err.new) }
@@ -98,7 +98,7 @@ pub(crate) fn tell_write_fault<E: Sink>(err: &mut E)
     tell_text(b"write fault\n", err);
 }
 
-/// Tells by this line why the input was refused, where there was memory for it. The answer is the status of that, or
+/// Writes this line, why the input was refused, where there was memory for it. The answer is the status of that, or
 /// that there was no memory.
 fn tell_refusal<E: Sink>(line: Result<String, AllocError>, status: Status, err: &mut E) -> Status
     requires fits { (bytes : List ℕ) → E.fits err.old bytes }
@@ -116,8 +116,8 @@ fn tell_refusal<E: Sink>(line: Result<String, AllocError>, status: Status, err: 
     }
 }
 
-/// Tells the status of a run on these words on standard error. The answer is the status, or that there was no
-/// memory to tell why the input was refused.
+/// Writes the status of a run on these words to standard error. The answer is the status, or that there was no memory
+/// to write why the input was refused.
 pub(crate) fn tell<E: Sink>(
     alloc: Global,
     words: &Vec<String>,

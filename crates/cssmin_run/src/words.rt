@@ -9,7 +9,7 @@ use std::env::Args;
 use std::io;
 use std::io::ErrorKind;
 
-/// The words behind the first one.
+/// The words after the first one.
 fn behind_first(alloc: Global, mut words: Args) -> Result<Vec<String>, AllocError>
     ensures { IfOk result (λ behind. behind.items ≡ drop 1 (into_iter_items words)) }
 {
@@ -17,8 +17,8 @@ fn behind_first(alloc: Global, mut words: Args) -> Result<Vec<String>, AllocErro
     words.collect(alloc)
 }
 
-/// The words after the program's name, of all its words, the name first. Words that are no UTF-8 are
-/// those of no command, so none are handed in then. There is an error where there is no room for them.
+/// The words after the program's name, of all its words, the name first. Words that are not UTF-8 are those of no
+/// command: none are handed in then. `AllocError` where there is no room for them.
 pub fn words_after_name(alloc: Global, all: io::Result<Args>) -> Result<Vec<String>, AllocError>
     ensures { HandsIn all result }
 {

@@ -8,8 +8,8 @@ use crate::status::Status;
 use crate::telling::tell_write_fault;
 use css_io::{Sink, write_all};
 
-/// Writes a text to `out`, and then its report to `err`. The status is `Done`, or `WriteFault` where a write failed: then a
-/// front of the text was written, which is told on `err`, or all of it, and a front of the report.
+/// Writes a text to `out`, and then its report to `err`. The status is `Done`, or `WriteFault` where a write failed.
+/// Then a front of the text was written, and `err` says so; or all of it was written, and a front of the report.
 pub(crate) fn write_text<O: Sink, E: Sink>(
     text: &[u8],
     report: &[u8],

@@ -1,4 +1,4 @@
-//! Which selectors of a sheet match nothing, from bytes to bytes.
+//! Which selectors of a sheet match nothing in any legal document, from bytes to bytes.
 
 ghost use Rattle.std.specs.Prelude.{◌≡◌, IfErr, IfOk, Ok};
 ghost use Rattle.std.specs.List.{AllByRecursion};
@@ -17,7 +17,7 @@ use sheet_laws::read_is_sound;
 use sheet_read::{SheetError, read_sheet};
 use std::alloc::{AllocError, Global};
 
-/// What is told of the selectors of the style rules among the items of a sheet.
+/// The lines on the selectors of the style rules among the items of a sheet.
 #[tactic(auto, using(crate::proofs::Profile::numbered_in_profile, crate::proofs::Asked::asks_none))]
 fn tell_items(alloc: Global, pairs: &mut Pairs, items: &[Item]) -> Result<Vec<u8>, AllocError>
     requires { AllByRecursion HasSelectorsInProfile items.now }
@@ -28,19 +28,21 @@ fn tell_items(alloc: Global, pairs: &mut Pairs, items: &[Item]) -> Result<Vec<u8
     tell(alloc, pairs, &selectors)
 }
 
-/// Whether the selectors of a style sheet match anything in any legal document, in lines: for each selector of each
-/// style rule, in order, the number of its item in the sheet, `.`, and its own number in the rule, both from 1, and
+/// Whether the selectors of a style sheet match anything in any legal document, as lines of bytes. There is a line for
+/// each selector of each style rule, in order. It has the number of its item in the sheet, `.`, and its own number in
+/// the rule, both from 1, and then:
+///
 /// - `dead` where it matches nothing;
 /// - `alive` where it does, with the lines of a document in which it matches the marked element;
-/// - `outside 12` where it asks an attribute for a word and refuses each white space that could stand beside it
-///   (Selectors 3, sections 6.3.1 and 6.3.2), so that it was not decided;
+/// - `outside 12` where it asks an attribute for a word and refuses each white space that could separate it
+///   (Selectors 3, sections 6.3.1 and 6.3.2): it was not decided;
 /// - `spent` where the budget of the pairs was spent first.
 ///
-/// Each line ends with a line feed. What is kept as it stands counts as an item, and nothing is told of it.
+/// Each line ends with a line feed. What is kept counts as an item, and has no line.
 ///
-/// `source` is any list of bytes. The answers are asked of `pairs`, where they stand afterwards: each selector with
-/// `*` and its pseudo-element. All that was held there stays, also after an error. `Fault` comes exactly where the
-/// sheet has one, with its place in bytes from 0, and then nothing is asked. `NoMemory` comes where memory is short.
+/// `source` is any list of bytes. The answers are asked of `pairs`, which holds them afterwards: each selector with `*`
+/// and its pseudo-element. All that was held there stays, also after an error. `Fault` exactly where the sheet has one,
+/// with its place in bytes from 0; then nothing is asked. `NoMemory` where memory is short.
 #[tactic(auto, using(crate::proofs::Profile::read_in_profile, crate::proofs::Reading::asks_nothing, crate::proofs::Reading::asks_of_read, crate::proofs::Reading::tells_of_read))]
 pub fn dead_lines(alloc: Global, pairs: &mut Pairs, source: &[u8]) -> Result<Vec<u8>, SheetError>
     ensures asks { spec.AsksOf (sheet_of source.now) pairs.old pairs.new }

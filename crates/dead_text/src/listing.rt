@@ -25,7 +25,7 @@ impl<'a> Model for Numbered<'a> {
     ghost view = { λ x. record { item = x.item; number = x.number; selector = x.selector.now } };
 }
 
-/// Puts the selectors of the rule of this number behind the others.
+/// Puts the selectors of the rule of this number after the others.
 fn push_rule<'a>(
     found: &mut Vec<Numbered<'a>>,
     item: usize,
@@ -43,7 +43,7 @@ fn push_rule<'a>(
     Ok(())
 }
 
-/// Puts the selectors of the item of this number behind the others.
+/// Puts the selectors of the item of this number after the others.
 fn push_item<'a>(
     found: &mut Vec<Numbered<'a>>,
     number: usize,

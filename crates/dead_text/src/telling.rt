@@ -1,4 +1,4 @@
-//! Whether selectors match anything, as lines.
+//! Whether selectors match anything in any legal document, as lines.
 
 ghost use Rattle.std.specs.Prelude.{◌≡◌, ◌++◌, decimal, IfOk, OnOk};
 ghost use Rattle.std.specs.List.{AllByRecursion};
@@ -23,7 +23,7 @@ fn push_number(out: &mut Vec<u8>, number: usize) -> Result<(), AllocError>
     out.extend_from_slice(buffer.format(number).as_bytes())
 }
 
-/// What is told of a life.
+/// The word for a life.
 fn life_word(life: &Life) -> &'static [u8]
     ensures { result.now ≡ spec.life_word life.now }
 {
@@ -75,7 +75,7 @@ fn push_told(
     push_evidence(out, alloc, life)
 }
 
-/// Appends the lines of a selector, which is asked for.
+/// Appends the lines of a selector. The answer is asked for.
 #[tactic(auto, using(crate::proofs::Asked::tells_one))]
 fn push_asked(
     out: &mut Vec<u8>,
@@ -91,7 +91,7 @@ fn push_asked(
     push_told(out, alloc, of, &life)
 }
 
-/// The lines of selectors, each of which is asked for.
+/// The lines of selectors. The answer for each is asked for.
 #[tactic(auto, using(crate::proofs::Asked::asks_none, crate::proofs::Asked::tells_none))]
 pub(crate) fn tell(
     alloc: Global,

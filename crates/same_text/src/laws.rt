@@ -1,17 +1,18 @@
-//! What follows of what is told, as functions that do nothing.
+//! What follows from what is found, as functions that do nothing.
 
 ghost use Rattle.same_text.specs.Laws.{ReversedPairsShowOrder, SameTextsWinAlike};
 
 use cascade_laws::{matching_is_decided, understanding_is_decided};
 use order_laws::{listed_stands_last, weighing_is_decided};
 
-/// Two sheets of which `same` is told have the same winners in every legal document, as `same_sheets_win_alike` says.
+/// Two sheets for which `same` is printed have the same winners in every legal document, as `same_sheets_win_alike`
+/// says.
 pub fn same_texts_win_alike()
     ensures { SameTextsWinAlike }
 {}
 
-/// The example of two pairs that are found in another order shows that their order counts: for its marked element the later one
-/// of the two rules wins, whichever it is (CSS Cascading 3, section 6).
+/// The example of two pairs that are found in another order shows that their order counts. For its marked element, in a
+/// legal document, the later one of the two rules wins, whichever it is (CSS Cascading 3, section 6).
 pub fn reversed_pairs_show_order()
     ensures { ReversedPairsShowOrder }
 {

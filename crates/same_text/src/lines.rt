@@ -119,7 +119,7 @@ fn first_sheet(alloc: Global, text: &[u8]) -> Result<Sheet, SameError>
     }
 }
 
-/// The sheet that the second one is read as.
+/// The sheet that the second of two texts is read as.
 fn second_sheet(alloc: Global, text: &[u8]) -> Result<Sheet, SameError>
     ensures ok { IfOk result (λ sheet. sheet_of text.now ≡ Ok sheet.items) }
     ensures err { IfErr result (λ e. spec.IsSecond text.now e) }
@@ -131,7 +131,7 @@ fn second_sheet(alloc: Global, text: &[u8]) -> Result<Sheet, SameError>
     }
 }
 
-/// The lines of what is found in two texts, which are read as sheets.
+/// The lines of what is found in two texts that are read as sheets.
 #[tactic(auto, using(sheet_order::proofs::ForCallers::stays_itself, crate::proofs::Locating::told_places))]
 fn compare_texts(
     alloc: Global,
@@ -165,20 +165,29 @@ fn too_long() -> SheetFault
     }
 }
 
-/// Compares two style sheets, of which the first one has the first `split` bytes of the text and the second one the
-/// others, and prints what is found: `same` where they have the same winners in every legal document; `missing RULE`
-/// with a pair that the second one lacks, and `extra RULE` with one that it has besides, as a rule; `kept N` where the kept items of this
-/// number, from 1, differ, or are in another order with a pair; `reversed`, two pairs in another order, each as a
-/// rule, and a document in which the marked element matches both selectors; `unsure R` where two selectors are not
-/// compared, with the number of the reason; and `unsure spent` where the budget of the pairs was spent for them.
-/// Numbers and rules are those of the sheets, or of the bodies of opened blocks of media in which it is found. Each
-/// line ends with a line feed.
+/// What is found in two style sheets, as lines of bytes. The first sheet has the first `split` bytes of the text, the
+/// second one the others. Each line ends with a line feed.
 ///
-/// `text` is any list of bytes. `First` comes exactly where it has more than 2,097,152 bytes, as a first sheet that
-/// is too long; then `NoSplit` exactly where it has fewer than `split` bytes; then `First` exactly where the first
-/// sheet has a fault, with its place in bytes from 0, and then `Second` where the second one has, with the place in
-/// its own bytes. `NoMemory` comes where memory is short. The answers for selectors are asked of `pairs`, where they
-/// stand afterwards; all that was held there stays, also after an error.
+/// - `same` where nothing is found: the winners are the same in every legal document, as `same_texts_win_alike` says;
+/// - `missing RULE` with a pair that the second sheet lacks, as a rule;
+/// - `extra RULE` with a pair that it has besides, as a rule;
+/// - `kept N` where the kept items of this number, from 1, differ, or are in another order with a pair;
+/// - `reversed`, two pairs in another order, each as a rule, and a document in which the marked element matches both
+///   selectors;
+/// - `unsure R` where two selectors are not compared, with the number of the reason;
+/// - `unsure spent` where the budget of the pairs was spent for them.
+///
+/// Numbers and rules are those of the sheets, or of the bodies of opened blocks of media where it is found.
+///
+/// `text` is any list of bytes. The errors come in this order, each exactly where:
+///
+/// - `First`: the text has more than 2,097,152 bytes, as a first sheet that is too long;
+/// - `NoSplit`: the text has fewer than `split` bytes;
+/// - `First`: the first sheet has a fault, with its place in bytes from 0;
+/// - `Second`: the second sheet has a fault, with the place in its own bytes from 0.
+///
+/// `NoMemory` comes where memory is short. The answers for selectors are asked of `pairs`, which holds them afterwards.
+/// All that was held there stays, also after an error.
 #[tactic(auto, using(sheet_order::proofs::ForCallers::stays_itself))]
 pub fn same_lines(
     alloc: Global,

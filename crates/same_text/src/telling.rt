@@ -96,7 +96,7 @@ fn print_reversed(
     Ok(out)
 }
 
-/// The line of a reason that it is not known whether two selectors meet.
+/// The line of a reason why it is not known whether two selectors meet.
 fn print_unsure(alloc: Global, reason: u32) -> Result<Vec<u8>, AllocError>
     ensures { IfOk result (λ text. text.items ≡ spec.unsure_line reason) }
 {

@@ -10,7 +10,7 @@ use thiserror::Error;
 /// Why the text of a document is none. It is displayed as `line N` or `too many lines`.
 #[derive(Clone, Copy, Debug, PartialEq, Eq, Error)]
 pub enum DocFault {
-    /// The line of this number, from 1, is to blame.
+    /// The line, from 1, that is to blame.
     BadLine(u32),
     /// The text has more than 4,096 line ends.
     TooManyLines,

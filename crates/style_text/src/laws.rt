@@ -1,12 +1,12 @@
-//! The laws. They do nothing when they run.
+//! What is printed of an input, as functions that do nothing.
 
 ghost use Rattle.style_text.specs.Laws.{InputsHaveTwoParts, WinnersAreTold};
 
 use doc_text::texts_differ;
 
-/// What is printed of an input tells, for each name of a declaration that applies to the marked element of its
-/// document, which declaration wins among all values that the rules of its sheet give this name (CSS Cascading 3,
-/// section 6). Kept items are taken to apply nothing.
+/// What is printed of an input says which declaration wins, for each name of a declaration that applies to the marked
+/// element of its document (CSS Cascading 3, section 6). It wins among all values that the rules of its sheet give this
+/// name. Kept items are taken to apply nothing.
 pub fn winners_are_told()
     ensures { WinnersAreTold }
 {

@@ -1,5 +1,5 @@
-//! Which declarations win in a given document, from bytes to bytes: reads a document and a style sheet, and prints the
-//! winners of the cascade for the marked element.
+//! Which declarations win in a given document, from bytes to bytes. It reads a document and a style sheet, and prints
+//! the winners of the cascade for the marked element.
 #![tactic(auto)]
 
 mod fault;

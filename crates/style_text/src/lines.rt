@@ -11,7 +11,7 @@ use css_model::{Item, Sheet, Specificity, Text};
 use itoa::Buffer;
 use std::alloc::{AllocError, Global};
 
-/// 1 where an item is kept as it stands, else 0.
+/// 1 where an item is kept, otherwise 0.
 fn kept_in(item: &Item) -> usize
     ensures { result ≡ (if is_kept item.now then 1 else 0) }
 {
@@ -21,7 +21,7 @@ fn kept_in(item: &Item) -> usize
     }
 }
 
-/// How many items are kept as they stand.
+/// How many items are kept.
 fn kept_count(items: &[Item]) -> usize
     ensures { result ≡ count_by is_kept items.now }
 {
@@ -100,7 +100,7 @@ fn push_winners(out: &mut Vec<u8>, alloc: Global, wons: &[Won]) -> Result<(), Al
     Ok(())
 }
 
-/// The line that tells how many items are kept.
+/// The line with the number of kept items.
 fn kept_line(alloc: Global, items: &[Item]) -> Result<Vec<u8>, AllocError>
     ensures { IfOk result (λ text. text.items ≡ kept_line items.now) }
 {

@@ -11,7 +11,7 @@ use sheet_read::{SheetError, read_sheet};
 use std::alloc::Global;
 
 #[tactic(auto, unfolding(crate::specs::Reading::IsDocument))]
-/// The example of a document's text, which keeps the rules.
+/// The example of a document's text. It keeps the rules.
 pub(crate) fn read_document(alloc: Global, text: &[u8]) -> Result<Example, StyleError>
     ensures reads { ReadsDocument result text.now }
     ensures rules { IfOk result (λ x. KeepsRules x) }

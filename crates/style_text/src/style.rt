@@ -54,17 +54,23 @@ fn styled(alloc: Global, document: &[u8], source: &[u8]) -> Result<Vec<u8>, Styl
     Ok(lines(alloc, &sheet, wons.as_slice())?)
 }
 
-/// Which declarations of a style sheet win in a document (CSS Cascading 3, section 6). `input` is the text of a
-/// document, as `print_doc` writes it, then an empty line and a style sheet; without an empty line the sheet is empty.
+/// Which declarations of a style sheet win in a document, as lines of bytes (CSS Cascading 3, section 6). `input` is
+/// the text of a document, as `print_doc` writes it, then an empty line and a style sheet. Without an empty line the
+/// sheet is empty.
 ///
-/// The first line tells how many items of the sheet are kept as they stand: what these apply does not count. Then comes
-/// a line `NAME:VALUE A,B,C` for each property that a rule gives to the marked element, or to the pseudo-element of it:
-/// the declaration that wins, with `!important` behind its value where it is important, and the specificity of the
-/// selector that it applies by. The names are decoded, in UTF-8, and ascend by their code points.
+/// - The first line has the number of kept items of the sheet: what these apply does not count.
+/// - Then comes a line `NAME:VALUE A,B,C` for each property that a rule gives to the marked element, or to its
+///   pseudo-element. It has the declaration that wins, with `!important` after its value where it is important, and the
+///   specificity of the selector that it applies by.
+/// - The names are decoded, in UTF-8, and ascend by their code points.
 ///
-/// `Sheet(TooLong at 1048576)` comes first, exactly where the input has more than 1,048,576 bytes; then `Document`,
-/// exactly where `read_doc` has that fault; then `Sheet`, exactly where the sheet has that fault, at a place in bytes
-/// from the sheet's start. `NoMemory` comes where memory is short.
+/// | error | exactly when |
+/// |---|---|
+/// | `Sheet(TooLong at 1048576)` | first: the input has more than 1,048,576 bytes |
+/// | `Document` | then: `read_doc` has that fault |
+/// | `Sheet` | then: the sheet has that fault, at a place in bytes from its start |
+///
+/// `NoMemory` comes where memory is short.
 pub fn style_lines(alloc: Global, input: &[u8]) -> Result<Vec<u8>, StyleError>
     ensures ok { IfOk result (λ text. IsStyled input.now text.items) }
     ensures err { IfErr result (IsCause input.now) }

@@ -43,7 +43,7 @@ pub enum Explained {
         moved: PairPlace,
         /// The other one, at its last place.
         other: PairPlace,
-        /// Both selectors match the marked element of it.
+        /// A document; both selectors match its marked element.
         example: Example,
     },
     /// Two pairs whose selectors were not compared, for the reason of this number.
@@ -52,7 +52,7 @@ pub enum Explained {
     Spent,
 }
 
-/// What an answer for a moved pair and another one tells, if it is not that they are apart.
+/// What an answer for a moved pair and another one says, if it is not that they are apart.
 fn told(
     moved: PairPlace,
     other: PairPlace,
@@ -72,7 +72,7 @@ fn told(
     }
 }
 
-/// What is told by the answer that is held for the selectors of a moved pair and of another one.
+/// What the answer that is held for the selectors of a moved pair and of another one says.
 #[tactic(auto, using(crate::proofs::Entries::not_unknown))]
 fn known_told(
     pairs: &Pairs,
@@ -90,7 +90,7 @@ fn known_told(
     }
 }
 
-/// What is told by the answer for a moved pair and another one, which is asked for.
+/// What the answer for a moved pair and another one says. The answer is asked for.
 #[tactic(auto, using(crate::proofs::Entries::asks_nothing))]
 fn asked_told(
     pairs: &mut Pairs,
@@ -110,7 +110,7 @@ fn asked_told(
     known_told(pairs, &first.selector, &second.selector, moved, other)
 }
 
-/// What is told by an entry, if it is not a pair whose selectors are answered to be apart.
+/// What an entry says, if it is not a pair whose selectors are answered to be apart.
 #[tactic(auto, using(crate::proofs::Entries::asks_nothing))]
 fn told_of_entry(
     pairs: &mut Pairs,
@@ -128,7 +128,7 @@ fn told_of_entry(
     }
 }
 
-/// What is told by the first entry that is not a pair whose selectors are answered to be apart.
+/// What the first entry says that is not a pair whose selectors are answered to be apart.
 #[tactic(auto, using(crate::proofs::Entries::asks_nothing))]
 fn told_first(
     pairs: &mut Pairs,
@@ -189,11 +189,16 @@ fn explain_rule(
     told_first(pairs, sheet, &entries)
 }
 
-/// What hinders the move of an item of a sheet to the place of another one, both numbers from 0, by what is
-/// answered for pairs of selectors, the moved pair's first. A kept item is not moved. Of a rule the first of what
-/// its move reverses decides, nearest first, that is not a pair whose selectors are answered to be apart; it is
-/// free exactly where there is none, also where the numbers are equal. Asks for the answers up to that one. All
-/// answers that were held stay, and come first, also after `AllocError`, which comes where memory is short.
+/// What hinders the move of an item of a sheet to the place of another one, both numbers from 0, by what is answered
+/// for pairs of selectors.
+///
+/// - A kept item is not moved.
+/// - For a rule, the first decides of what its move reverses, nearest first, that is not a pair whose selectors are
+///   answered to be apart.
+/// - The move is free exactly where there is none, also where the numbers are equal.
+/// - It asks for the answers up to that one; the moved pair's selector comes first.
+///
+/// All answers that were held stay, and come first. `AllocError` where memory is short; they stay then too.
 #[tactic(auto, using(crate::proofs::Entries::asks_nothing))]
 pub fn explain(
     alloc: Global,

@@ -1,4 +1,4 @@
-//! What follows of what is told, as functions that do nothing.
+//! What follows from what is found of a move, as functions that do nothing.
 
 ghost use Rattle.why_text.specs.Laws.{BlockedMovesShowOrder, FreeMovesKeep};
 
@@ -6,7 +6,8 @@ use cascade_laws::{matching_is_decided, understanding_is_decided};
 use order_laws::{each_sheet_keeps_itself, listed_is_reversed, moving_apart_keeps};
 use overlap::apart_selectors_do_not_meet;
 
-/// A move that is told to be free keeps the sheet, so that it changes no page.
+/// A move that is found to be free keeps the sheet; by `keeping_keeps_winners` it then changes no winner in any legal
+/// document.
 pub fn free_moves_keep()
     ensures { FreeMovesKeep }
 {
@@ -16,8 +17,8 @@ pub fn free_moves_keep()
     moving_apart_keeps();
 }
 
-/// The example of a move that is told to be blocked shows that the order of the two pairs counts: for its marked
-/// element the later one of the two rules wins, whichever it is (CSS Cascading 3, section 6).
+/// The example of a move that is found to be blocked shows that the order of the two pairs counts. For its marked
+/// element, in a legal document, the later one of the two rules wins, whichever it is (CSS Cascading 3, section 6).
 pub fn blocked_moves_show_order()
     ensures { BlockedMovesShowOrder }
 {

@@ -60,17 +60,25 @@ fn explain_move(
     print_told(alloc, source, sheet, &told)
 }
 
-/// Explains the move of an item of a style sheet to the place of another one, both numbers from 1, and prints what
-/// hinders it: `free` where all that it reverses is pairs whose selectors are answered to be apart; `kept N` where
-/// the item is kept, or the first thing that is reversed is the kept item of this number; `outside R` where two
-/// selectors are not compared, with the number of the reason; `spent` where the budget of the pairs was spent for
-/// them; else `blocked`, the moved pair and the other one, each as a rule, and a document in which the marked element
-/// matches both selectors. Each line ends with a line feed.
+/// What hinders the move of an item of a style sheet to the place of another one, both numbers from 1, as lines of
+/// bytes. Each line ends with a line feed.
 ///
-/// `text` is any list of bytes. `Sheet` comes exactly where it has a fault as a sheet, with its place in bytes from
-/// 0; then `NoItem` exactly where no item has the number `from`, with this number, or else none has `to`.
-/// `NoMemory` comes where memory is short. The answers for selectors are asked of `pairs`, where they stand
-/// afterwards; all that was held there stays, also after an error.
+/// - `free` where all that the move reverses is pairs whose selectors are answered to be apart;
+/// - `kept N` where the item is kept, or the first thing that is reversed is the kept item of this number;
+/// - `outside R` where two selectors are not compared, with the number of the reason;
+/// - `spent` where the budget of the pairs was spent for them;
+/// - `blocked` otherwise, the moved pair and the other one, each as a rule, and a document in which the marked element
+///   matches both selectors.
+///
+/// `text` is any list of bytes.
+///
+/// | error | exactly when |
+/// |---|---|
+/// | `Sheet` | first: the text has a fault as a sheet, with its place in bytes from 0 |
+/// | `NoItem` | then: no item has the number `from`, with this number; else none has `to` |
+///
+/// `NoMemory` comes where memory is short. The answers for selectors are asked of `pairs`, which holds them afterwards.
+/// All that was held there stays, also after an error.
 pub fn why_lines(
     alloc: Global,
     pairs: &mut Pairs,

@@ -47,6 +47,7 @@ fn print_rule(
 }
 
 /// The text of the pair at this place of a sheet that is sound for `source`, as a rule, such as `.a{left:0}`.
+/// `AllocError` where memory runs out.
 pub fn print_pair(
     alloc: Global,
     source: &[u8],

@@ -1,4 +1,4 @@
-//! The lines of what is told of a move.
+//! The lines of what is found of a move.
 
 ghost use Rattle.std.specs.Prelude.{◌≡◌, ◌≤◌, [], IfOk, length};
 ghost use Rattle.css_model.specs.Sheets.Limits.{max_bytes};
@@ -54,7 +54,7 @@ fn print_blocked(
     explained(alloc, &explanation)
 }
 
-/// The lines of what is told.
+/// The lines of what is found of a move.
 pub(crate) fn print_told(
     alloc: Global,
     source: &[u8],

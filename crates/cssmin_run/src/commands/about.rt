@@ -1,4 +1,4 @@
-//! What is told of the program itself, on the output: how it is used, and its version.
+//! What the program writes of itself: how it is used, and its version.
 
 ghost use Rattle.std.specs.Prelude.{◌≡◌, ◌≢◌, ◌≤◌, ℕ, List};
 ghost use Rattle.command_texts.specs.Texts.{EndsLine, version_text};

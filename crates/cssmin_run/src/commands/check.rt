@@ -1,4 +1,4 @@
-//! The command `check`: a log on the input, on the output whether it refutes its formula.
+//! The command `check`: a log on the input; on the output whether it refutes its formula.
 
 ghost use Rattle.cssmin_run.specs.Commands.Check.{CheckRefuses, Checks};
 ghost use Rattle.log_text.specs.CheckedTexts.{max_log_bytes};

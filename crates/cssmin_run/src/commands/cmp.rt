@@ -24,7 +24,7 @@ pub(crate) fn unasked(alloc: Global, budget: Option<u32>) -> Pairs
     }
 }
 
-/// The text of the answer for two texts, which is asked for, with a log or without one.
+/// The text of the answer for two texts, with a log or without one. The answer is asked for.
 fn text_of(
     alloc: Global,
     pairs: &mut Pairs,
@@ -60,8 +60,8 @@ fn answer(
 }
 
 #[tactic(auto, using(crate::proofs::Wrote::wrote_answer))]
-/// Compares two texts as selectors, and writes the text of the answer to `out`. Nothing is written before the
-/// whole text is made. The answers that were asked for are `held` afterwards, and none where memory was short.
+/// Compares two texts as selectors, and writes the text of the answer to `out`. Nothing is written before the whole
+/// text is made. `held` is afterwards the answers that were asked for, and none where memory was short.
 pub(crate) fn cmp<O: Sink, E: Sink>(
     alloc: Global,
     left: &str,

@@ -1,4 +1,5 @@
-//! The command `dead`: a style sheet on the input, on the output a line for each selector, whether it matches anything.
+//! The command `dead`: a style sheet on the input; on the output a line for each selector, whether it matches anything
+//! in a legal document.
 
 ghost use Rattle.std.specs.Prelude.{◌≡◌};
 ghost use Rattle.css_model.specs.Sheets.Limits.{max_bytes};

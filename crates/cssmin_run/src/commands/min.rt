@@ -1,4 +1,4 @@
-//! The command `min`: a style sheet on the input, its merged text on the output, and a report where one is asked for.
+//! The command `min`: a style sheet on the input; its merged text on the output, and a report where one is asked for.
 
 ghost use Rattle.std.specs.Prelude.{◌≡◌, ℕ, List, Some, map, IfOk, IfErr};
 ghost use Rattle.css_model.specs.Sheets.Limits.{max_bytes};
@@ -35,7 +35,7 @@ pub(crate) fn merged(
     Ok((obstacles.into_pairs(), merged))
 }
 
-/// What is told of a merged text: nothing, or its report where one is asked for.
+/// The report of a merged text where one is asked for; otherwise nothing.
 #[tactic(auto, using(crate::proofs::Staying::stays_itself))]
 fn told_of(
     alloc: Global,
@@ -56,7 +56,7 @@ fn told_of(
     }
 }
 
-/// The merged text of a sheet, with the answers that were asked for, and what is told of it.
+/// The merged text of a sheet, with the answers that were asked for, and its report.
 fn merged_and_told(
     alloc: Global,
     budget: Option<u32>,
@@ -78,7 +78,7 @@ fn merged_and_told(
 pub(crate) struct Min {
     /// How many clauses may be learned for a pair, where the words say it.
     pub(crate) budget: Option<u32>,
-    /// Whether a report is to be told.
+    /// Whether a report is to be written.
     pub(crate) asked: bool,
 }
 

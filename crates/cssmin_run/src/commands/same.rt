@@ -1,4 +1,4 @@
-//! The command `same`: two style sheets on the input, on the output what is found in them.
+//! The command `same`: two style sheets on the input; on the output what is found in them.
 
 ghost use Rattle.std.specs.Prelude.{◌≡◌};
 ghost use Rattle.cssmin_run.specs.Commands.Same.{ComparesSheets, SameRefuses};

@@ -1,4 +1,4 @@
-//! The command `style`: a document and a style sheet on the input, on the output a line for each declaration that wins.
+//! The command `style`: a document and a style sheet on the input; on the output a line for each declaration that wins.
 
 ghost use Rattle.css_model.specs.Sheets.Limits.{max_bytes};
 ghost use Rattle.cssmin_run.specs.Commands.Style.{StyleRefuses, TellsWinners};

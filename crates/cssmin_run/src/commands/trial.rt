@@ -1,4 +1,4 @@
-//! The command `trial`: a made sheet merged, and what came of it on the output.
+//! The command `trial`: a made sheet is merged; on the output what its merged text has.
 
 ghost use Rattle.std.specs.Prelude.{◌≡◌, ◌≢◌, ◌≤◌, ℕ, List, Some, IfOk, IfErr};
 ghost use Rattle.css_model.specs.Sheets.Sheet.{sheet_of};
@@ -18,7 +18,7 @@ use sheet_read::SheetError;
 use std::alloc::Global;
 use trial_gen::make_sheet;
 
-/// What came of merging a made sheet, with the answers that were asked for.
+/// The numbers of a made sheet and of its merged text, with the answers that were asked for.
 fn tried(alloc: Global, rules: u32) -> Result<(Pairs, Vec<u8>), SheetError>
     requires { rules ≤ 2000 }
     ensures ok { IfOk result (λ t. Tries rules t.1.items (Some t.0)) }
@@ -31,9 +31,9 @@ fn tried(alloc: Global, rules: u32) -> Result<(Pairs, Vec<u8>), SheetError>
     Ok((pairs, text))
 }
 
-/// Merges a made sheet of so many rules, and writes to `out` how many items and bytes it had and has, and how many steps
-/// were taken. Nothing is written before the whole text is made. The answers that were asked for are `held` afterwards,
-/// and none where nothing was written.
+/// Merges a made sheet of so many rules, and writes to `out` how many items and bytes it had and has, and how many
+/// steps were taken. Nothing is written before the whole text is made. `held` is afterwards the answers that were asked
+/// for, and none where nothing was written.
 pub(crate) fn trial<O: Sink, E: Sink>(
     alloc: Global,
     words: &Vec<String>,

@@ -1,4 +1,4 @@
-//! The command `why`: a style sheet on the input, on the output what hinders the move of one of its rules.
+//! The command `why`: a style sheet on the input; on the output what hinders the move of one of its rules.
 
 ghost use Rattle.std.specs.Prelude.{◌≡◌};
 ghost use Rattle.css_model.specs.Sheets.Limits.{max_bytes};
