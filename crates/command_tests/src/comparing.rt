@@ -3,7 +3,7 @@
 use crate::runs::{FAULTLESS, Row, SHEET, end_so, ends, run_line, write_so};
 use cssmin_run::{LogFault, Status};
 
-/// A tab stands for the white space of a selector.
+/// Pairs of selectors, with the answer; a tab is the white space of a selector.
 const COMPARED: &[(&str, &str)] = &[
     ("cssmin cmp a:link a:visited --budget 0", "disjoint\n"),
     ("cssmin cmp a:link a:visited --budget=0", "disjoint\n"),
@@ -95,7 +95,7 @@ fn logs_are_checked(rt: HostRuntime) {
     end_so(&rt, rt.alloc(), CHECKED);
 }
 
-/// Of this pair no document is worked by hand.
+/// Budgets that suffice change nothing. Of this pair no document is worked by hand.
 #[test]
 fn budgets_that_suffice_change_nothing(rt: HostRuntime) {
     let alloc = rt.alloc();
@@ -107,7 +107,8 @@ fn budgets_that_suffice_change_nothing(rt: HostRuntime) {
     ends(&rt, alloc, line, SHEET, FAULTLESS, end);
 }
 
-/// Pairs, how what is written of them begins, and what the check tells of that: only of a refuted formula there is a log.
+/// Pairs, how what is written of them begins, and what the check says of that: there is a log only of a refuted
+/// formula.
 const LOGGED: &[(&str, &[u8], Status, &[u8], &[u8])] = &[
     (
         "cssmin cmp --log :nth-child(2n)+p :nth-child(2n)",

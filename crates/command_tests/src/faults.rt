@@ -13,7 +13,7 @@ const BY_BYTES: Outside<'static> = Outside {
     ..FAULTLESS
 };
 
-/// Lines with how the streams behave and the ends.
+/// Lines of words, with how the streams behave and the ends.
 const ENDS: &[(&str, Outside<'static>, End<'static>)] = &[
     ("cssmin min", BY_BYTES, (Status::Done, 0, PRINTED, b"")),
     // The read before it has found the end.
@@ -100,7 +100,7 @@ fn each_read_may_fail(rt: HostRuntime) {
     }
 }
 
-/// Each write of this text may fail, and then a front of it stands on the output.
+/// Each write of this text may fail, and then a front of it is on the output.
 fn each_write_fails(rt: &impl Abort, alloc: Global, line: &str, left: usize, text: &[u8]) {
     for call in 0..text.len() {
         let outside = Outside {

@@ -9,7 +9,7 @@ use std::process::Abort;
 /// The input of a run that is not to read it.
 pub(crate) const SHEET: &[u8] = b"a { color : red ; }";
 
-/// A sheet is refused that ends inside of a string, which begins at its fifth byte.
+/// A sheet is refused that ends inside a string. The string begins at its fifth byte.
 pub(crate) const END_INSIDE: Status = Status::SheetRefused(SheetFault {
     kind: FaultKind::EndInside,
     at: 4,
@@ -104,7 +104,7 @@ pub(crate) fn run_line(
 /// What a run is to end with: the status, how many bytes of the input are left, the output, and standard error.
 pub(crate) type End<'a> = (Status, usize, &'a [u8], &'a [u8]);
 
-/// A run ends so.
+/// A run ends as `end` says.
 pub(crate) fn ends(
     rt: &impl Abort,
     alloc: Global,

@@ -7,7 +7,7 @@ use style_text::DocFault;
 
 const DOCUMENT: &[u8] = b"child 0 pseudo none\n0 1 - x\n1 4000000000 - li\n1 1 * li class=k\n\n";
 
-/// Sheets behind this document, with what is written.
+/// Sheets after this document, with what is written.
 const STYLED: &[(&[u8], &str)] = &[
     (
         b"li{color:red}li+li{color:blue}.k{top:0}li:nth-child(odd){color:green}.k{top:1px}",

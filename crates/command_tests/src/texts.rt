@@ -1,4 +1,4 @@
-//! What is told of the words: help, the version, and why they are refused.
+//! What is written of the words: help, the version, and why they are refused.
 
 use crate::runs::{FAULTLESS, SHEET, ends, run_line, words_of, write_so};
 use command_texts::refusal_text;
@@ -48,7 +48,7 @@ const HELP: &[(&str, &[u8])] = &[
 
 const USAGE: &[u8] = b"usage: cssmin COMMAND\n";
 
-/// Lines that are no command, with what is told of them.
+/// Lines that are no command, with what is written of them.
 const REFUSED: &[(&str, &[u8])] = &[
     (
         "cssmin",

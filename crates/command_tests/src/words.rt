@@ -194,7 +194,7 @@ fn have_a_form(rt: HostRuntime) {
     }
 }
 
-/// Why it is so is told, in whole lines.
+/// Why words have no form is written in whole lines.
 #[test]
 fn have_no_form(rt: HostRuntime) {
     let alloc = rt.alloc();

@@ -1,4 +1,4 @@
-//! Which literals a clause watches, and in which lists it stands.
+//! Which literals a clause watches, and in which lists it is.
 
 ghost use Rattle.std.specs.Prelude.{◌≡◌, IsTrue, IfOk};
 ghost use Rattle.cnf.specs.Lits.{is_below};
@@ -61,7 +61,7 @@ fn has_lists(rt: &impl Abort, arena: &Arena, lists: [&[usize]; 6])
     }
 }
 
-/// The newest clause comes first. A clause of one literal stands in no list.
+/// The newest clause comes first. A clause of one literal is in no list.
 #[test]
 fn a_clause_watches_two_of_its_literals(rt: HostRuntime) -> Result<(), Fail> {
     let arena = nine(&rt, rt.alloc())?;

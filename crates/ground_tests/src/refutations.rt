@@ -12,7 +12,7 @@ const CHAIN: &str = "vars 4 clauses 5\n-1 2 0\n-2 3 0\n-3 4 0\n1 0\n-4 0\n";
 
 const WITH_FIRST: &str = "vars 3 clauses 5\n1 0\n-1 2 3 0\n-1 2 -3 0\n-1 -2 3 0\n-1 -2 -3 0\n";
 
-/// A text with another one behind it.
+/// A text with another one after it.
 pub(crate) fn joined(alloc: Global, first: &str, second: &str) -> Result<Vec<u8>, AllocError> {
     let mut text = first.as_bytes().to_vec(alloc)?;
     text.extend_from_slice(second.as_bytes())?;

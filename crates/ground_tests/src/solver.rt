@@ -19,8 +19,7 @@ fn satisfy(values: &[bool], f: &Formula) -> bool {
     values.len() == f.vars() as usize
 }
 
-/// None where values satisfy the formula, else how many clauses the ledger has, and what is said of
-/// it as a log.
+/// None where values satisfy the formula; else how many clauses the ledger has, and what the check says of it as a log.
 fn decided(
     rt: &impl Abort,
     alloc: Global,
@@ -40,9 +39,8 @@ fn decided(
     Ok(Some((ledger.clauses.len(), check_log(alloc, &log)?)))
 }
 
-/// Where unit propagation alone refutes, the ledger has one clause, and none where the formula has
-/// an empty one. The last two formulas are of "exactly one of two", with a literal for "both", and
-/// in the last one this is true.
+/// Where unit propagation alone refutes, the ledger has one clause, and none where the formula has an empty one. The
+/// last two formulas are of "exactly one of two", with a literal for "both". In the last one this is true.
 #[test]
 fn decides_small_formulas(rt: HostRuntime) -> Result<(), Fail> {
     let alloc = rt.alloc();

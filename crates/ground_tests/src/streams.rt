@@ -15,8 +15,8 @@ const SHEET: &[u8] = b"a{color:red}";
 /// The number of a call that never comes.
 const NEVER: u64 = 99;
 
-/// Reads the sheet by pieces of so many bytes, where the call of a number fails, and compares what
-/// came of it, and the bytes that are left.
+/// Reads the sheet by pieces of so many bytes, where the call of a number fails. Compares the outcome, and the bytes
+/// that are left.
 fn reads(
     rt: &impl Abort,
     alloc: Global,
@@ -66,7 +66,7 @@ fn each_read_may_fail(rt: HostRuntime) -> Result<(), Fail> {
     Ok(())
 }
 
-/// No call comes behind the one that finds the end.
+/// No call comes after the one that finds the end.
 #[test]
 fn a_source_is_not_read_past_its_end(rt: HostRuntime) -> Result<(), Fail> {
     let alloc = rt.alloc();
@@ -126,8 +126,8 @@ fn readers_and_writers_of_std_are_passed_on(rt: HostRuntime) -> Result<(), Fail>
     Ok(())
 }
 
-/// A reader and writer that is interrupted so often. Then it fails, or it gives one byte at each
-/// call, and takes so many at most.
+/// A reader and writer that is interrupted so often. Then it fails, or it gives one byte at each call, and takes so
+/// many at most.
 #[derive(Drop)]
 struct Interrupted {
     times: u32,

@@ -21,8 +21,8 @@ fn takes_back_the_levels_above(rt: HostRuntime) -> Result<(), Fail> {
     Ok(())
 }
 
-/// The lowest variable comes first where nothing was bumped, and then the one with the highest
-/// activity. One that has a value is not named, and is again once its level is taken back.
+/// The lowest variable comes first where nothing was bumped, then the one with the highest activity. One that has a
+/// value is not named, and is named again once its level is taken back.
 #[test]
 fn names_the_most_active_open_variable(rt: HostRuntime) -> Result<(), Fail> {
     let mut trail = Trail::new(rt.alloc(), 4)?;

@@ -1,4 +1,4 @@
-//! Texts of documents, which are read and printed.
+//! Texts of documents that are read and printed.
 
 use crate::reading::{example, with_head};
 use doc_text::{DocError, print_doc, read_doc};

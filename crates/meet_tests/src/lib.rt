@@ -1,4 +1,4 @@
-//! Tests of whether two selectors can match one element, on selectors and documents that are read.
+//! Tests of whether two selectors meet, on selectors and documents that are read.
 #![tactic(auto)]
 
 #[cfg(test)]

@@ -16,7 +16,7 @@ fn is_answer(rt: &impl Abort, alloc: Global, answer: &Answer, wanted: &str) -> b
     }
 }
 
-/// Two selectors get this answer, which is held from then on.
+/// Two selectors get this answer. It is held from then on.
 fn gives(rt: &impl Abort, alloc: Global, pairs: &mut Pairs, row: (&str, &str, &str)) {
     let (left, right, wanted) = row;
     let x = selector(rt, alloc, left);

@@ -31,7 +31,7 @@ pub(crate) fn example(rt: &impl Abort, alloc: Global, text: &[u8]) -> Example {
     read_doc(alloc, text).expect(rt, "an example")
 }
 
-/// These lines behind the first line of an example.
+/// These lines after the first line of an example.
 pub(crate) fn with_head(rt: &impl Abort, alloc: Global, lines: &str) -> Vec<u8> {
     let mut text = Vec::from_slice(alloc, b"child 0 pseudo none\n").expect(rt, "memory");
     text.extend_from_slice(lines.as_bytes())

@@ -23,7 +23,7 @@ fn planned(alloc: Global, x: &Selector, y: &Selector) -> Result<Bounds, PlanErro
     Ok(plan.bounds())
 }
 
-/// The same for two texts.
+/// The bounds of the plan of two texts.
 fn bounds(rt: &impl Abort, alloc: Global, left: &str, right: &str) -> Result<Bounds, PlanError> {
     let x = selector(rt, alloc, left);
     let y = selector(rt, alloc, right);
@@ -86,7 +86,7 @@ fn draws(rt: &impl Abort, alloc: Global, row: (&str, &str, &str)) {
     }
 }
 
-/// Each row leaves one shape, where an ancestor that may stand anywhere above is the parent.
+/// Each row leaves one shape, where an ancestor that may be anywhere above is the parent.
 #[test]
 fn which_documents_shapes_give(rt: HostRuntime) {
     let alloc = rt.alloc();

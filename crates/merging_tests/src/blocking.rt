@@ -36,13 +36,13 @@ const FIRST: PairPlace = PairPlace {
 /// The first pair of the second item.
 const NEXT: PairPlace = PairPlace { item: 1, ..FIRST };
 
-/// The second declaration of it.
+/// The second declaration of the second item.
 const NEXT_SECOND: PairPlace = PairPlace { decl: 1, ..NEXT };
 
 /// The first pair of the third item.
 const THIRD: PairPlace = PairPlace { item: 2, ..FIRST };
 
-/// The second declaration of it.
+/// The second declaration of the third item.
 const THIRD_SECOND: PairPlace = PairPlace { decl: 1, ..THIRD };
 
 /// A step that shares what the rules of the first and the third item have in common.

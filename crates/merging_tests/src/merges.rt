@@ -1,4 +1,4 @@
-//! What sheets become, worked by hand, and that the plan by turns that lead is the plan by a look at each step.
+//! What sheets become, worked by hand; and that the plan by turns that lead is the plan by a look at each step.
 
 use crate::sheets::{PAGE, sheet};
 use cnf::NO_LIMIT;

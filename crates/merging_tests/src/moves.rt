@@ -16,13 +16,13 @@ const WITH_NEXT: Reversed = Reversed {
     other: Other::Pair(NEXT),
 };
 
-/// The same with that of the item behind it.
+/// The first pair of a sheet with the first pair of the item after the next one.
 const WITH_THIRD: Reversed = Reversed {
     moved: FIRST,
     other: Other::Pair(THIRD),
 };
 
-/// The same with the next item, which is kept.
+/// The first pair of a sheet with the next item, a kept one.
 const WITH_KEPT: Reversed = Reversed {
     moved: FIRST,
     other: Other::Kept(1),

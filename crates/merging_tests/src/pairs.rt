@@ -40,7 +40,7 @@ fn pairs_stand_last(rt: HostRuntime) {
     }
 }
 
-/// Where the last pair of a sheet stands in another one.
+/// Where the last pair of a sheet is in another one.
 fn found(rt: &impl Abort, alloc: Global, old: &Sheet, new: &Sheet) -> Option<[usize; 3]> {
     let pairs = last_pairs(alloc, None, &old.items).expect(rt, "memory");
     let list = last_pairs(alloc, None, &new.items).expect(rt, "memory");
@@ -51,7 +51,7 @@ fn found(rt: &impl Abort, alloc: Global, old: &Sheet, new: &Sheet) -> Option<[us
     place
 }
 
-/// A source, and where its last pair stands in the sheet of `.a{top:0}.b,.a{top:1px}`.
+/// A source, and where its last pair is in the sheet of `.a{top:0}.b,.a{top:1px}`.
 const FOUND: [(&str, Option<[usize; 3]>); 5] = [
     (".b{top:1px}", Some([1, 0, 0])),
     ("@x;.c,.a{top:1px}", Some([1, 1, 0])),

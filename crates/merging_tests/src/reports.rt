@@ -4,7 +4,7 @@ use crate::sheets::{DOWN, UP};
 use report_text::report;
 use step_laws::{BlockCause, Step};
 
-/// How many items and bytes were read and written, how many steps were taken, which are blocked, and the report.
+/// How many items and bytes were read and written, how many steps were taken, the blocked steps, and the report.
 const ROWS: [(
     (u32, u32),
     (u64, u64),

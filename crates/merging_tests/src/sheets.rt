@@ -68,7 +68,7 @@ pub(crate) const THIRD: PairPlace = PairPlace { item: 2, ..FIRST };
 /// A step that joins the third item's rule into the first one's.
 pub(crate) const UP: Step = Step::JoinSelUp { upper: 0, lower: 2 };
 
-/// The other way round.
+/// A step that joins the first item's rule into the third one's.
 pub(crate) const DOWN: Step = Step::JoinSelDown { upper: 0, lower: 2 };
 
 /// The sheet of a source.

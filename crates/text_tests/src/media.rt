@@ -1,4 +1,4 @@
-//! Which blocks of media are opened, and how a sheet is printed in which they are.
+//! Which blocks of media are opened, and how a sheet with opened blocks is printed.
 
 ghost use Rattle.std.specs.Prelude.{◌≡◌, map, IfOk};
 ghost use Rattle.media_groups.specs.declared.media.Media.{Media as SpecMedia};
@@ -10,7 +10,7 @@ use std::alloc::{AllocError, Global};
 use std::process::Abort;
 use std::test::Fail;
 
-/// Each source, and of each block that is opened which item it is, and where its head and its body begin and end.
+/// Each source with its opened blocks: the number of the item, and where its head and its body begin and end.
 #[test]
 fn opens_blocks(rt: HostRuntime) -> Result<(), Fail> {
     for (source, blocks) in [

@@ -1,4 +1,4 @@
-//! The An+B notation, the positions that it stands for, and how far a gap between siblings has to be looked at.
+//! The An+B notation, its positions, and how far a gap between siblings has to be looked at.
 
 use css_model::AnB;
 use nth_positions::{AnbFault, Bounds, bounds, member, read_anb, reduce};

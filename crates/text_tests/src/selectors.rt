@@ -83,7 +83,7 @@ fn reads_up_to_each_limit(rt: HostRuntime) -> Result<(), Fail> {
     Ok(())
 }
 
-/// The parts of a selector stand from right to left, and its names are in lower case.
+/// The parts of a selector come from right to left, and its names are in lower case.
 #[test]
 fn reads_each_part(rt: HostRuntime) -> Result<(), Fail> {
     let selector = selector(&rt, rt.alloc(), "A[B|=c]>:not(:hover)+#d::after");

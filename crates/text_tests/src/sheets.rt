@@ -1,8 +1,13 @@
 //! Small sheets of every kind, with what each is read as.
 //!
-//! An item is written by its kind. A rule: the places of its selectors, and of each declaration the places of its name
-//! and of its value, the property and the value. A kept rule: its place, the reason and the declarations. A kept block:
-//! its place. `!` stands for importance. A fault is written as it is displayed.
+//! An item is written by its kind:
+//!
+//! - A rule: the places of its selectors, and of each declaration the places of its name and of its value, the property
+//!   and the value.
+//! - A kept rule: its place, the reason and the declarations.
+//! - A kept block: its place.
+//!
+//! `!` is written for importance. A fault is written as it is displayed.
 
 use css_model::{Decl, Item};
 use sheet_read::{SheetError, read_sheet};
@@ -192,7 +197,7 @@ const ITEMS: [(&str, &str); 24] = [
     ("@a<!--;", "block 0-7"),
 ];
 
-/// What `@import` does to what stands before it.
+/// What `@import` does to what comes before it.
 const IMPORTS: [(&str, &str); 11] = [
     (
         "@import \"x\";a{top:0}",

@@ -6,8 +6,8 @@ use css_tokens::{NotUtf8, Tokens, decode, ends_open, is_named};
 use std::process::Abort;
 use std::test::Fail;
 
-/// A source, its tokens, and the fault behind them. A token is given by its kind, where it begins and ends, and
-/// whether a comment ends where it begins.
+/// A source, its tokens, and the fault after them. A token is given by its kind, where it begins and ends, and whether
+/// a comment ends where it begins.
 type Row<'a> = (
     &'a [u8],
     &'a [(TokenKind, u32, u32, bool)],
@@ -175,7 +175,7 @@ const URLS: [Row<'static>; 9] = [
     (b"url( ", &[], Some(TokenFault::EndInside { at: 0 })),
 ];
 
-/// A byte order mark, which is skipped in a sheet alone.
+/// A byte order mark: only at the start of a sheet is it skipped.
 const MARKED: [Row<'static>; 2] = [
     (b"\xEF\xBB\xBFb", &[(TokenKind::Ident, 0, 4, false)], None),
     (b"\xEF\xBB\xBFb", &[(TokenKind::Ident, 3, 4, false)], None),

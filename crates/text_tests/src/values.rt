@@ -1,4 +1,4 @@
-//! Copies of values, and what tells them apart.
+//! Copies of values, and what makes them differ.
 
 use crate::reading::{selector, sheet, text};
 use css_model::{Example, Family};
