@@ -120,7 +120,7 @@ fn is_without_white(text: &[char]) -> bool
 fn is_white(c: char) -> bool
     ensures { result ≡ is_white c }
 {
-    // Most code points stand behind the space, so that one comparison tells them apart.
+    // Most code points are greater than the space: one comparison decides.
     c <= ' ' && matches!(c, ' ' | '\t' | '\n' | '\r' | '\u{c}')
 }
 

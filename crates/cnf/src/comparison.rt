@@ -54,7 +54,7 @@ fn is_out_of_reach(digits: usize, bound: u32) -> bool
     digits < 32 && bound >> digits != 0
 }
 
-// The outcome of a comparison from the least digit up. None stands for "true".
+// The outcome of a comparison from the least digit up. None means "true".
 fn compare(
     alloc: Global,
     f: &mut Formula,

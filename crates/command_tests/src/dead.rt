@@ -20,7 +20,7 @@ const ROWS: &[Row] = &[
         "",
     ),
     ("cssmin dead", b"@x;", Status::Done, "", ""),
-    // What is kept as it stands counts as an item.
+    // What is kept counts as an item.
     (
         "cssmin dead",
         b"@x;p::before{top:0}",

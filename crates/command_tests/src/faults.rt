@@ -42,7 +42,7 @@ const ENDS: &[(&str, Outside<'static>, End<'static>)] = &[
         },
         (Status::WriteFault, 0, b"a{col", b"write fault\n"),
     ),
-    // After a fault of the report alone the whole text stands on the output.
+    // After a fault of the report alone the whole text is on the output.
     (
         "cssmin min --report",
         Outside {
@@ -51,7 +51,7 @@ const ENDS: &[(&str, Outside<'static>, End<'static>)] = &[
         },
         (Status::WriteFault, 0, PRINTED, b"items 1 "),
     ),
-    // A status that cannot be told stays.
+    // A status that cannot be written stays.
     (
         "cssmin min",
         Outside {

@@ -53,7 +53,7 @@ const UNMERGED: &[&str] = &[
     ".a{margin:0;margin-left:1px}.b{margin:0}",
     "a{top:0}@import \"x\";a{top:0}",
     "a{top:0;&:hover{left:0}}a{left:1px}",
-    // An `@import` behind a block, and one inside it: neither block is opened.
+    // An `@import` after a block, and one inside it: neither block is opened.
     "@media print{a{top:0}b{top:0}}@import \"x\";",
     "@media print{@import \"x\";a{top:0}b{top:0}}",
 ];
@@ -102,7 +102,7 @@ const REPORTED: &[Row] = &[
         "@media print{.a{top:0}.b{top:1px}.a{top:2px}}",
         "items 4 4\nbytes 45 45\nsteps 0\nblocked JoinSelUp 1.1 1.3 meet 1.2\nblocked JoinSelDown 1.1 1.3 meet 1.2\n",
     ),
-    // A block is numbered as it stands in the text that is written.
+    // A block has its number in the text that is written.
     (
         "cssmin min --report",
         b".a{top:0}.a{top:1px}@media print{.a{top:0}.b{top:1px}.a{top:2px}}.b{top:0}.a{top:2px}",

@@ -23,7 +23,7 @@ const STYLED: &[(&[u8], &str)] = &[
         b"li{top:0}@media all{li{top:1px}}li:is(li){top:2px}",
         "kept 2\ntop:0 0,0,1\n",
     ),
-    // The sheet begins behind the first empty line, and may have more of them.
+    // The sheet begins after the first empty line, and may have more of them.
     (
         b"\n\nli{top:0}\n\n.k{--\\c4:0}",
         "kept 0\n--\u{c4}:0 0,1,0\ntop:0 0,0,1\n",

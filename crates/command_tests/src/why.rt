@@ -54,7 +54,7 @@ const ROWS: &[Row] = &[
         "blocked\n.a{top:2px}\n.b{top:1px}\nchild 0 pseudo none\n0 1 - x\n1 1 * x class=a%20b\n",
         "",
     ),
-    // The nearest one is told, and a place is given back.
+    // The nearest one is the answer, and a place is given back.
     (
         "cssmin why 4 1",
         b".a{top:0}.b{top:1px}.a.c{top:2px}.d{top : 3px !important;top:4px}",

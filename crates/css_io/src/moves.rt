@@ -117,7 +117,7 @@ pub fn write_all<O: Sink>(out: &mut O, bytes: &[u8]) -> Result<(), WriteFault>
         × HasAdded (take n bytes.now) (O.written out.old) (O.written out.new)) }
     ensures later { O.faults out.old ≤ O.faults out.new }
 
-    // What fitted behind these bytes fits now.
+    // What fitted after these bytes fits now.
     ensures more { OnOk result ((behind : List ℕ) → O.fits out.old (bytes.now ++ behind)
         → O.fits out.new behind) }
 {

@@ -22,14 +22,14 @@ impl fmt::Display for Failed {
 
 /// Where bytes come from.
 pub trait Source {
-    // The bytes still to come, where the source tells them.
+    // The bytes still to come, where they are known.
     ghost left: { Self → Option (List ℕ) };
 
     // How often reading failed. It never falls, and stays at 18,446,744,073,709,551,615.
     ghost faults: { Self → ℕ };
 
-    // That one read may lead from a state to another with this answer. Reading all is told by it,
-    // read by read, also over a source that does not tell its bytes.
+    // That one read may lead from a state to another with this answer. It decides what reading all does, read by
+    // read, also over a source whose bytes are not known.
     ghost read_gives: { Self → Result ℕ Failed → Self → Type 0 };
 
     /// Reads into the front of `into`, and answers how many bytes that were.
@@ -46,7 +46,7 @@ pub trait Source {
 
 /// Where bytes go to.
 pub trait Sink {
-    // The bytes taken so far, where the sink tells them.
+    // The bytes taken so far, where they are known.
     ghost written: { Self → Option (List ℕ) };
 
     // How often writing failed. It never falls, and stays at 18,446,744,073,709,551,615.
@@ -63,7 +63,7 @@ pub trait Sink {
         ensures later { faults self.old ≤ faults self.new }
         ensures cause { OnErr result (Rose (faults self.old) (faults self.new)) }
 
-        // The rest of the piece fits afterwards, and so does what fitted behind the piece.
+        // The rest of the piece fits afterwards, and what fitted after the piece does too.
         ensures rest { IfOk result (λ n. fits self.new (drop n from.now)) }
         ensures more { IfOk result (λ n. (behind : List ℕ) → fits self.old (from.now ++ behind)
             → fits self.new (drop n from.now ++ behind)) };

@@ -137,7 +137,7 @@ pub fn run<S: Source, O: Sink, E: Sink>(
     requires out_fits { (bytes : List ℕ) → O.fits out.old bytes }
     requires err_fits { (bytes : List ℕ) → E.fits err.old bytes }
 
-    // Exactly words without a form are refused; else what they ask for was done, and what came of it was told.
+    // Exactly words without a form are refused; otherwise what they ask for was done, and its outcome was written.
     ensures ran { Ran (map string_bytes words.now.items) result
         (change_of S.left S.faults input.old input.new)
         (change_of O.written O.faults out.old out.new)

@@ -33,7 +33,7 @@ pub(crate) trait Task {
     // The text and the report that are made of the bytes that were read, and the answers that are held then.
     ghost makes: { Self → List ℕ → List ℕ → List ℕ → Option PairsParts → Type 0 };
 
-    // Which bytes are refused, by the status that tells it.
+    // Which bytes are refused, by the status that says so.
     ghost refuses: { Self → Status → List ℕ → Type 0 };
 
     /// The most bytes that an input may have.

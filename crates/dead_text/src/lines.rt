@@ -49,7 +49,7 @@ pub fn dead_lines(alloc: Global, pairs: &mut Pairs, source: &[u8]) -> Result<Vec
     ensures tells { IfOk result (λ text. spec.TellsOf pairs.new source.now text.items) }
     ensures err { IfErr result (λ e. Refuses e (sheet_of source.now)) }
 {
-    // Laws that the contract stands on; they do nothing.
+    // Laws that the contract needs; they do nothing.
     read_is_sound();
     selectors_are_in_the_profile();
     let sheet = read_sheet(alloc, source)?;

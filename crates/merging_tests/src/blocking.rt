@@ -65,7 +65,7 @@ const ROWS: [(&str, Step, Option<(PairPlace, Other)>); 14] = [
     (".a{top:0}:is(b){color:red}.a{top:2px}", UP, None),
     // no element is a link that is visited and one that is not
     ("a:link{top:0}a:visited{top:1px}a:link{top:2px}", UP, None),
-    // the pair stands again behind
+    // the pair occurs again further down
     (".a{top:0}.b{top:1px}.a{top:2px}.a{top:2px}", UP, None),
     // so does the other one
     (".a{top:0}.b{top:1px}.a{top:2px}.b{top:1px}", UP, None),

@@ -91,7 +91,7 @@ const ROWS: [(&str, &str, u32, u32, u32); 20] = [
         2,
         1,
     ),
-    // These stay as they stand.
+    // These stay as they are.
     ("", "", 0, 0, 0),
     (
         ".a{top:0}.b{top:1px}.a{top:2px}",

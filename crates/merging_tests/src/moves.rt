@@ -108,7 +108,7 @@ const STEPS: [(&str, Step, usize); 12] = [
         Step::JoinSelUp { upper: 2, lower: 3 },
         0,
     ),
-    // nor do pairs that stand again behind
+    // nor do pairs that occur again further down
     (".a{top:0}.b{top:1px}.a{top:2px}.b{top:1px}", UP, 0),
     (
         ".a{top:0}.b{top:1px}.c{top:0}",
@@ -132,7 +132,7 @@ const STEPS: [(&str, Step, usize); 12] = [
         Step::Share { upper: 0, lower: 1 },
         1,
     ),
-    // the pair stands in the first item afterwards
+    // the pair is in the first item afterwards
     (
         ".a{top:0}.b{top:1px}.a{top:0}",
         Step::CutDecl { item: 2, decl: 0 },
@@ -183,7 +183,7 @@ fn reversed_afterwards(
 
 /// A source, a step, and a step of the sheet after it, which reverses the pair that it moves and one more.
 const CHANGED: [(&str, Step, Step); 7] = [
-    // the pair that is cut stands above afterwards
+    // the pair that is cut is above afterwards
     (
         ".c{top:3px}.a{top:0}.c{top:4px}.a{top:0}",
         Step::CutDecl { item: 3, decl: 0 },
@@ -194,7 +194,7 @@ const CHANGED: [(&str, Step, Step); 7] = [
         Step::CutSel { item: 3, sel: 0 },
         UP,
     ),
-    // the items behind have smaller numbers
+    // the items after it have smaller numbers
     (
         ".b{left:0}.a{top:0}.a{top:1px}.c{top:2px}.a{top:3px}",
         Step::JoinSelUp { upper: 1, lower: 2 },

@@ -22,7 +22,7 @@ const LISTS: [(&str, &[[usize; 3]]); 6] = [
         ".a,.b,.a{top:0;left:0;top:0}.b{left:0}",
         &[[0, 0, 1], [0, 0, 2], [0, 1, 2], [1, 0, 0]],
     ),
-    // importance tells declarations apart
+    // importance makes declarations differ
     (".a{top:0!important}.a{top:0}", &[[0, 0, 0], [1, 0, 0]]),
     // kept items have no pairs
     ("@x;.a{top:0}a::x{top:0}", &[[1, 0, 0]]),

@@ -51,7 +51,7 @@ pub(crate) fn count_pairs(alloc: Global, source: &[u8]) -> Result<Counts, SheetE
     ensures counts { IfOk result (spec.IsCount source.now) }
     ensures refuses { IfErr result (λ e. Refuses e (sheet_of source.now)) }
 {
-    // Laws that the contract stands on; they do nothing.
+    // Laws that the contract needs; they do nothing.
     read_is_sound();
     selectors_are_in_the_profile();
     let sheet = read_sheet(alloc, source)?;

@@ -17,7 +17,7 @@ use std::marker::Model;
 #[derive(Debug, Drop)]
 pub struct Arena {
     vars: u32,
-    // the clauses, one behind the other; the first word is of no clause, so that 0 ends a list
+    // the clauses, one after the other; the first word is of no clause, so that 0 ends a list
     words: Vec<usize>,
     // under each literal's number the first clause of its list, or 0
     firsts: Vec<usize>,

@@ -5,7 +5,7 @@ ghost use Rattle.sat_arena.specs.Words.{clause_words};
 
 use cnf::Lit;
 
-// Where the parts of a clause stand, counted from its first word, which is its first watch.
+// Where the parts of a clause are, counted from its first word, its first watch.
 
 /// The link of the first watch: where the next clause in the list of this begins, or 0.
 pub(crate) const ONE_LINK: usize = 1;

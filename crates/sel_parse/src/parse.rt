@@ -91,7 +91,7 @@ fn tokens_of<'a>(alloc: Global, text: &'a [u8]) -> Result<SelectorTokens<'a>, Al
     ensures tokens { IfOk result (λ r. r.tokens.items ≡ spec.tokens_of text.now (tokens text.now false).tokens) }
     ensures fault { IfOk result (λ r. r.ends_in_fault ≡ is_some (tokens text.now false).fault) }
 {
-    // A law that the places of the tokens stand on; it does nothing.
+    // A law that the places of the tokens need; it does nothing.
     tokens_restart();
     let mut reader = Tokens::from_place(text, 0);
     let mut tokens = Vec::new(alloc);

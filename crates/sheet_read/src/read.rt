@@ -290,7 +290,7 @@ fn too_many_pairs(items: &[Item]) -> Option<u32>
 pub fn read_sheet(alloc: Global, source: &[u8]) -> Result<Sheet, SheetError>
     ensures { Answers (λ s. s.items) result (sheet_of source.now) }
 {
-    // A law that the places of the tokens stand on; it does nothing.
+    // A law that the places of the tokens need; it does nothing.
     tokens_cover();
     if source.len() > MAX_BYTES as usize {
         return Err(SheetError::Fault(SheetFault {

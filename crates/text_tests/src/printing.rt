@@ -20,8 +20,8 @@ fn prints_sheets(rt: HostRuntime) -> Result<(), Fail> {
             b"a,./**/b{top : 0;left:1px! important} a,./**/b{top : 0;left:1px! important}",
             b"a,.b{top:0;left:1px!important}a,.b{top:0;left:1px!important}",
         ),
-        // Each kind of space between two tokens of a kept item: nothing, comments, and white space; behind a token that
-        // ends in an open escape; and behind a backslash that begins no escape.
+        // Each kind of space between two tokens of a kept item: nothing, comments, and white space; after a token that
+        // ends in an open escape; and after a backslash that begins no escape.
         (
             b"@m  a /* */ b/* */(c)\\31/**/ d \\\n {e}\n",
             b"@m a b/**/(c)\\31  d \\\n{e}",
