@@ -34,7 +34,7 @@ fn print_asked(
 /// | text | when |
 /// |---|---|
 /// | `disjoint` | no legal document has a target that both match |
-/// | `overlap` and a document | both match its marked element |
+/// | `overlap` and a document | it is legal, and both match its marked element |
 /// | `outside R` | they are not compared; R is the number of the reason |
 /// | `spent` | the budget of the pairs was spent first |
 ///

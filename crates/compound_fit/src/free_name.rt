@@ -7,8 +7,7 @@ use css_model::Text;
 use itoa::Buffer;
 use std::alloc::{AllocError, Global};
 
-/// The first name that is not refused, of `x` and `x` with a number from 1: `x`, `x1`, `x2` .. `AllocError` where
-/// memory runs out.
+/// The first name that is not refused, of `x` and `x` with a number from 1. `AllocError` where memory runs out.
 pub fn first_free(alloc: Global, refused: &[Text]) -> Result<Text, AllocError>
     ensures { IfOk result (λ v. IsFirstFree v refused.now) }
 {

@@ -14,15 +14,15 @@ pub fn opened_blocks_are_sheets()
     read_is_sound();
 }
 
-/// Where the kept items of a sheet stay, the same blocks are opened. The opened blocks of the sheet that was read serve
-/// to print a sheet that is made of its parts.
+/// Where the kept items of a sheet stay, with rules only where a rule was, the same blocks are opened. The opened
+/// blocks of the sheet that was read serve to print a sheet that is made of its parts.
 pub fn blocks_stay()
     ensures blocks { BlocksStay }
     ensures printed { PrintedByOldBlocks }
 {}
 
-/// Where the items of a sheet become shorter by so many bytes, and no opened body becomes longer, their text with these
-/// bodies becomes shorter by as many.
+/// Where the items of a sheet become shorter by at least so many bytes, and no opened body becomes longer, their text
+/// with these bodies becomes shorter by at least as many. A space before a byte order mark does not count.
 pub fn merged_is_no_longer()
     ensures { MergedIsNoLonger }
 {}

@@ -77,7 +77,7 @@ fn decide_by_formula(
     }
 }
 
-/// Whether no element passes both targets. Then the selectors do not meet, and the formula need not be made.
+/// Whether no legal element passes both targets. Then the selectors do not meet, and the formula need not be made.
 fn targets_clash(table: &FitTable) -> bool
     requires { AreFits table.now.fits (groups table.now.left.chain table.now.right.chain) }
     ensures { IsTrue result → TheyMeet table.now.left table.now.right → ⊥ }

@@ -14,7 +14,8 @@ pub fn steps_are_side_by_side()
     unmoved_keep_their_order();
 }
 
-/// A join or share after an edit, of two items that the edit left, comes from one of the sheet before it.
+/// A join or share after an edit, of two items that the edit left, comes from one of the sheet before it, where that
+/// sheet has room for one more item or the edit does not take it.
 pub fn steps_come_back()
     ensures { StepsComeBack }
 {}

@@ -11,7 +11,7 @@ pub fn hindered_is_blocked()
     ensures { HinderedIsBlocked }
 {}
 
-/// Each join or share of a sheet that saves waits, or is set aside with what blocks it; it is so after a step too, on
+/// Each join or share of a sheet that saves waits, or is set aside with what blocks it. It is so after a step too, on
 /// three conditions:
 ///
 /// - What waits or is set aside of other items stays, at its new numbers.

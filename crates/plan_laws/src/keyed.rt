@@ -8,8 +8,8 @@ pub fn keys_are_order()
     ensures { KeysAreOrder }
 {}
 
-/// A pair whose last key stays is reversed with one whose last key changes, exactly where its key is between the old
-/// and the new one.
+/// A pair whose last key stays is reversed with one of another declaration whose last key changes, exactly where its
+/// key is between the old and the new one.
 pub fn turns_where_between()
     ensures { TurnsWhereBetween }
 {}

@@ -26,7 +26,8 @@ pub fn edits_commute()
     ensures { EditsCommute }
 {}
 
-/// A join or a share of two rules that an edit leaves is one after it too, with new numbers.
+/// A join or a share of two rules that an edit leaves is one after it too, with new numbers, where the edit does not
+/// take the room for one more item.
 pub fn joins_stay()
     ensures { JoinsStay }
 {}

@@ -18,13 +18,13 @@ pub fn other_rules_do_not_count()
 {}
 
 /// What is reversed by an edit is reversed by one of another sheet, where the items with the two pairs are the same
-/// before both and after both.
+/// before both and after both, and both edits move the first pair or neither does.
 pub fn hindrances_stay()
     ensures { HindrancesStay }
 {}
 
 /// A pair and a kept item that are reversed by an edit are so by one of another sheet, where the items with the pair
-/// and the kept items are the same before both and after both.
+/// and the kept items are the same before both and after both, and both edits move the pair or neither does.
 pub fn kept_hindrances_stay()
     ensures { KeptHindrancesStay }
 {}
