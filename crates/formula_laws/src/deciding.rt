@@ -37,8 +37,8 @@ pub fn formula_decides_shapes()
     shapes_shrink();
 }
 
-/// The formula of two selectors of at most twelve compounds each has fewer than 2^24 variables and fewer than
-/// 2^32 clauses.
+/// The formula of two selectors of at most twelve compounds each has fewer than 2^24 variables and fewer than 2^32
+/// clauses. A compound has at most 64 simple selectors, and the numbers at most 25 digits.
 pub fn formula_is_small()
     ensures { FormulaIsSmall }
 {}

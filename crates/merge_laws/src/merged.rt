@@ -8,8 +8,8 @@ use print_laws::{printed_is_no_longer, printed_reads_back, printed_reads_back_as
 use sheet_laws::read_is_sound;
 use step_laws::{each_is_made_of_itself, steps_make_of};
 
-/// Where steps lead from a sound sheet is made of its parts, with its kept items in their places and no more items than
-/// a sheet may have.
+/// The sheet to which steps lead from a sound one is made of its parts, with its kept items in their places, where that
+/// one has no more items than a sheet may have.
 pub fn leading_makes_of()
     ensures { LeadingMakesOf }
 {

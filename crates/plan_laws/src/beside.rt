@@ -5,7 +5,8 @@ ghost use Rattle.plan_laws.specs.Wall.SideBySide.{SavingsGoOn, StepsAreSideBySid
 use order_laws::unmoved_keep_their_order;
 use step_laws::{cuts_rearrange, steps_rearrange, steps_weigh};
 
-/// A step, and a join or share that takes none of its items, are side by side: each may be taken after the other.
+/// A step, and a join or share that takes none of its items, are side by side, where neither takes the room for one
+/// more item: each may be taken after the other.
 pub fn steps_are_side_by_side()
     ensures { StepsAreSideBySide }
 {

@@ -3,7 +3,8 @@
 ghost use Rattle.rule_tables.specs.Cutting.{DeclCutsAreTold, SelectorCutsAreTold};
 ghost use Rattle.rule_tables.specs.StepPartners.{LabelledRulesStand, RulesAreLabelled, StepsHavePartners};
 
-/// The rules of a step of two rules can be partners, each of the other one.
+/// The rules of a step of two rules can be partners, each of the other one, where the upper one has a selector and a
+/// declaration.
 pub fn steps_have_partners()
     ensures { StepsHavePartners }
 {}
@@ -19,13 +20,13 @@ pub fn labelled_rules_stand()
 {}
 
 /// A declaration of a rule can be cut exactly where it is in the rule again, or each of its pairs is in a rule with
-/// another label.
+/// another label. Each item has a label of its own.
 pub fn decl_cuts_are_told()
     ensures { DeclCutsAreTold }
 {}
 
 /// A selector of a rule can be cut exactly where it is in the rule again, or each of its pairs is in a rule with
-/// another label.
+/// another label. Each item has a label of its own.
 pub fn selector_cuts_are_told()
     ensures { SelectorCutsAreTold }
 {}

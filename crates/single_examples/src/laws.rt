@@ -4,7 +4,8 @@ ghost use Rattle.single_examples.specs.Laws.{ExamplesShowMeeting, MeetingPasses}
 
 use shape_laws::{selectors_that_meet_have_a_shape, shapes_show_meeting};
 
-/// The example for two selectors of one compound each shows that they meet.
+/// The example for two selectors of one compound each shows that they meet. All types and attributes have names, and
+/// `:empty` is not asked for beside its negation.
 pub fn examples_show_meeting()
     ensures { ExamplesShowMeeting }
 {

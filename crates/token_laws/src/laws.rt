@@ -31,8 +31,9 @@ pub fn solids_are_lexemes()
 {}
 
 /// The kept text of tokens that follow one another in a text, and the text of a value, are read back as the same
-/// tokens. An open token before white space has a white space of its own there. It holds also before a sign, and after
-/// a sign before any token. Neither is longer than the text, and kept again each is the same.
+/// tokens, where the last one is no function. An open token before white space has a white space of its own there. It
+/// holds also before a sign, and after a sign before any token. Neither is longer than the text, and kept again each is
+/// the same.
 pub fn kept_text_is_read_back()
     ensures kept { KeptReadsBack }
     ensures value { ValueReadsBack }
