@@ -19,7 +19,7 @@ use memchr::memmem;
 use std::alloc::{AllocError, Global};
 
 /// Whether a value passes each test as it is asked (Selectors 3, sections 6.3.1, 6.3.2 and 6.6.7). A test with the flag
-/// true has to hold, one with the flag false has not to hold. The value is a list of code points. The names in the
+/// true has to hold, one with the flag false must not hold. The value is a list of code points. The names in the
 /// tests do not count. `AllocError` where memory runs out.
 pub fn passes_as_asked(
     alloc: Global,
