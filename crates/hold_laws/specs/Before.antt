@@ -1,4 +1,4 @@
--- Steps of a sheet behind another one, which were steps of it before.
+-- Steps of a sheet after another one, which were steps of it before.
 use Rattle.std.specs.Prelude.{◌≡◌, ◌↔◌, ℕ, ◌<◌, List, length}
 use Rattle.std.specs.List.{remove}
 use Rattle.css_model.specs.declared.sheet.Item.{Item}
@@ -12,13 +12,12 @@ use Rattle.plan_laws.specs.Wall.Holding.{HasRoom}
 use Rattle.plan_laws.specs.Wall.Renumbering.{Leaves, new_number, renumbered, renumbered_edit, IsOfOthers, IsOfTwo}
 use Rattle.plan_laws.specs.Wall.SideBySide.{HasCome}
 
--- No step puts a pair where it did not stand: beside an item that the step left, a pair stands elsewhere only
--- where it did so before.
+-- No step puts a pair into the items beside one that it left, if none of them had the pair before.
 abbrev pub NoStepAddsPairs : Type 0
 NoStepAddsPairs = (items : List Item) (j : Step) (d : Edit) → IsStep items j d → (n : ℕ) → Leaves d n → n < length items → (p : Pair) →
     HasPair (remove (edited d items) (new_number d items n)) p → HasPair (remove items n) p
 
--- A step behind an edit was one of the sheet before, of items that the edit left, and saved the same.
+-- A step after an edit was one of the sheet before, of items that the edit left, and saved the same.
 pub record HasBeen (source : List ℕ) (items : List Item) (d : Edit) (k' : Step) (e' : Edit) : Type 0 where
   pub step : Step
   pub edit : Edit
@@ -28,12 +27,12 @@ pub record HasBeen (source : List ℕ) (items : List Item) (d : Edit) (k' : Step
   pub edit_is : e' ≡ renumbered_edit (new_number d items) edit
   pub saves : (n : ℕ) → Saves source items edit n ↔ Saves source (edited d items) e' n
 
--- A cut behind a step, of a rule that the step left, was one of the sheet before.
+-- A cut after a step, of a rule that the step left, was one of the sheet before.
 abbrev pub CutsHaveBeen : Type 0
 CutsHaveBeen = (source : List ℕ) (items : List Item) (j : Step) (d : Edit) (k' : Step) (e' : Edit) → IsStep items j d → IsSound source items →
     (IsOfTwo k' → ⊥) → IsStep (edited d items) k' e' → HasCome d items (first_item k') → HasBeen source items d k' e'
 
--- And so was each step of rules that it left.
+-- Each step of items that a step left was one of the sheet before.
 abbrev pub StepsHaveBeen : Type 0
 StepsHaveBeen = (source : List ℕ) (items : List Item) (j : Step) (d : Edit) (k' : Step) (e' : Edit) → IsStep items j d → IsSound source items → HasRoom items →
     IsStep (edited d items) k' e' → HasCome d items (first_item k') → HasCome d items (last_item k') → HasBeen source items d k' e'

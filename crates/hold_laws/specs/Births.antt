@@ -1,4 +1,4 @@
--- Births: a number beside each item of a sheet, by which items are told apart while they come and go.
+-- Births: a number beside each item of a sheet, which tell items apart while they come and go.
 use Rattle.std.specs.Prelude.{◌≡◌, ◌≢◌, ◌⊎◌, ℕ, ◌<◌, ◌≤◌, nat_lt, if◌then◌else◌, List, Some, length, slice_get, slice_index}
 use Rattle.std.specs.List.{All, AllPairs}
 use Rattle.css_model.specs.declared.sheet.Item.{Item}
@@ -14,7 +14,7 @@ pub record AreBirths (items : List Item) (births : List ℕ) (next : ℕ) : Type
   pub differ : AllPairs (λ b c. b ≢ c) births
   pub past : All (λ b. b < next) births
 
--- Behind an edit each item that it left has its birth, and each other one was born from `next` on.
+-- After an edit each item that it left has its birth, and each other one was born from `next` on.
 pub record AreBornBehind (items : List Item) (d : Edit) (births births' : List ℕ) (next : ℕ) : Type 0 where
   pub beside : length births' ≡ length (edited d items)
   pub kept : (n b : ℕ) → Leaves d n → slice_get births n ≡ Some b → slice_get births' (new_number d items n) ≡ Some b
@@ -33,13 +33,13 @@ abbrev pub OwnersStay : Type 0
 OwnersStay = (items : List Item) (d : Edit) (births births' : List ℕ) (next : ℕ) → AreBirths items births next → AreBornBehind items d births births' next →
     (k : Step) (e : Edit) → IsStep items k e → IsOfOthers d k → owner births' (renumbered (new_number d items) k) ≡ new_number d items (owner births k)
 
--- Where the owner of a step behind an edit was born before it, the step is of items that the edit left.
+-- Where the owner of a step after an edit was born before it, the step is of items that the edit left.
 abbrev pub OldOwnersHaveCome : Type 0
 OldOwnersHaveCome = (items : List Item) (d : Edit) (births births' : List ℕ) (next : ℕ) → AreBornBehind items d births births' next →
     (k' : Step) (e' : Edit) → IsStep (edited d items) k' e' → slice_index births' (owner births' k') < next →
     HasCome d items (first_item k') × HasCome d items (last_item k')
 
--- An item behind an edit with the birth of one before it is that one, which was left.
+-- An item after an edit with the birth of one before it is that one, which was left.
 abbrev pub BirthsTellItems : Type 0
 BirthsTellItems = (items : List Item) (d : Edit) (births births' : List ℕ) (next : ℕ) → AreBirths items births next → AreBornBehind items d births births' next →
     (m n b : ℕ) → slice_get births n ≡ Some b → slice_get births' m ≡ Some b → Leaves d n × (new_number d items n ≡ m)

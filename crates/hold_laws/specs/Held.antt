@@ -19,7 +19,7 @@ abbrev pub StepsAreHeld : List Answered → List ℕ → List Item → (ℕ → 
 StepsAreHeld answers source items waits aside = (k : Step) (e : Edit) (n : ℕ) → IsStep items k e → Saves source items e n → 0 < n →
     (waits n k ≡ true) ⊎ ((h : Hindrance) × Contains aside (record { turn = turn_of n k; by = h }) × Hinders answers items e h)
 
--- What is held is carried over to the sheet behind an edit. Of the steps that go on, those that waited wait at
+-- What is held is carried over to the sheet after an edit. Of the steps that go on, those that waited wait at
 -- their new numbers, and those that were set aside still are, or wait where the edit moves a pair of what
 -- blocks them. And each step of an item that the edit did not leave waits.
 pub record IsCarriedOver (source : List ℕ) (items : List Item) (d : Edit) (waits : ℕ → Step → Bool) (aside : List Aside) (waits' : ℕ → Step → Bool) (aside' : List Aside) : Type 0 where
@@ -29,7 +29,7 @@ pub record IsCarriedOver (source : List ℕ) (items : List Item) (d : Edit) (wai
   pub made : (k' : Step) (e' : Edit) (n : ℕ) → IsStep (edited d items) k' e' → Saves source (edited d items) e' n → 0 < n →
       (HasCome d items (first_item k') × HasCome d items (last_item k')) ⊎ (waits' n k' ≡ true)
 
--- Where the steps of a sheet are held, so are those behind a step, once what is held is carried over.
+-- Where the steps of a sheet are held, so are those after a step, once what is held is carried over.
 abbrev pub StepsHeldGoOn : Type 0
 StepsHeldGoOn = (answers : List Answered) (source : List ℕ) (items : List Item) (j : Step) (d : Edit) (waits : ℕ → Step → Bool) (aside : List Aside) (waits' : ℕ → Step → Bool) (aside' : List Aside) →
     IsStep items j d → IsSound source items → HasRoom items → IsCarriedOver source items d waits aside waits' aside' →

@@ -61,9 +61,9 @@ StartIsHeld = (answers : List Answered) (source : List ℕ) (items : List Item) 
 abbrev pub LabelsStay : List Item → Edit → List ℕ → List ℕ → Type 0
 LabelsStay items d labels labels' = (n l : ℕ) → Leaves d n → slice_get labels n ≡ Some l → slice_get labels' (new_number d items n) ≡ Some l
 
--- What is held of a sheet, and what of the one behind an edit. The items that the edit left keep their labels
+-- What is held of a sheet, and what of the one after an edit. The items that the edit left keep their labels
 -- and births, and all turns that led lead. Of what was set aside that stays which the edit does not
--- touch, and any other step that goes on is led. The steps of owners that were born behind the edit are led.
+-- touch, and any other step that goes on is led. The steps of owners that were born after the edit are led.
 pub record GoesOver (source : List ℕ) (items : List Item) (d : Edit) (h h' : Holding) : Type 0 where
   pub births : AreBirths (edited d items) h'.births h'.next
   pub labels : AreLabels (edited d items) h'.labels
@@ -77,12 +77,12 @@ pub record GoesOver (source : List ℕ) (items : List Item) (d : Edit) (h h' : H
       Contains h'.aside (record { turn = named h.births n k; by = by }) ⊎ IsLed h' n (renumbered (new_number d items) k)
   pub untouched : (a : Aside) → Contains h'.aside a → Contains h.aside a × IsUntouched d a.by
 
--- A turn that leads a step leads it behind an edit of other items, too.
+-- A turn that leads a step leads it after an edit of other items, too.
 abbrev pub LeadsGoOn : Type 0
 LeadsGoOn = (items : List Item) (d : Edit) (h h' : Holding) → AreBirths items h.births h.next → AreLabels items h.labels → AreBornBehind items d h.births h'.births h.next →
     LabelsStay items d h.labels h'.labels → (k : Step) (e : Edit) → IsStep items k e → IsOfOthers d k → (l : Lead) (n : ℕ) → IsLeadOf h l n k → IsLeadOf h' l n (renumbered (new_number d items) k)
 
--- What is held goes over to the sheet behind a step.
+-- What is held goes over to the sheet after a step.
 abbrev pub HeldGoesOver : Type 0
 HeldGoesOver = (answers : List Answered) (source : List ℕ) (items : List Item) (j : Step) (d : Edit) (h h' : Holding) → IsStep items j d → IsSound source items → HasRoom items →
     GoesOver source items d h h' → IsHeld answers source items h → IsHeld answers source (edited d items) h'

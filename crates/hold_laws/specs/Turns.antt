@@ -1,4 +1,4 @@
--- The order of turns, and turns that name their items by what stands beside them.
+-- The order of turns, and turns that name their items by numbers beside them.
 use Rattle.std.specs.Prelude.{◌≡◌, ◌≢◌, ◌⊎◌, ◌↔◌, ℕ, ◌<◌, ◌≤◌, List, length, slice_index}
 use Rattle.std.specs.List.{AllPairs}
 use Rattle.css_model.specs.declared.sheet.Item.{Item}

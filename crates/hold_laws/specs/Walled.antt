@@ -1,4 +1,4 @@
--- What walls hinder, and walls and floors behind a step: they stay while no step moves one of their pairs.
+-- What walls hinder, and walls and floors after a step: they stay while no step moves one of their pairs.
 use Rattle.std.specs.Prelude.{◌≡◌, ℕ, suc, ◌+◌, ◌<◌, false, List, ◌++◌, length, take}
 use Rattle.std.specs.List.{Contains}
 use Rattle.css_model.specs.declared.sheet.Item.{Item}
@@ -18,25 +18,25 @@ use Rattle.hold_laws.specs.declared.way.Way.TheVariants.{Up, Down}
 use Rattle.hold_laws.specs.Scopes.{IsDown, IsUp}
 use Rattle.hold_laws.specs.Ways.{mover, partner, IsMove, IsPast}
 
--- Of a sheet in two parts what becomes of the upper one behind an edit, and of the first ones of the lower one.
+-- Of a sheet in two parts what becomes of the upper one after an edit, and of the first ones of the lower one.
 abbrev pub above_behind : Edit → List Item → List Item
 above_behind d above = new_items (slots_from 0 d.changes above)
 
 abbrev pub below_behind : Edit → List Item → List Item → List Item
 below_behind d above below = new_items (slots_from (length above) d.changes below)
 
--- The sheet behind the edit is in two parts, too, and an item of the lower one has its new number there.
+-- The sheet after the edit is in two parts, too, and an item of the lower one has its new number there.
 abbrev pub PartsStay : Type 0
 PartsStay = (d : Edit) (above below : List Item) → (edited d (above ++ below) ≡ above_behind d above ++ below_behind d above below)
     × ((y : ℕ) → new_number d (above ++ below) (length above + y) ≡ length (above_behind d above) + length (below_behind d above (take y below)))
 
--- A wall is one behind a step that leaves its rule and moves none of its two pairs.
+-- A wall is one after a step that leaves its rule and moves none of its two pairs.
 abbrev pub WallsGoOn : Type 0
 WallsGoOn = (above below : List Item) (j : Step) (d : Edit) → IsStep (above ++ below) j d → (y : ℕ) (lower : RuleParts) (p q : Pair) → Leaves d (length above + y) →
     is_moved d.moved p ≡ false → is_moved d.moved q ≡ false → IsWall above below y lower p q →
     IsWall (above_behind d above) (below_behind d above below) (length (below_behind d above (take y below))) lower p q
 
--- And so is a floor.
+-- A floor is one after a step that leaves its rule and moves none of its two pairs.
 abbrev pub FloorsGoOn : Type 0
 FloorsGoOn = (above below : List Item) (j : Step) (d : Edit) → IsStep (above ++ below) j d → (x : ℕ) (upper : RuleParts) (p q : Pair) → Leaves d x →
     is_moved d.moved p ≡ false → is_moved d.moved q ≡ false → IsFloor above below x upper p q →
@@ -81,7 +81,7 @@ abbrev pub IsWalledBy : Way → List Item → (m place : ℕ) → Pair → Pair 
 IsWalledBy Up items m place p q = HasWallAbove items m place p q
 IsWalledBy Down items m place p q = HasFloorBelow items m place p q
 
--- It is so behind a step that leaves both items and moves none of the two pairs.
+-- It is so after a step that leaves both items and moves none of the two pairs.
 abbrev pub WalledItemsGoOn : Type 0
 WalledItemsGoOn = (way : Way) (items : List Item) (j : Step) (d : Edit) → IsStep items j d → (m place : ℕ) (p q : Pair) → Leaves d m → Leaves d place →
     is_moved d.moved p ≡ false → is_moved d.moved q ≡ false → IsWalledBy way items m place p q →

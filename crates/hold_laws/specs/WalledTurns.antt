@@ -35,7 +35,7 @@ moves_of births by way m o n = record { turn = named births n (selector_move way
 abbrev pub walled_turns : List ℕ → Hindrance → Way → (m place count most : ℕ) → List Aside
 walled_turns births by way m place count most = flat_map (λ o. flat_map (moves_of births by way m o) (numbers_from 0 (suc most))) (numbers_past way place count)
 
--- Where a wall stands, they may be set aside: they are of items that were born, and what has such a turn is hindered.
+-- If there is a wall, they may be set aside: they are of items that were born, and what has such a turn is hindered.
 abbrev pub WalledTurnsAreBlocked : Type 0
 WalledTurnsAreBlocked = (answers : List Answered) (source : List ℕ) (items : List Item) (births : List ℕ) (next : ℕ) (way : Way) (m place : ℕ) (p q : Pair) (most : ℕ) →
     AreBirths items births next → IsWalledBy way items m place p q → AreNotApart answers p.selector q.selector →

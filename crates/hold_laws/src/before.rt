@@ -1,19 +1,18 @@
-//! Steps behind another one, which were steps before.
+//! Steps after another step that were steps before it.
 
 ghost use Rattle.hold_laws.specs.Before.{CutsHaveBeen, NoStepAddsPairs, StepsHaveBeen};
 
 use plan_laws::{items_stay, savings_go_on, steps_come_back};
 use step_laws::{steps_rearrange, steps_stay_sound};
 
-/// No step puts a pair where it did not stand: beside an item that the step left, a pair stands elsewhere only
-/// where it did so before.
+/// No step puts a pair into the items beside one that it left, if none of them had the pair before.
 pub fn no_step_adds_pairs()
     ensures { NoStepAddsPairs }
 {
     steps_rearrange();
 }
 
-/// A cut behind a step, of a rule that the step left, was one of the sheet before, and saved the same.
+/// In a sound sheet, a cut after a step, of a rule that the step left, was a step before it, and saved the same.
 pub fn cuts_have_been()
     ensures { CutsHaveBeen }
 {
@@ -23,7 +22,7 @@ pub fn cuts_have_been()
     savings_go_on();
 }
 
-/// And so was each step of rules that the step left.
+/// In a sound sheet with room, each step of items that a step left was a step before it, and saved the same.
 pub fn steps_have_been()
     ensures { StepsHaveBeen }
 {

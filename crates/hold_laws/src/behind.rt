@@ -1,4 +1,4 @@
-//! What hinders a step, behind another one.
+//! What hinders a step, after another one.
 
 ghost use Rattle.hold_laws.specs.Behind.{GoingOnIsSideBySide, HinderedGoesOn};
 
@@ -8,8 +8,7 @@ use plan_laws::{
 };
 use step_laws::steps_rearrange;
 
-/// A step that goes on behind another one, a cut too, is side by side with it: each may be taken behind the
-/// other.
+/// In a sheet with room, a step that goes on after another one is side by side with it. A cut is so, too.
 pub fn going_on_is_side_by_side()
     ensures { GoingOnIsSideBySide }
 {
@@ -20,8 +19,8 @@ pub fn going_on_is_side_by_side()
     joins_stay();
 }
 
-/// What hinders a step that goes on behind another one hinders it there, too, where that one moves no pair of
-/// what hinders.
+/// What hinders a step that goes on after another one hinders it there, too, if that one moves no pair of it.
+/// The sheet must have room.
 pub fn hindered_goes_on()
     ensures { HinderedGoesOn }
 {

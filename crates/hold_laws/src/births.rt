@@ -1,4 +1,4 @@
-//! Births, by which items are told apart.
+//! Births, which tell items apart.
 
 ghost use Rattle.hold_laws.specs.Births.{BirthsTellItems, OldOwnersHaveCome, OwnersStay};
 
@@ -7,12 +7,12 @@ pub fn owners_stay()
     ensures { OwnersStay }
 {}
 
-/// Where the owner of a step behind an edit was born before it, the step is of items that the edit left.
+/// If the owner of a step after an edit was born before the edit, the step is of items that the edit left.
 pub fn old_owners_have_come()
     ensures { OldOwnersHaveCome }
 {}
 
-/// An item behind an edit with the birth of one before it is that one, which was left.
+/// If an item after an edit has the birth of an item before it, the edit left that item, and both are one.
 pub fn births_tell_items()
     ensures { BirthsTellItems }
 {}

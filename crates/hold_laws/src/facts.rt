@@ -1,11 +1,11 @@
-//! What is known of a rule, behind a step.
+//! What is known of a rule, after a step.
 
 ghost use Rattle.hold_laws.specs.Facts.{JoinedHasNoCut, JoinedHasOwnParts, NoCutComes, OwnPartsStay};
 
 use plan_laws::items_stay;
 use step_laws::steps_rearrange;
 
-/// Of a rule that a step left, no part of which could be cut, none can be cut behind the step.
+/// If a step left a rule, and no part of the rule could be cut, none can be cut after the step.
 pub fn no_cut_comes()
     ensures { NoCutComes }
 {
@@ -13,20 +13,21 @@ pub fn no_cut_comes()
     items_stay();
 }
 
-/// A rule that a step left, and that shares no selector, or no declaration, with another one, shares none behind the
-/// step.
+/// If a step left a rule that shared no selector with another rule, it shares none after the step.
+/// The same holds of declarations.
 pub fn own_parts_stay()
     ensures { OwnPartsStay }
 {
     items_stay();
 }
 
-/// Of the rule that a join makes no part can be cut, where none of its two rules could.
+/// No part of the rule that a join makes can be cut, if no part of its two rules could.
 pub fn joined_has_no_cut()
     ensures { JoinedHasNoCut }
 {}
 
-/// And it shares no selector, or no declaration, with another rule, where its two rules did not.
+/// The rule that a join makes shares no selector with another rule, if its two rules shared none.
+/// The same holds of declarations.
 pub fn joined_has_own_parts()
     ensures { JoinedHasOwnParts }
 {}

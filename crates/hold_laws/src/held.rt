@@ -6,9 +6,10 @@ use crate::before::steps_have_been;
 use crate::behind::hindered_goes_on;
 use plan_laws::hindered_is_blocked;
 
-/// Each step of a sheet that saves waits, or is set aside with what blocks it: so it is behind a step, where
-/// what waits or is set aside of the steps that go on stays at its new numbers, where what was set aside for a
-/// moved pair waits again, and where the steps of new items wait.
+/// If each step of a sound sheet that saves waits, or is set aside with what blocks it, it is so after a step, too.
+/// The sheet must have room. The steps that go on and waited must still wait, at their new numbers. Those that were set
+/// aside must still be, or wait. If the step moves a pair of what blocks them, they must wait. The steps of new items must
+/// wait.
 pub fn steps_held_go_on()
     ensures { StepsHeldGoOn }
 {
@@ -16,13 +17,12 @@ pub fn steps_held_go_on()
     hindered_goes_on();
 }
 
-/// So it is while answers come in, and while what waited is set aside with what blocks it.
+/// Steps stay held while answers come in, and while steps that waited are set aside with what blocks them.
 pub fn steps_are_set_aside()
     ensures { StepsAreSetAside }
 {}
 
-/// Where the steps are held, and no step that waits comes before each of some turns, these turns cover the
-/// steps.
+/// If the steps are held, and no step that waits comes before all of some turns, these turns cover the steps.
 pub fn held_steps_are_covered()
     ensures { HeldStepsAreCovered }
 {

@@ -7,20 +7,22 @@ use crate::behind::hindered_goes_on;
 use crate::turns::first_turn_is_first;
 use plan_laws::{first_is_next, hindered_is_blocked, none_waits_is_done};
 
-/// Where nothing is set aside, and each owner has a turn before which no step comes, all is held.
+/// If nothing is set aside, and each item has a turn before all steps that leads those it owns, all is held.
 pub fn start_is_held()
     ensures { StartIsHeld }
 {
     first_turn_is_first();
 }
 
-/// A turn that leads a step leads it behind an edit of other items, too.
+/// A turn that leads a step leads it after an edit of other items, too.
 pub fn leads_go_on()
     ensures { LeadsGoOn }
 {}
 
-/// What is held of a sheet goes over to the one behind a step: the items that were left keep their labels,
-/// births and turns, what the step does not touch stays set aside, and the turns of new owners lead.
+/// What is held of a sound sheet with room goes over to the sheet after a step.
+/// The items that the step left must keep their labels and births. All turns that led must lead. What is set aside must
+/// have been so before, and the step must not touch it. Each other step that was set aside and goes on must be led. The
+/// steps of new owners must be led.
 pub fn held_goes_over()
     ensures { HeldGoesOver }
 {
@@ -28,14 +30,14 @@ pub fn held_goes_over()
     hindered_goes_on();
 }
 
-/// What is held of a sheet is still held where its steps are led by other turns or set aside with what blocks
-/// them, and while answers come in.
+/// All is still held if other turns lead the steps, or the steps are set aside with what blocks them.
+/// It is still held while answers come in.
 pub fn held_may_change()
     ensures { HeldMayChange }
 {}
 
-/// A free step that saves, and that comes no later than any turn that leads, is the next one. Turns that lead
-/// name items by labels, so that those of items that are gone have a place too.
+/// If all is held, a free step that saves is the next one, if no turn that leads comes before it.
+/// Turns that lead name items by labels. The turns of items that are gone have a place in the order, too.
 pub fn first_lead_is_taken()
     ensures { FirstLeadIsTaken }
 {
@@ -43,7 +45,7 @@ pub fn first_lead_is_taken()
     first_is_next();
 }
 
-/// Where no turn leads, nothing is left to do.
+/// If all is held and no turn leads, nothing is left to do.
 pub fn no_lead_is_done()
     ensures { NoLeadIsDone }
 {

@@ -1,5 +1,5 @@
-//! Laws of what a plan holds of the steps of a sheet, cuts among them, while it takes one step after the
-//! other: in the form that code needs, with a test in place of a list of what waits.
+//! Laws of what a plan holds of the steps of a sheet, cuts among them, while it takes one step after the other.
+//! They have the form that code needs: a test instead of a list of what waits.
 #![tactic(auto)]
 
 mod before;

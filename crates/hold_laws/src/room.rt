@@ -7,7 +7,7 @@ pub fn steps_add_one_item()
     ensures { StepsAddOneItem }
 {}
 
-/// Where a sheet may have two more items, no step makes it as long as one may be.
+/// A sheet that has at least two items fewer than the limit has room.
 pub fn sheets_have_room()
     ensures { SheetsHaveRoom }
 {}

@@ -5,7 +5,7 @@ ghost use Rattle.hold_laws.specs.Taken.{FreeStepIsTaken, NoTurnIsLeft};
 use crate::held::held_steps_are_covered;
 use plan_laws::{first_is_next, none_waits_is_done};
 
-/// A free step that saves, and that comes no later than any turn that leads, is the next one.
+/// If the steps are held, a free step that saves is the next one, if no turn that leads comes before it.
 pub fn free_step_is_taken()
     ensures { FreeStepIsTaken }
 {
@@ -13,7 +13,7 @@ pub fn free_step_is_taken()
     first_is_next();
 }
 
-/// Where no turn is left that leads, nothing is left to do.
+/// If the steps are held, and no turn is left that leads, nothing is left to do.
 pub fn no_turn_is_left()
     ensures { NoTurnIsLeft }
 {

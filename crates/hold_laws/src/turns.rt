@@ -1,4 +1,4 @@
-//! The order of turns, and turns that name their items by what stands beside them.
+//! The order of turns, and turns that name their items by numbers beside them.
 
 ghost use Rattle.hold_laws.specs.Turns.{FirstTurnIsFirst, LabelsTellOrder, NamesTellSteps, TurnsAreOrdered};
 
@@ -16,14 +16,14 @@ pub fn labels_tell_order()
     turns_are_ordered();
 }
 
-/// Where no two names are alike, a turn by names is that of one step, and of one edit.
+/// If no two names are alike, a turn by names is that of one step, and of one edit.
 pub fn names_tell_steps()
     ensures { NamesTellSteps }
 {
     steps_are_one_edit();
 }
 
-/// No step of a sheet comes before the first turn that saves as much as the sheet is long.
+/// No step of a sheet comes before the first turn that saves at least as many bytes as the sheet has.
 pub fn first_turn_is_first()
     ensures { FirstTurnIsFirst }
 {}

@@ -1,4 +1,4 @@
-//! What walls hinder, and walls and floors behind a step.
+//! What walls hinder, and walls and floors after a step.
 
 ghost use Rattle.hold_laws.specs.Walled.{FlooredJoinsAreHindered, FloorsGoOn, PartsStay, WalledItemsGoOn, WalledJoinsAreHindered, WalledMovesAreHindered, WallsGoOn};
 ghost use Rattle.hold_laws.specs.WalledTurns.{JoinsAreWalled, WalledTurnsAreBlocked, WalledTurnsAreMoves};
@@ -7,13 +7,12 @@ use order_laws::unmoved_keep_their_order;
 use plan_laws::{floors_hinder, walls_hinder};
 use step_laws::steps_rearrange;
 
-/// A sheet in two parts is so behind an edit, too.
+/// A sheet in two parts is in two parts after an edit, too.
 pub fn parts_stay()
     ensures { PartsStay }
 {}
 
-/// A wall is one behind a step that leaves its rule and moves none of its two pairs: so it also hinders the rule from
-/// moving up into the rules that are made above it.
+/// A wall is a wall after a step, too, if the step leaves its rule and moves neither of its two pairs.
 pub fn walls_go_on()
     ensures { WallsGoOn }
 {
@@ -22,7 +21,7 @@ pub fn walls_go_on()
     unmoved_keep_their_order();
 }
 
-/// And so is a floor.
+/// A floor is a floor after a step, too, if the step leaves its rule and moves neither of its two pairs.
 pub fn floors_go_on()
     ensures { FloorsGoOn }
 {
@@ -31,23 +30,24 @@ pub fn floors_go_on()
     unmoved_keep_their_order();
 }
 
-/// A wall hinders each join up of its rule into one above it, where the selectors of its two pairs are answered not to be
-/// apart.
+/// A wall hinders each join of its rule up into one above the wall.
+/// It does so if the selectors of its two pairs are answered not to be apart.
 pub fn walled_joins_are_hindered()
     ensures { WalledJoinsAreHindered }
 {
     walls_hinder();
 }
 
-/// A floor whose rule lacks the other pair hinders each join down of the rule into one below it, where the selectors of the
-/// two pairs are answered not to be apart.
+/// A floor whose rule lacks the other pair hinders each join of the rule down into one below the floor.
+/// It does so if the selectors of its two pairs are answered not to be apart.
 pub fn floored_joins_are_hindered()
     ensures { FlooredJoinsAreHindered }
 {
     floors_hinder();
 }
 
-/// What cannot move past an item in a way, up or down, cannot behind a step that leaves both and moves none of the two pairs.
+/// An item with a wall or a floor at another item has it after a step, too.
+/// The step must leave both items and move neither of the two pairs.
 pub fn walled_items_go_on()
     ensures { WalledItemsGoOn }
 {
@@ -56,8 +56,8 @@ pub fn walled_items_go_on()
     floors_go_on();
 }
 
-/// Each join of such an item past the other one is hindered, where the selectors of the two pairs are answered not to be
-/// apart.
+/// Each join of such an item past the other one is hindered.
+/// It is so if the selectors of the two pairs are answered not to be apart.
 pub fn walled_moves_are_hindered()
     ensures { WalledMovesAreHindered }
 {
@@ -65,20 +65,20 @@ pub fn walled_moves_are_hindered()
     floored_joins_are_hindered();
 }
 
-/// The turns of all joins that a wall hinders may be set aside at once: they are of items that were born, and each step that
-/// has one of them is hindered.
+/// The turns of all joins that a wall hinders may be set aside at once, if its selectors are answered not to be apart.
+/// They are of items that were born. Each step that saves and has one of these turns is hindered.
 pub fn walled_turns_are_blocked()
     ensures { WalledTurnsAreBlocked }
 {
     walled_moves_are_hindered();
 }
 
-/// The turn of each join past a wall that saves no more than so much is among them.
+/// The turn of each join past the wall is among them, if it saves at most a given number of bytes.
 pub fn joins_are_walled()
     ensures { JoinsAreWalled }
 {}
 
-/// What has one of these turns is a join of the wall's item in its way.
+/// Each step with one of these turns is a join in the way of the wall. Its item has the birth of the wall's item.
 pub fn walled_turns_are_moves()
     ensures { WalledTurnsAreMoves }
 {}

@@ -21,7 +21,7 @@ abbrev pub StayCovered : BoardParts → Edit → (tables later : TableParts) →
 StayCovered b e tables later = (n : ℕ) (m : Mark) (r : RuleParts) → Leaves e n → slice_get b.marks n ≡ Some m → slice_get b.items n ≡ Some (Rule r) →
     Cover tables (with_label r m.label ∷ []) → Cover later (with_label r m.label ∷ [])
 
--- Where tables cover the rules of a board, later ones cover those of the one behind an edit, if each that it leaves stays covered, and they cover each that is born now.
+-- Where tables cover the rules of a board, later ones cover those of the one after an edit, if each that it leaves stays covered, and they cover each that is born now.
 abbrev pub CoverGoesOn : Type 0
 CoverGoesOn = (old new : BoardParts) (e : Edit) (tables later : TableParts) → IsMarked old → AreKept old new e → new.items ≡ edited e old.items → Cover tables (labelled old.items (labels_of old.marks)) →
     StayCovered old e tables later →
@@ -38,7 +38,7 @@ OthersStayCovered = (b : BoardParts) (k : Step) (e : Edit) (tables later : Table
     ((rules : List Labelled) → HaveOtherLabelsThan b.marks (first_item k) rules → HaveOtherLabelsThan b.marks (last_item k) rules → Cover tables rules → Cover later rules) →
     StayCovered b e tables later
 
--- Where tables cover the rules of a board, later ones cover those of the one behind a join, if its items keep their labels but
+-- Where tables cover the rules of a board, later ones cover those of the one after a join, if its items keep their labels but
 -- the one that moves.
 abbrev pub CoverFollows : Way → BoardParts → Step → Edit → (tables later : TableParts) → Type 0
 CoverFollows way b k e tables later = (new : BoardParts) → new.items ≡ edited e b.items → labels_of new.marks ≡ remove (labels_of b.marks) (mover way k) → Cover tables (labelled b.items (labels_of b.marks)) →
@@ -56,11 +56,11 @@ CoverIsOfEach = (b : BoardParts) (tables : TableParts) →
     ((n : ℕ) (m : Mark) (r : RuleParts) → slice_get b.marks n ≡ Some m → slice_get b.items n ≡ Some (Rule r) → Cover tables (with_label r m.label ∷ [])) →
     Cover tables (labelled b.items (labels_of b.marks))
 
--- under the birth of each item stands its label
+-- the label of each item is under its birth
 abbrev pub AreHomes : List Mark → List ℕ → Type 0
 AreHomes marks homes = (n : ℕ) (m : Mark) → slice_get marks n ≡ Some m → slice_get homes m.birth ≡ Some m.label
 
--- So it is behind an edit, where the labels under earlier births stay, and those of the items that are born now stand under theirs.
+-- So it is after an edit, if the labels under earlier births stay, and those of the items that are born now are under theirs.
 abbrev pub HomesGoOn : Type 0
 HomesGoOn = (old new : BoardParts) (e : Edit) (homes homes' : List ℕ) → IsMarked old → AreKept old new e → AreHomes old.marks homes →
     ((birth label : ℕ) → birth < old.next → slice_get homes birth ≡ Some label → slice_get homes' birth ≡ Some label) →

@@ -54,14 +54,14 @@ IsGone b birth = (n : ℕ) → slice_get (births_of b.marks) n ≡ Some birth �
 abbrev pub IsStanding : List Answered → BoardParts → List Entry → ℕ → List held.Lead → Way → (birth label : ℕ) → Type 0
 IsStanding answers b entries bound leads way birth label = HasWall answers b entries bound way birth label ⊎ (Contains leads (moves_lead way bound birth) ⊎ IsGone b birth)
 
--- Under each birth stands the label of a wall; where there is none, 0.
+-- Under each birth is the label of a wall; if there is none, 0.
 pub record AreWalls (answers : List Answered) (b : BoardParts) (entries : List Entry) (bound : ℕ) (leads : List held.Lead) (walls : WallParts) : Type 0 where
   pub past : (way : Way) → length (walls_on way walls) ≤ b.next
   pub each : (way : Way) (birth label : ℕ) → slice_get (walls_on way walls) birth ≡ Some label → 0 < label → IsStanding answers b entries bound leads way birth label
 
--- ---- Behind a step
+-- ---- After a step
 
--- Behind a step those walls that still stand, none of them at an item of the step, are walls, where the turns that led
+-- After a step those walls that are left, none of them at an item of the step, are walls, if the turns that led
 -- lead, and those under moved pairs lead again.
 abbrev pub WallsGoOver : Type 0
 WallsGoOver = (answers : List Answered) (b b' : BoardParts) (j : Step) (d : Edit) (entries : List Entry) (bound : ℕ) (leads leads' : List held.Lead) (walls walls' : WallParts) → IsMarked b → IsStep b.items j d →
@@ -79,7 +79,7 @@ WallsStay = (answers answers' : List Answered) (b : BoardParts) (entries entries
 
 -- ---- What walls hinder
 
--- the item of number `o` stands past the wall of that of number `m`
+-- the item of number `o` is past the wall of that of number `m`
 abbrev pub IsPastWall : BoardParts → WallParts → Way → (m o : ℕ) → Type 0
 IsPastWall b walls way m o = (label : ℕ) × (slice_get (walls_on way walls) (slice_index (births_of b.marks) m) ≡ Some label) × (0 < label) × IsPast way label (slice_index (labels_of b.marks) o)
 

@@ -32,7 +32,7 @@ StartIsKnown = (answers : List Answered) (source : List ℕ) (b : BoardParts) (l
     ((n birth : ℕ) → slice_get (births_of b.marks) n ≡ Some birth → Contains leads (record { turn = first_turn bound; owner = birth; scope = Owned })) →
     IsKnown answers source b leads [] []
 
--- And so while answers come in.
+-- So it is while answers come in.
 abbrev pub AnswersMayCome : Type 0
 AnswersMayCome = (answers answers' : List Answered) (source : List ℕ) (b : BoardParts) (leads : List Lead) (aside : List Aside) (entries : List Entry) → AreAmong answers answers' →
     IsKnown answers source b leads aside entries → IsKnown answers' source b leads aside entries
@@ -77,7 +77,7 @@ AsideIsKnown = (answers : List Answered) (source : List ℕ) (b : BoardParts) (l
     ((a : Aside) → Contains more a → IsBlockedHere answers source b.items (holding_of b leads aside) a) → AreNowRemembered source b.items (holding_of b leads aside) more entries →
     IsKnown answers source b leads aside entries → IsKnown answers source b leads (more ++ aside) entries
 
--- A board becomes another one behind an edit. All turns that led lead, one before all steps leads for each item that
+-- A board becomes another one after an edit. All turns that led lead, one before all steps leads for each item that
 -- is born now, and those under moved pairs lead again. No entry is taken out.
 pub record IsTaken (b b' : BoardParts) (d : Edit) (bound : ℕ) (leads leads' : List Lead) (entries entries' : List Entry) : Type 0 where
   pub items : b'.items ≡ edited d b.items
@@ -89,7 +89,7 @@ pub record IsTaken (b b' : BoardParts) (d : Edit) (bound : ℕ) (leads leads' : 
   pub woken : AreWoken d entries leads'
   pub more : (x : Entry) → Contains entries x → Contains entries' x
 
--- So it is behind a step, too, where what it does not touch stays aside.
+-- So it is after a step, too, where what it does not touch stays aside.
 abbrev pub TakenIsKnown : Type 0
 TakenIsKnown = (answers : List Answered) (source : List ℕ) (b b' : BoardParts) (j : Step) (d : Edit) (bound saved : ℕ) (leads leads' : List Lead) (aside : List Aside) (entries entries' : List Entry) →
     IsMarked b → IsStep b.items j d → IsSound source b.items → HasRoom b.items → size source b.items ≤ bound → Saves source b.items d saved →

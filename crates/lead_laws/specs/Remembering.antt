@@ -72,7 +72,7 @@ MoreAreRemembered = (source : List ℕ) (items : List Item) (h h' : Holding) (mo
     h'.aside ≡ more ++ h.aside → ((x : Entry) → Contains entries x → Contains entries' x) → AreNowRemembered source items h more entries' →
     AreRemembered source items h entries → AreRemembered source items h' entries'
 
--- ---- Behind a step
+-- ---- After a step
 
 -- whether an edit moves none of the pairs of what blocks a step
 abbrev pub is_untouched : Edit → Hindrance → Bool
@@ -98,7 +98,7 @@ RememberedIsWoken = (answers : List Answered) (source : List ℕ) (items : List 
     ⊎ ((k : Step) (e : Edit) (n : ℕ) → GoesOn items d k e → Saves source items e n → 0 < n → a.turn ≡ named h.births n k →
     IsLed h' n (renumbered (new_number d items) k))
 
--- What stays aside behind a step is remembered, where no entry is taken out.
+-- What stays aside after a step is remembered, where no entry is taken out.
 abbrev pub RememberedGoesOver : Type 0
 RememberedGoesOver = (answers : List Answered) (source : List ℕ) (items : List Item) (j : Step) (d : Edit) (h h' : Holding) (entries entries' : List Entry) →
     IsStep items j d → IsSound source items → HasRoom items → IsHeld answers source items h → AreRenamed items d h h' →

@@ -5,15 +5,15 @@ ghost use Rattle.lead_laws.specs.Beside.{CoverFollowsJoins, CoverGoesOn, CoverIs
 use plan_laws::items_stay;
 use rule_tables::{labelled_rules_stand, rules_are_labelled};
 
-/// Tables cover the rules of a board where they cover each.
+/// Tables cover the rules of a board if they cover each of them.
 pub fn cover_is_of_each()
     ensures { CoverIsOfEach }
 {
     labelled_rules_stand();
 }
 
-/// Where tables cover the rules of a board, later ones cover those of the one behind an edit, if each that it leaves
-/// stays covered, and they cover each that is born now.
+/// If tables cover the rules of a board, later tables cover the rules of the board after an edit.
+/// The later tables must cover each rule that the edit leaves and the tables covered, and each rule that is born now.
 pub fn cover_goes_on()
     ensures { CoverGoesOn }
 {
@@ -22,14 +22,14 @@ pub fn cover_goes_on()
     items_stay();
 }
 
-/// Each rule that a step leaves stays covered, where all do that have other labels than the first and the last item of
-/// the step.
+/// Each rule that a step leaves stays covered, if all rules do that have other labels than the items of the step.
 pub fn others_stay_covered()
     ensures { OthersStayCovered }
 {}
 
-/// They are covered behind a join where the rule that moves is put in under the label of the one that it moves into, and taken
-/// out under its own.
+/// If tables cover the rules of a board, the tables after a join cover those of the board after it.
+/// The rule that moves must be put in under the label of the one that it moves into. Then it must be taken out under its
+/// own. All other items must keep their labels.
 pub fn cover_follows_joins()
     ensures { CoverFollowsJoins }
 {
@@ -37,7 +37,8 @@ pub fn cover_follows_joins()
     rules_are_labelled();
 }
 
-/// Under the birth of each item stands its label, also behind an edit.
+/// If the label of each item is under its birth, it is so after an edit, too.
+/// Labels under earlier births must stay. The labels of the items that are born now must be under their births.
 pub fn homes_go_on()
     ensures { HomesGoOn }
 {}

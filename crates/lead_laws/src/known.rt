@@ -11,7 +11,7 @@ use crate::remembering::{
 };
 use hold_laws::{held_goes_over, held_may_change, start_is_held};
 
-/// All is known where a turn before all steps leads for each item, and nothing is set aside.
+/// All is known if a turn before all steps leads for each item, and nothing is set aside.
 pub fn start_is_known()
     ensures { StartIsKnown }
 {
@@ -19,14 +19,14 @@ pub fn start_is_known()
     start_is_held();
 }
 
-/// It is while answers come in.
+/// What is known stays known while answers come in.
 pub fn answers_may_come()
     ensures { AnswersMayCome }
 {
     held_may_change();
 }
 
-/// It is where a turn is passed that no step has.
+/// All stays known if a turn is passed that no step has.
 pub fn none_is_known()
     ensures { NoneIsKnown }
 {
@@ -35,7 +35,7 @@ pub fn none_is_known()
     held_may_change();
 }
 
-/// It is where the step that has the turn is set aside with what blocks it, and remembered.
+/// All stays known if the step that has the passed turn is set aside with what blocks it, and remembered.
 pub fn blocked_is_known()
     ensures { BlockedIsKnown }
 {
@@ -45,7 +45,8 @@ pub fn blocked_is_known()
     one_more_is_remembered();
 }
 
-/// It is where turns are set aside whose steps are blocked and remembered, the passed one among what is set aside.
+/// All stays known if turns are set aside whose steps are blocked and remembered, and a turn is passed.
+/// The steps that have the passed turn must be among what is set aside.
 pub fn more_is_known()
     ensures { MoreIsKnown }
 {
@@ -55,7 +56,7 @@ pub fn more_is_known()
     more_are_remembered();
 }
 
-/// It is where turns are set aside whose steps are blocked and remembered, while the same turns lead.
+/// All stays known if turns are set aside whose steps are blocked and remembered, while the same turns lead.
 pub fn aside_is_known()
     ensures { AsideIsKnown }
 {
@@ -63,7 +64,9 @@ pub fn aside_is_known()
     more_are_remembered();
 }
 
-/// It is behind a step, where new items are led and entries of moved pairs lead again.
+/// All is known after a step of a sound sheet with room, too.
+/// The step must not make it longer. A turn before all steps must lead for each new item. The leads set aside under moved
+/// pairs must lead again. What the step does not touch stays aside.
 pub fn taken_is_known()
     ensures { TakenIsKnown }
 {

@@ -1,5 +1,5 @@
-//! Laws between the state of a plan by turns that lead and what it holds of the steps of its sheet. The functions do
-//! nothing.
+//! Laws between the state of a plan by turns that lead and what it holds of the steps of its sheet.
+//! The functions do nothing.
 #![tactic(auto)]
 
 mod beside;

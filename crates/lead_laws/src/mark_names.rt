@@ -2,12 +2,12 @@
 
 ghost use Rattle.lead_laws.specs.MarkNames.{KeptAreRenamed, MarksAreNames};
 
-/// The births and the labels of a board's marks are such of its items.
+/// The births and the labels of a board's marks are births and labels of its items.
 pub fn marks_are_names()
     ensures { MarksAreNames }
 {}
 
-/// Where a board keeps the marks of the items that an edit leaves, the items are renamed.
+/// If a board keeps the marks of the items that an edit leaves, its items are renamed as after the edit.
 pub fn kept_are_renamed()
     ensures { KeptAreRenamed }
 {

@@ -9,31 +9,32 @@ pub fn entries_are_found()
     ensures { EntriesAreFound }
 {}
 
-/// One more turn is set aside, and its step is remembered.
+/// All that is set aside stays remembered, if one more turn is set aside and its step is remembered.
 pub fn one_more_is_remembered()
     ensures { OneMoreIsRemembered }
 {
     names_tell_steps();
 }
 
-/// Where turns are set aside beside others, and the steps of all are remembered.
+/// All that is set aside stays remembered, if more turns are set aside and their steps are remembered.
 pub fn more_are_remembered()
     ensures { MoreAreRemembered }
 {}
 
-/// The test finds what an edit does not touch of what is set aside.
+/// The test finds exactly those of what is set aside that an edit does not touch.
 pub fn untouched_is_kept()
     ensures { UntouchedIsKept }
 {}
 
-/// Of what was set aside each turn is untouched, or its step is led again.
+/// Each turn that was set aside is untouched, or its steps that go on are led again.
+/// The leads of all entries under moved pairs must lead again.
 pub fn remembered_is_woken()
     ensures { RememberedIsWoken }
 {
     leads_go_on();
 }
 
-/// What stays aside behind a step is remembered, where no entry is taken out.
+/// What stays aside after a step of a sound sheet with room is remembered, if no entry is taken out.
 pub fn remembered_goes_over()
     ensures { RememberedGoesOver }
 {

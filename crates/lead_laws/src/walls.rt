@@ -8,8 +8,8 @@ use hold_laws::{
     walled_turns_are_moves,
 };
 
-/// Walls are such behind a step, too, but those at an item of the step: a wall stands while neither of its two pairs is
-/// moved; else all joins of its item in its way lead again.
+/// Walls that are at no item of a step are walls after it, too, if the leads under moved pairs lead again.
+/// After the step, the item of such a wall has a wall there, or all its joins in this way are led, or the item is gone.
 pub fn walls_go_over()
     ensures { WallsGoOver }
 {
@@ -17,13 +17,12 @@ pub fn walls_go_over()
     marks_are_names();
 }
 
-/// They stay while no step is taken.
+/// Walls stay while answers come in, more entries are put in, and the leads of all joins of an item still lead.
 pub fn walls_stay()
     ensures { WallsStay }
 {}
 
-/// The turns of all joins past walls may be set aside at once: they are hindered and remembered,
-/// or led.
+/// The turns of all joins past walls may be set aside at once: they are hindered and remembered, or led.
 pub fn walled_may_be_aside()
     ensures { WalledMayBeAside }
 {

@@ -1,4 +1,4 @@
--- The leads that come in the place of one that leads no more (own).
+-- The leads that come instead of one that leads no more (own).
 use Rattle.std.specs.Prelude.{ℕ, ◌<◌, ◌≤◌, List, length}
 use Rattle.css_model.specs.declared.sheet.Item.{Item}
 use Rattle.hold_laws.specs.Leads as held

@@ -22,7 +22,7 @@ use Rattle.step_laws.specs.declared.step.Step.{Step}
 use Rattle.step_laws.specs.Free.{Answered, AreNotApart}
 use Rattle.plan_laws.specs.Wall.Holding.{Hindrance, OfPair}
 
--- From the item of number `z` on a pair stands in that of number `y` alone, from which on another pair does not stand.
+-- From item `z` on a pair is in item `y` alone, and from item `y` on no item has another pair.
 pub record StandsAlone (items : List Item) (z y : ℕ) (p q : Pair) : Type 0 where
   pub before : z < y
   pub alone : (n : ℕ) (r : RuleParts) → slice_get items n ≡ Some (Rule r) → z ≤ n → n ≢ y → HasBoth r p.selector p.decl → ⊥
@@ -49,7 +49,7 @@ pub record MakesWall (answers : List Answered) (b : BoardParts) (o : Obstacle) (
 abbrev pub MakesWallFor : BoardParts → Step → Obstacle → Way → (birth label : ℕ) → Type 0
 MakesWallFor b k o way birth label = (answers : List Answered) → IsBlockedBy answers b.items k o → MakesWall answers b o way birth label
 
--- A label is put under a birth, in the place of what stood there, or nothing is.
+-- A label is put under a birth, instead of what was there, or nothing is.
 pub record IsRaised (old new : List ℕ) (birth label : ℕ) : Type 0 where
   pub long : (next : ℕ) → length old ≤ next → birth < next → length new ≤ next
   pub each : (b l : ℕ) → slice_get new b ≡ Some l → 0 < l → (slice_get old b ≡ Some l) ⊎ ((b ≡ birth) × (l ≡ label))

@@ -1,4 +1,4 @@
-//! The next turns in the scope of a lead, in its place where it leads no more.
+//! The next turns in the scope of a lead. They lead instead of it after it is passed.
 
 ghost use Rattle.std.specs.Prelude.{◌≡◌, ◌∷◌, ◌+◌, ◌<◌, ◌≤◌, List, ℕ, IfOk, IfSome, OnOk, Some, false, length, slice_get};
 ghost use Rattle.std.specs.List.{Contains};
@@ -18,7 +18,7 @@ use plan_state::Plan;
 use std::alloc::{AllocError, Global};
 use step_turns::{Looked, Seen, next_leads};
 
-/// The label under a birth; where there is none, any.
+/// Returns the label under a birth. If there is none, it returns any number.
 fn home_of(homes: &[u64], birth: u32) -> u64
     ensures { (label : ℕ) → slice_get homes.now birth ≡ Some label → result ≡ label }
 {
@@ -28,7 +28,7 @@ fn home_of(homes: &[u64], birth: u32) -> u64
     }
 }
 
-/// The next turns in the scope of a lead, and what was seen of its owner.
+/// Returns the next turns in the scope of a lead, and what was seen of an item, if anything was.
 fn next_of(
     alloc: Global,
     source: &KnownLengths<'_>,
@@ -52,7 +52,7 @@ fn next_of(
     )
 }
 
-/// Notes what was seen of an item. All of the plan stays.
+/// Notes what was seen of an item. The plan stays the same.
 fn note_seen(plan: &mut Plan, seen: Option<Seen>) -> Result<(), AllocError>
     requires { IfSome seen (IsSeen plan.old.board.items) }
     ensures { plan.new ≡ plan.old }
@@ -63,7 +63,7 @@ fn note_seen(plan: &mut Plan, seen: Option<Seen>) -> Result<(), AllocError>
     }
 }
 
-/// Lets a turn lead its step alone.
+/// Lets a turn lead its step alone. The turns that led stay.
 fn lead_alone(waiting: &mut Waiting, lead: &Lead) -> Result<(), AllocError>
     ensures stay { (l : held.Lead) → Contains waiting.old l → Contains waiting.new l }
     ensures added { OnOk result (Contains waiting.new (alone lead.now)) }
@@ -75,7 +75,7 @@ fn lead_alone(waiting: &mut Waiting, lead: &Lead) -> Result<(), AllocError>
     })
 }
 
-/// Lets turns lead, each its step alone.
+/// Lets turns lead, each its step alone. The turns that led stay.
 fn lead_all_alone(waiting: &mut Waiting, leads: &[Lead]) -> Result<(), AllocError>
     ensures stay { (l : held.Lead) → Contains waiting.old l → Contains waiting.new l }
     ensures added { OnOk result ((l : declared.Lead) → Contains leads.now l → Contains waiting.new (alone l)) }
@@ -89,7 +89,7 @@ fn lead_all_alone(waiting: &mut Waiting, leads: &[Lead]) -> Result<(), AllocErro
     Ok(())
 }
 
-/// Lets the first of the other turns that follow a lead lead them, if there are some.
+/// Lets the first of the other turns after a lead lead the others, if there are some.
 fn add_others(waiting: &mut Waiting, lead: &Lead, others: Option<Lead>) -> Result<(), AllocError>
     requires all { is_alone (lead_told lead.now).scope ≡ false }
     requires others_all { IfSome others (λ n. is_alone (lead_told n).scope ≡ false) }
@@ -110,8 +110,9 @@ fn add_others(waiting: &mut Waiting, lead: &Lead, others: Option<Lead>) -> Resul
     }
 }
 
-/// Lets the next turns in its scope lead in the place of a lead that leads no more: some alone, and the first of the others.
-/// A lead of one step alone is followed by nothing. All else of the plan stays.
+/// Lets turns lead the later steps in the scope of a lead that leads no more.
+/// Each of these steps is then led or set aside, if the joins past walls are. Only the leads of the plan change. Those that
+/// led stay. All of them weigh less than before with the lead.
 pub(crate) fn follow(
     alloc: Global,
     source: &KnownLengths<'_>,

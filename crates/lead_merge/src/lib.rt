@@ -1,4 +1,4 @@
-//! Merging by turns that lead: steps are taken one after the other, each the first of the free ones, until none is left.
+//! Merging by turns that lead. It takes the first free step that saves, one after the other, until none is left.
 #![tactic(auto)]
 
 mod following;

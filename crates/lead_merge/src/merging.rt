@@ -1,4 +1,4 @@
-//! Steps taken one after the other.
+//! Takes steps one after the other.
 
 ghost use Rattle.std.specs.Prelude.{◌≡◌, IfNone, IfOk, IfSome, OnOk};
 ghost use Rattle.lead_merge.specs.Following.{IsNextFound};
@@ -17,7 +17,7 @@ use plan_state::Plan;
 use std::alloc::{AllocError, Global};
 use step_laws::{Step, each_is_made_of_itself, steps_make_of};
 
-/// The next step of a plan, if one is left that is free and saves. Leads that come before it are passed.
+/// Returns the next step of a plan, or `None` if nothing is left to do. The board stays.
 fn next_step<O: Obstacles>(
     alloc: Global,
     obstacles: &mut O,
@@ -41,7 +41,7 @@ fn next_step<O: Obstacles>(
     Ok(None)
 }
 
-/// The same, of a source whose lengths are known.
+/// Merges a sheet of a source whose lengths are known, like `merge`.
 fn merge_by<O: Obstacles>(
     alloc: Global,
     obstacles: &mut O,
@@ -69,9 +69,10 @@ fn merge_by<O: Obstacles>(
     Ok(Merged { sheet, taken })
 }
 
-/// Merges a sheet: takes steps, each the next one by the answers that are held afterwards, until nothing is left to do.
-/// The sheet is one whose parts are those of the source, which is read without a fault, and it keeps the limits of a
-/// sheet. All that was answered stays, and the budget, also after `AllocError`.
+/// Merges a sheet: takes steps until nothing is left to do, and returns the sheet and how many steps it took.
+/// Each step is the next one by the answers that are held at the end. The source must be read without a
+/// fault. The parts of the sheet must be those of the source, and it must keep the limits of a sheet. All that was answered
+/// stays, and the budget, also after `Err(AllocError)`.
 #[tactic(auto, using(merge_plan::proofs::ForCallers::short_source))]
 pub fn merge<O: Obstacles>(
     alloc: Global,

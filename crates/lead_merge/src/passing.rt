@@ -1,4 +1,4 @@
-//! Leads that are passed: of no step, or of a step that is blocked; and one that leads again.
+//! Leads that are passed, of no step or of a blocked step, and a lead that leads again.
 
 ghost use Rattle.std.specs.Prelude.{◌≡◌, ◌∷◌, ◌+◌, ◌<◌, ℕ, List, OnOk};
 ghost use Rattle.std.specs.List.{Contains};
@@ -26,7 +26,7 @@ use plan_state::Plan;
 use std::alloc::{AllocError, Global};
 use step_laws::Step;
 
-/// Lets a lead lead again that was taken out.
+/// Lets a lead lead again that was taken out. The board stays.
 pub(crate) fn lead_again(plan: &mut Plan, lead: &Lead) -> Result<(), AllocError>
     ensures board { OnOk result (plan.new.board ≡ plan.old.board) }
     ensures state { OnOk result ((answers : List Answered) (source : List ℕ) → IsLedBy answers source plan.old (lead_told lead.now ∷ plan.old.leads)
@@ -37,6 +37,7 @@ pub(crate) fn lead_again(plan: &mut Plan, lead: &Lead) -> Result<(), AllocError>
 }
 
 /// Passes a lead that was taken out and names no step.
+/// If the plan had its state with the lead, it has it without. Its leads weigh less than before with the lead.
 pub(crate) fn pass_none(
     alloc: Global,
     source: &KnownLengths<'_>,
@@ -58,8 +59,9 @@ pub(crate) fn pass_none(
     follow(alloc, source, plan, lead)
 }
 
-/// Passes a lead that was taken out, before which none leads, and that names a join past a wall: its turn is set aside with
-/// all that are past the wall.
+/// Passes a lead that was taken out and names a join past a wall.
+/// No turn that leads may come before it. If the plan had its state with the lead, it has it without. Its leads weigh less than
+/// before with the lead.
 pub(crate) fn pass_walled(
     alloc: Global,
     source: &KnownLengths<'_>,
@@ -85,7 +87,9 @@ pub(crate) fn pass_walled(
     follow(alloc, source, plan, lead)
 }
 
-/// Passes a lead that was taken out and names a step that is blocked: it is set aside with what blocks it.
+/// Passes a lead that was taken out and names a blocked step.
+/// If the plan had its state with the lead, it has it without, by all answers by which the obstacle blocks the step. Its
+/// leads weigh less than before with the lead.
 fn pass_aside(
     alloc: Global,
     source: &KnownLengths<'_>,
@@ -111,8 +115,9 @@ fn pass_aside(
     follow(alloc, source, plan, lead)
 }
 
-/// Passes a lead that was taken out and names a step that is blocked: it is set aside with what blocks it, and a
-/// wall is set where this makes one.
+/// Passes a lead that was taken out and names a blocked step. It may set a wall.
+/// If the plan had its state with the lead, it has it without, by all answers by which the obstacle blocks the step. Its
+/// leads weigh less than before with the lead.
 pub(crate) fn pass_blocked(
     alloc: Global,
     source: &KnownLengths<'_>,

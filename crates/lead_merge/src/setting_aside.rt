@@ -27,7 +27,7 @@ use std::alloc::AllocError;
 use std::cmp::Reverse;
 use step_savings::rule_at;
 
-/// The selector of this number.
+/// Returns the selector of this number in a rule, from 0.
 pub(crate) fn selector_of(rule: &Rule, number: u32) -> &Selector
     requires { (s : declared.SelItem) × (slice_get rule.now.selectors number ≡ Some s) }
     ensures { (s : declared.SelItem) → slice_get rule.now.selectors number ≡ Some s → result.now ≡ s.selector }
@@ -38,7 +38,7 @@ pub(crate) fn selector_of(rule: &Rule, number: u32) -> &Selector
     }
 }
 
-/// The declaration of this number.
+/// Returns the declaration of this number in a rule, from 0.
 pub(crate) fn decl_of(rule: &Rule, number: u32) -> &Decl
     requires { (d : declared_item.DeclItem) × (slice_get rule.now.decls number ≡ Some d) }
     ensures { (d : declared_item.DeclItem) → slice_get rule.now.decls number ≡ Some d → result.now ≡ d.decl }
@@ -49,7 +49,7 @@ pub(crate) fn decl_of(rule: &Rule, number: u32) -> &Decl
     }
 }
 
-/// Sets a lead aside under a pair.
+/// Sets a lead aside under a pair. All entries stay.
 fn put_under(
     aside: &mut Aside,
     selector: &Selector,
@@ -62,7 +62,7 @@ fn put_under(
     aside.put(selector_digest(selector), decl_digest(decl), *lead)
 }
 
-/// Sets a lead aside under the pair at a place of a sheet.
+/// Sets a lead aside under the pair at a place of a sheet. All entries stay.
 fn put_pair(
     aside: &mut Aside,
     sheet: &Sheet,
@@ -79,7 +79,7 @@ fn put_pair(
     put_under(aside, selector, decl, lead)
 }
 
-/// Sets a lead aside under the pair that something else is, if it is one.
+/// Sets a lead aside under the other thing of an obstacle, if that is a pair. All entries stay.
 fn put_other(aside: &mut Aside, sheet: &Sheet, other: &Other, lead: &Lead) -> Result<(), AllocError>
     requires { (by : Hindrance) × IsOther sheet.now.items other.now by }
     ensures more { (x : Entry) → Contains aside.old x → Contains aside.new x }
@@ -92,7 +92,7 @@ fn put_other(aside: &mut Aside, sheet: &Sheet, other: &Other, lead: &Lead) -> Re
     }
 }
 
-/// Sets a lead aside under each pair of what an obstacle of a sheet names.
+/// Sets a lead aside under each pair of what an obstacle of a sheet names. All entries stay.
 fn put_named(
     aside: &mut Aside,
     sheet: &Sheet,
@@ -108,7 +108,7 @@ fn put_named(
     put_other(aside, sheet, &obstacle.other, lead)
 }
 
-/// The same turn, which leads its step alone.
+/// Returns a lead of the same turn, with the scope `Alone`.
 fn alone(lead: &Lead) -> Lead
     ensures { (lead_told result).turn ≡ (lead_told lead.now).turn }
 {
@@ -118,7 +118,7 @@ fn alone(lead: &Lead) -> Lead
     }
 }
 
-/// Sets a lead aside, alone, under each pair of what an obstacle names. All else of the plan stays.
+/// Sets the turn of a lead aside under each pair of what an obstacle names. All else of the plan stays.
 pub(crate) fn put_aside(plan: &mut Plan, lead: &Lead, obstacle: &Obstacle) -> Result<(), AllocError>
     requires { (by : Hindrance) × Names plan.old.board.items obstacle.now by }
     ensures same { OnOk result (plan.new ≡ record plan.old { entries = plan.new.entries }) }
@@ -129,7 +129,7 @@ pub(crate) fn put_aside(plan: &mut Plan, lead: &Lead, obstacle: &Obstacle) -> Re
     put_named(&mut plan.aside, plan.board.sheet(), obstacle, &alone(lead))
 }
 
-/// The scope of all joins of an item in a way.
+/// Returns the scope of all joins of an item in a way.
 fn scope_of(way: Way) -> Scope
     ensures { scope_told result ≡ ways.scope_of way }
 {
@@ -139,7 +139,7 @@ fn scope_of(way: Way) -> Scope
     }
 }
 
-/// The turn before all steps that leads all joins of the item of a birth in a way.
+/// Returns the lead, with a turn before all steps, of all joins in which the item of a birth moves in a way.
 fn lead_of_moves(way: Way, owner: u32) -> Lead
     ensures { lead_told result ≡ moves_lead way (max_bytes + 1) owner }
 {
@@ -153,8 +153,8 @@ fn lead_of_moves(way: Way, owner: u32) -> Lead
     }
 }
 
-/// Sets the lead of all joins of the item of a birth in a way aside, under each pair of what an obstacle names. All else of
-/// the plan stays.
+/// Sets the lead of all joins of an item in a way aside, under each pair of what an obstacle names.
+/// A birth names the item. All else of the plan stays.
 pub(crate) fn put_all(
     plan: &mut Plan,
     way: Way,

@@ -26,7 +26,7 @@ use std::alloc::{AllocError, Global};
 use step_laws::Step;
 use step_turns::{is_walled, step_of_lead};
 
-/// What blocks a step of a board's sheet, and `None` exactly where it is free.
+/// Returns what blocks a step of a board's sheet, or `None` if it is free by the answers held afterwards.
 fn obstacle_on<O: Obstacles>(
     obstacles: &mut O,
     board: &Board,
@@ -42,8 +42,9 @@ fn obstacle_on<O: Obstacles>(
     obstacles.obstacle(board.sheet(), board.masks(), step)
 }
 
-/// The step that a lead names, which was taken out as the first of those that lead, if it is free; then it leads again.
-/// Else the lead is passed. What is past a wall is not asked for.
+/// Returns the step that a lead names, if it is the next one. Else it passes the lead.
+/// The lead was taken out, and no turn that leads may come before it. After `None`, the leads of the plan weigh less than
+/// before with the lead. The board stays.
 pub(crate) fn try_lead<O: Obstacles>(
     alloc: Global,
     obstacles: &mut O,

@@ -1,4 +1,4 @@
-//! Walls that are set, where an obstacle of a join hinders all joins of the item that moves in it, up or down, past a place.
+//! Walls. One is set if an obstacle of a join hinders all joins of the moving item past a place, up or down.
 
 ghost use Rattle.std.specs.Prelude.{◌≡◌, ◌≢◌, ◌⊎◌, ◌∷◌, ◌<◌, ◌≤◌, ℕ, IfSome, List, OnOk, Some, false, true, length, slice_get};
 ghost use Rattle.std.specs.List.{Contains};
@@ -34,7 +34,7 @@ use step_laws::Step;
 use step_savings::rule_at;
 use step_turns::stands_from;
 
-/// Whether the pair at a place stands in a rule whose label is not below one, and is another one than `own`.
+/// Returns `false` only if no rule has the pair at a place whose label is at least `from` and is not `own`.
 fn pair_stands_from(board: &Board, tables: &Tables, place: &PairPlace, from: u64, own: u64) -> bool
     requires few { length board.now.items ≤ max_items }
     requires cover { Cover tables.now (rules_of board.now) }
@@ -48,8 +48,8 @@ fn pair_stands_from(board: &Board, tables: &Tables, place: &PairPlace, from: u64
     stands_from(board, tables, from, own, selector, decl)
 }
 
-/// Whether from the item of another place on the pair at a place stands in its item alone, from which on the other pair
-/// does not stand.
+/// Returns `true` only if, from the item of `other` on, the item of `moved` alone has the moved pair.
+/// From the item of `moved` on, no item has the other pair. The item of `other` comes before that of `moved`.
 fn stands_alone(board: &Board, tables: &Tables, moved: &PairPlace, other: &PairPlace) -> bool
     requires few { length board.now.items ≤ max_items }
     requires cover { Cover tables.now (rules_of board.now) }
@@ -70,8 +70,8 @@ fn stands_alone(board: &Board, tables: &Tables, moved: &PairPlace, other: &PairP
     !pair_stands_from(board, tables, other, own, from)
 }
 
-/// A wall: the way in which the item that it hinders would move, the birth of that item, and the label of the item past
-/// which it does not.
+/// A wall: a way, the birth of an item, and the label of another item.
+/// It hinders the first item from moving in this way past the other one.
 #[derive(Clone, Copy, Debug)]
 struct Wall {
     way: Way,
@@ -79,7 +79,7 @@ struct Wall {
     label: u64,
 }
 
-/// The item that moves in a join, and its way.
+/// Returns the number of the item that moves in a join, and its way, or `None` of another step.
 fn mover_of(step: &Step) -> Option<(u32, Way)> {
     match *step {
         Step::JoinSelUp { lower, .. } | Step::JoinDeclUp { lower, .. } => Some((lower, Way::Up)),
@@ -90,7 +90,7 @@ fn mover_of(step: &Step) -> Option<(u32, Way)> {
     }
 }
 
-/// Whether two pairs make a wall in a way.
+/// Returns `true` only if two pairs make a wall in a way.
 fn is_wall(board: &Board, tables: &Tables, way: Way, moved: &PairPlace, other: &PairPlace) -> bool
     requires few { length board.now.items ≤ max_items }
     requires cover { Cover tables.now (rules_of board.now) }
@@ -106,7 +106,7 @@ fn is_wall(board: &Board, tables: &Tables, way: Way, moved: &PairPlace, other: &
     }
 }
 
-/// The wall that two pairs make in a way, if they do.
+/// Returns a wall that the two pairs of an obstacle make in a way, or `None` if it finds none.
 fn wall_between(
     board: &Board,
     tables: &Tables,
@@ -131,7 +131,7 @@ fn wall_between(
     Some(Wall { way, birth, label })
 }
 
-/// The wall that an obstacle of a step makes, if it does.
+/// Returns a wall that an obstacle of a step makes, or `None` if it finds none.
 fn wall_of(board: &Board, tables: &Tables, step: &Step, obstacle: &Obstacle) -> Option<Wall>
     requires few { length board.now.items ≤ max_items }
     requires cover { Cover tables.now (rules_of board.now) }
@@ -150,7 +150,7 @@ fn wall_of(board: &Board, tables: &Tables, step: &Step, obstacle: &Obstacle) -> 
     }
 }
 
-/// Makes room for a wall under a birth.
+/// Makes room for a wall under a birth. All labels other than 0 were there before.
 fn grow(walls: &mut Vec<u64>, birth: u32) -> Result<(), AllocError>
     ensures room { OnOk result (birth < length walls.new.items) }
     ensures long { OnOk result ((next : ℕ) → length walls.old.items ≤ next → birth < next → length walls.new.items ≤ next) }
@@ -163,7 +163,7 @@ fn grow(walls: &mut Vec<u64>, birth: u32) -> Result<(), AllocError>
     Ok(())
 }
 
-/// Whether a label hinders more in a way than one that stands under a birth, or none does.
+/// Whether a label hinders more in a way than an old one, which is 0 if there is none.
 fn hinders_more(way: Way, label: u64, old: u64) -> bool {
     match way {
         Way::Up => old < label,
@@ -171,7 +171,7 @@ fn hinders_more(way: Way, label: u64, old: u64) -> bool {
     }
 }
 
-/// Puts the label of a wall in a way under a birth, if none stands there that hinders as much.
+/// Puts the label of a wall in a way under a birth, or leaves the label that is there.
 fn put_label(walls: &mut Vec<u64>, way: Way, birth: usize, label: u64)
     requires { birth < length walls.old.items }
     ensures long { length walls.new.items ≡ length walls.old.items }
@@ -182,7 +182,7 @@ fn put_label(walls: &mut Vec<u64>, way: Way, birth: usize, label: u64)
     }
 }
 
-/// The same, where there may be no room yet.
+/// Puts the label of a wall under its birth, as `put_label` does, and makes room before.
 fn raise(walls: &mut Vec<u64>, wall: &Wall) -> Result<(), AllocError>
     ensures { OnOk result (spec.IsRaised walls.old.items walls.new.items wall.now.birth wall.now.label) }
 {
@@ -191,7 +191,7 @@ fn raise(walls: &mut Vec<u64>, wall: &Wall) -> Result<(), AllocError>
     Ok(())
 }
 
-/// Puts a wall among those in its way.
+/// Puts a wall among those in its way, or leaves the label that is there.
 fn set(walls: &mut Walls, wall: &Wall) -> Result<(), AllocError>
     ensures { OnOk result (spec.IsSet walls.old walls.new wall.now.way wall.now.birth wall.now.label) }
 {
@@ -201,8 +201,8 @@ fn set(walls: &mut Walls, wall: &Wall) -> Result<(), AllocError>
     }
 }
 
-/// Sets a wall that an obstacle makes: all joins of its item past it are set aside at once, under each pair of what the
-/// obstacle names.
+/// Sets a wall that an obstacle makes, and sets the lead of all joins of its item in its way aside.
+/// An entry of the lead is under each pair of what the obstacle names. All else of the plan stays.
 fn put_wall(plan: &mut Plan, wall: &Wall, obstacle: &Obstacle) -> Result<(), AllocError>
     requires { (by : Hindrance) × Names plan.old.board.items obstacle.now by }
     ensures same { OnOk result (plan.new ≡ record plan.old { entries = plan.new.entries; walls = plan.new.walls }) }
@@ -214,7 +214,8 @@ fn put_wall(plan: &mut Plan, wall: &Wall, obstacle: &Obstacle) -> Result<(), All
     set(&mut plan.walls, wall)
 }
 
-/// Sets the wall that an obstacle of a step makes, if it makes one. What led the steps of the plan's sheet still does.
+/// Sets a wall that an obstacle of a step makes, if it finds one. The leads of the plan stay.
+/// What led the steps of the plan's sheet still does, by all answers by which the obstacle blocks the step.
 pub(crate) fn set_wall(plan: &mut Plan, step: &Step, obstacle: &Obstacle) -> Result<(), AllocError>
     requires board { (source : List ℕ) × IsBoard source plan.old }
     requires step_of { HasStep plan.old.board.items step.now }

@@ -4,7 +4,7 @@ use Rattle.std.specs.List.{filter}
 use Rattle.lead_plan.specs.declared.aside.Entry.{Entry}
 use Rattle.lead_plan.specs.declared.lead.Lead.{Lead}
 
--- the number of an entry for the digest of a declaration: there is another number right before and right behind it
+-- the number of an entry for the digest of a declaration: there is another number right before and right after it
 abbrev pub place_of : ℕ → ℕ
 place_of decl = decl * 2 + 1
 
@@ -12,7 +12,7 @@ place_of decl = decl * 2 + 1
 abbrev pub entry : (selector decl : ℕ) → Lead → Entry
 entry selector decl lead = record { selector = selector; decl = place_of decl; lead = lead }
 
--- whether an entry stands under these digests
+-- whether an entry is under these digests
 abbrev pub is_under : (selector decl : ℕ) → Entry → Bool
 is_under selector decl e = (e.selector == selector) && (e.decl == place_of decl)
 

@@ -10,8 +10,8 @@ use Rattle.lead_plan.specs.Heaviest.{AreNotHeavier}
 use Rattle.lead_plan.specs.Once.{DeclsStandOnce, StandOnce}
 use Rattle.step_laws.specs.Sizes.{weight}
 
--- Under the birth of each rule what it weighs at most, and what all of them weigh at most; and whether each declaration stands in
--- its rule once.
+-- Under the birth of each rule what it weighs at most, and what all of them weigh at most; and whether each rule has each
+-- of its declarations once.
 pub record WeightParts : Type 0 where
   pub each : List RuleWeight
   pub heaviest : Heaviest
@@ -25,19 +25,19 @@ unknown = record { selectors = 2 ^ 32 - 1; decls = 2 ^ 32 - 1; once = false }
 abbrev pub weight_under : List RuleWeight → ℕ → RuleWeight
 weight_under each birth = get_or each birth unknown
 
--- the same is told of each rule, and of all
+-- they say the same of each rule, and of all
 pub record TellsTheSame (old new : WeightParts) : Type 0 where
   pub each : (b : ℕ) → weight_under new.each b ≡ weight_under old.each b
   pub heaviest : new.heaviest ≡ old.heaviest
   pub once : new.once ≡ old.once
 
--- A rule weighs no more than this, and each of its declarations stands in it once, if that is told.
+-- A rule weighs no more than this, and it has each of its declarations once, if `once` says so.
 pub record WeighsAtMost (source : List ℕ) (r : RuleParts) (w : RuleWeight) : Type 0 where
   pub selectors : weight (printed_selector source) r.selectors ≤ w.selectors
   pub decls : weight (printed_declaration source) r.decls ≤ w.decls
   pub once : w.once ≡ true → StandOnce (λ x. x.decl) r.decls
 
--- No rule among items, which have these births, weighs more than what is told of it, and none more than what is heaviest.
+-- No rule among items, which have these births, weighs more than the weights say of it, and none more than what is heaviest.
 pub record AreWeighed (source : List ℕ) (items : List Item) (births : List ℕ) (weights : WeightParts) : Type 0 where
   pub each : (n b : ℕ) (r : RuleParts) → slice_get items n ≡ Some (Rule r) → slice_get births n ≡ Some b → WeighsAtMost source r (weight_under weights.each b)
   pub all : AreNotHeavier source items weights.heaviest

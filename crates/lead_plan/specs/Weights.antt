@@ -1,4 +1,4 @@
--- How much a lead weighs: the more, the more turns may come behind its own (own).
+-- How much a lead weighs: the more, the more turns may come after its own (own).
 use Rattle.std.specs.Prelude.{ℕ, ◌+◌, ◌-◌, ◌*◌, ◌^◌, Bool, true, false, if◌then◌else◌, List, [], ◌∷◌}
 use Rattle.hold_laws.specs.Leads as held
 use Rattle.hold_laws.specs.Scopes.{Scope, Alone}
@@ -9,7 +9,7 @@ abbrev pub weight_of : ℕ → List ℕ → ℕ
 weight_of saving (kind ∷ first ∷ second ∷ []) = ((saving * 7 + (6 - kind)) * 2 ^ 64 + (2 ^ 64 - (first + 1))) * 2 ^ 64 + (2 ^ 64 - second)
 weight_of saving numbers = 0
 
--- how many turns may lead alone in the place of one that is passed, beside the next one that leads others
+-- how many turns may lead alone instead of one that is passed, beside the next one that leads others
 abbrev pub room : ℕ
 room = 8
 

@@ -12,18 +12,18 @@ use std::collections::BTreeSet;
 use std::marker::Model;
 use std::ops::Range;
 
-/// A lead that is set aside, under the digests of a pair that blocks its step. Those under one pair stand side by side.
+/// A lead that is set aside, under the digests of a pair that blocks its step. Those of one pair are side by side.
 #[derive(Clone, Copy, Debug, PartialEq, Eq, PartialOrd, Ord, Drop)]
 pub struct Entry {
     /// The digest of the pair's selector.
     pub selector: u32,
-    /// The digest of its declaration, doubled, and one more: so there is a number right before it and right behind it.
+    /// Twice the digest of the pair's declaration, plus 1. So there is a free number right before it and right after it.
     pub decl: u64,
     /// The lead.
     pub lead: Lead,
 }
 
-/// The number of an entry for the digest of a declaration.
+/// Returns the number of an entry for the digest of a declaration: twice the digest, plus 1.
 fn place_of(decl: u32) -> u64
     ensures exact { result ≡ spec.place_of decl }
     ensures small { result < 2 ^ 34 }
@@ -32,7 +32,7 @@ fn place_of(decl: u32) -> u64
 }
 
 impl Entry {
-    /// Whether it stands under these digests.
+    /// Whether it is under these digests.
     fn is_under(&self, selector: u32, decl: u32) -> bool
         ensures { result ≡ spec.is_under selector decl self.now }
     {
@@ -40,7 +40,8 @@ impl Entry {
     }
 }
 
-/// A bound of entries: those with a greater number stand behind it, those with a smaller one before it.
+/// Returns a bound of entries under a selector: an entry of this number for the declaration.
+/// Under the same selector, entries with a greater number come after it, and those with a smaller one before it.
 fn bound(selector: u32, decl: u64) -> Entry
     ensures selector { result.selector ≡ selector }
     ensures decl { result.decl ≡ decl }
@@ -60,7 +61,7 @@ fn bound(selector: u32, decl: u64) -> Entry
     }
 }
 
-/// Leads that are set aside, each under the digests of the pairs that block its step, and there once.
+/// Leads that are set aside under the digests of the pairs that block their steps, each there once.
 #[derive(Debug, Drop)]
 pub struct Aside {
     entries: BTreeSet<Entry>,
@@ -76,7 +77,7 @@ impl Model for Aside {
 }
 
 impl Aside {
-    /// Nothing is set aside.
+    /// Returns the leads that are set aside at the start: none.
     pub fn new(alloc: Global) -> Aside
         ensures { result ≡ [] }
     {
@@ -85,7 +86,8 @@ impl Aside {
         }
     }
 
-    /// Sets a lead aside under the digests of a pair. What was set aside stays, also where memory is short.
+    /// Sets a lead aside under the digests of a pair. What was set aside stays.
+    /// It also stays after `Err(AllocError)`. Then the lead itself may be set aside or not.
     pub fn put(&mut self, selector: u32, decl: u32, lead: Lead) -> Result<(), AllocError>
         ensures stay { (e : declared.Entry) → Contains self.old e → Contains self.new e }
         ensures put { OnOk result (Contains self.new (spec.entry selector decl lead)) }
@@ -100,7 +102,7 @@ impl Aside {
         Ok(())
     }
 
-    /// The leads that are set aside under the digests of a pair, in their order. The time is theirs, and that of a search.
+    /// Returns the leads that are set aside under the digests of a pair, in the order of the entries.
     pub fn under(&self, alloc: Global, selector: u32, decl: u32) -> Result<Vec<Lead>, AllocError>
         ensures { IfOk result (λ leads. leads.items ≡ spec.leads_under selector decl self.now) }
     {

@@ -1,4 +1,4 @@
-//! Whether each declaration of a rule stands in it once.
+//! Whether a rule has each of its declarations once.
 
 ghost use Rattle.std.specs.Prelude.{◌↔◌, IsTrue};
 ghost use Rattle.lead_plan.specs.Once.{StandOnce};
@@ -6,7 +6,7 @@ ghost use Rattle.lead_plan.specs.Once.{StandOnce};
 use css_model::DeclItem;
 use step_savings::has_decl;
 
-/// Whether no two of the declarations are the same. Each is compared with each. Takes no memory.
+/// Whether no two of the declarations are the same. It compares each with each. It takes no memory.
 pub fn are_decls_different(decls: &[DeclItem]) -> bool
     ensures { IsTrue result ↔ StandOnce (λ x. x.decl) decls.now }
 {

@@ -2,18 +2,18 @@
 
 ghost use Rattle.std.specs.Prelude.{◌≡◌, max};
 
-/// No rule's selectors weigh more than this, and no rule's declarations: the lengths of their texts, each with the sign behind
-/// it.
+/// Two bounds, in bytes, on what the selectors and the declarations of a rule weigh.
+/// They weigh as much as their texts are long, each with the sign after it.
 #[derive(Clone, Copy, Debug)]
 pub struct Heaviest {
-    /// The selectors.
+    /// The bound on the selectors.
     pub selectors: u64,
-    /// The declarations.
+    /// The bound on the declarations.
     pub decls: u64,
 }
 
 impl Heaviest {
-    /// The greater ones of its weights and these.
+    /// Returns the greater of its bound and this weight, in bytes, of the selectors and of the declarations each.
     pub fn with(self, selectors: u64, decls: u64) -> Heaviest
         ensures { result ≡ record { selectors = max self.selectors selectors; decls = max self.decls decls } }
     {

@@ -11,19 +11,19 @@ use std::cmp::Reverse;
 /// The kinds of steps, in the order of steps.
 #[derive(Clone, Copy, Debug, PartialEq, Eq, PartialOrd, Ord, Drop)]
 pub enum Kind {
-    /// A declaration of a rule is cut.
+    /// Cuts a declaration of a rule.
     DeclCut,
-    /// A selector of a rule is cut.
+    /// Cuts a selector of a rule.
     SelCut,
-    /// Two rules with the same selectors are joined, in the place of the upper one.
+    /// Joins two rules with the same selectors: the lower one moves up.
     SelJoinUp,
-    /// The same, in the place of the lower one.
+    /// Joins two rules with the same selectors: the upper one moves down.
     SelJoinDown,
-    /// Two rules with the same declarations are joined, in the place of the upper one.
+    /// Joins two rules with the same declarations: the lower one moves up.
     DeclJoinUp,
-    /// The same, in the place of the lower one.
+    /// Joins two rules with the same declarations: the upper one moves down.
     DeclJoinDown,
-    /// Common declarations of two rules become a rule.
+    /// Makes a rule of common declarations of two rules.
     Sharing,
 }
 
@@ -40,19 +40,19 @@ pub enum Scope {
     Downs,
 }
 
-/// How many turns lead alone, at most, in the place of one that is passed.
+/// How many turns lead alone, at most, instead of one that is passed.
 pub const ROOM: usize = 8;
 
 /// A turn that leads, and whose steps it leads. Leads are ordered as their turns come.
 #[derive(Clone, Copy, Debug, PartialEq, Eq, PartialOrd, Ord, Drop)]
 pub struct Lead {
-    /// How many bytes its step saves: more come first.
+    /// How many bytes its step saves. Greater savings come first.
     pub saving: Reverse<u32>,
     /// The kind of its step.
     pub kind: Kind,
     /// The label of the step's first item.
     pub first: u64,
-    /// The label of its last item; of a cut the number of the part, from 0.
+    /// The label of the step's last item. Of a cut it is the number of the part, from 0.
     pub second: u64,
     /// The birth of the item whose steps it leads.
     pub owner: u32,
@@ -72,13 +72,13 @@ impl Lead {
     }
 }
 
-/// A number of the code has 64 bits. It does nothing.
+/// A number of the code has 64 bits. The function does nothing.
 fn number_fits(number: u64)
     ensures { number < 2 ^ 64 }
 {}
 
-/// A lead of others weighs more than one whose turn comes later and as many single ones as there is room for, and each
-/// lead weighs something. It does nothing but read the numbers of the leads, which have 64 bits.
+/// A lead of others weighs more than a later lead of others and as many single ones as there is room for.
+/// It also weighs more than these single ones alone. Each lead weighs something. The function does nothing.
 #[tactic(auto, using(crate::proofs::Weighing::weighs_less, crate::proofs::Weighing::weighs_more, crate::proofs::Weighing::weighs_some))]
 pub fn later_weighs_less(one: &Lead, other: &Lead)
     ensures less { is_alone (lead_told one.now).scope ≡ false → is_alone (lead_told other.now).scope ≡ false → IsSooner (lead_told one.now).turn (lead_told other.now).turn

@@ -1,4 +1,4 @@
-//! The plan of merging by turns that lead: one for all steps of an item, in place of a look at each step.
+//! The plan of merging by turns that lead. One turn leads all steps of an item, instead of a look at each step.
 #![tactic(auto)]
 
 mod aside;

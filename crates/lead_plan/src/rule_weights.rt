@@ -7,19 +7,19 @@ use crate::heaviest::Heaviest;
 use std::alloc::{AllocError, Global};
 use std::marker::Model;
 
-/// What a rule weighs at most: the lengths of the printed texts of its selectors, each with the sign behind it, and so of its
-/// declarations; and whether each of these is known to stand in it once.
+/// What a rule weighs at most, and whether it is known to have each of its declarations once.
+/// Its selectors weigh as much as their printed texts are long, each with the sign after it. So do its declarations.
 #[derive(Clone, Copy, Debug)]
 pub struct RuleWeight {
     /// The selectors, in bytes.
     pub selectors: u32,
     /// The declarations, in bytes.
     pub decls: u32,
-    /// Each declaration stands in the rule once.
+    /// The rule is known to have each of its declarations once.
     pub once: bool,
 }
 
-/// What each rule weighs at most, under its birth, and what holds of all of them.
+/// What each rule weighs at most, under its birth, and the greatest of these weights.
 #[derive(Debug, Drop)]
 pub struct RuleWeights {
     each: Vec<RuleWeight>,
@@ -35,7 +35,7 @@ impl Model for RuleWeights {
     ghost view = { λ w. record { each = w.each.items; heaviest = w.heaviest; once = w.once } };
 }
 
-/// More than any rule weighs; nothing is known of its declarations.
+/// Returns the weight of a rule of which nothing is known: 2^32 - 1 bytes for each part.
 pub(crate) fn unknown() -> RuleWeight
     ensures { result ≡ spec.unknown }
 {
@@ -46,7 +46,7 @@ pub(crate) fn unknown() -> RuleWeight
     }
 }
 
-/// What the rule of a birth weighs at most.
+/// Returns the weight under a birth, or `unknown()` if there is none.
 fn weight_under(each: &[RuleWeight], birth: u32) -> RuleWeight
     ensures { result ≡ spec.weight_under each.now birth }
 {
@@ -58,7 +58,7 @@ fn weight_under(each: &[RuleWeight], birth: u32) -> RuleWeight
     }
 }
 
-/// Makes the list as long as this, with nothing known of the rules that are put to it.
+/// Makes the list at least as long as this. The weight under each birth stays the same.
 fn lengthen(each: &mut Vec<RuleWeight>, count: usize) -> Result<(), AllocError>
     ensures same { (b : ℕ) → spec.weight_under each.new.items b ≡ spec.weight_under each.old.items b }
     ensures long { OnOk result (count ≤ length each.new.items) }
@@ -69,7 +69,7 @@ fn lengthen(each: &mut Vec<RuleWeight>, count: usize) -> Result<(), AllocError>
     Ok(())
 }
 
-/// Puts down what the rule of a birth weighs at most.
+/// Puts a weight under a birth. The weights under the others stay, and after `Err(AllocError)` all do.
 fn put_under(each: &mut Vec<RuleWeight>, birth: u32, weight: RuleWeight) -> Result<(), AllocError>
     ensures own { OnOk result (spec.weight_under each.new.items birth ≡ weight) }
     ensures others { OnOk result ((b : ℕ) → b ≢ birth → spec.weight_under each.new.items b ≡ spec.weight_under each.old.items b) }
@@ -82,7 +82,7 @@ fn put_under(each: &mut Vec<RuleWeight>, birth: u32, weight: RuleWeight) -> Resu
 }
 
 impl RuleWeights {
-    /// No rule is known. Takes no memory.
+    /// Returns weights with no rule in them. It takes no memory.
     pub fn new(alloc: Global) -> RuleWeights
         ensures each { result.each ≡ [] }
         ensures heaviest { result.heaviest ≡ record { selectors = 0; decls = 0 } }
@@ -98,28 +98,29 @@ impl RuleWeights {
         }
     }
 
-    /// What no rule weighs more than.
+    /// Returns the greatest weights that were put, in bytes, of selectors and of declarations each.
     pub fn heaviest(&self) -> Heaviest
         ensures { result ≡ self.now.heaviest }
     {
         self.heaviest
     }
 
-    /// Whether each declaration of each rule stands in it once.
+    /// Whether `once` was true of all weights that were put.
     pub fn once(&self) -> bool
         ensures { result ≡ self.now.once }
     {
         self.once
     }
 
-    /// What the rule of a birth weighs at most.
+    /// Returns the weight under a birth. If none is known, it is 2^32 - 1 bytes for each part, and `once` is false.
     pub fn under(&self, birth: u32) -> RuleWeight
         ensures { result ≡ spec.weight_under self.now.each birth }
     {
         weight_under(&self.each, birth)
     }
 
-    /// Puts down what the rule of a birth weighs at most. Where memory is short, all that is told stays.
+    /// Puts a weight, in bytes, under a birth. The weights under other births stay.
+    /// After `Err(AllocError)` all weights stay, and what holds of all of them.
     pub fn put(&mut self, birth: u32, weight: RuleWeight) -> Result<(), AllocError>
         ensures own { OnOk result (spec.weight_under self.new.each birth ≡ weight) }
         ensures others { OnOk result ((b : ℕ) → b ≢ birth → spec.weight_under self.new.each b ≡ spec.weight_under self.old.each b) }

@@ -13,7 +13,7 @@ use std::alloc::{AllocError, Global};
 use std::collections::BTreeSet;
 use std::marker::Model;
 
-/// Turns that lead, each once, first the one that comes before all others.
+/// Turns that lead, each once. The one that comes before all others is the first.
 #[derive(Drop)]
 pub struct Waiting {
     leads: BTreeSet<Lead>,
@@ -30,7 +30,7 @@ impl Model for Waiting {
 }
 
 impl Waiting {
-    /// No turn leads.
+    /// Returns the turns that lead at the start: none.
     pub fn new(alloc: Global) -> Waiting
         ensures { result ≡ [] }
     {
@@ -39,7 +39,7 @@ impl Waiting {
         }
     }
 
-    /// Lets one more turn lead; those that led stay, also where memory is short.
+    /// Lets one more turn lead. Those that led stay, also after `Err(AllocError)`.
     pub fn add(&mut self, lead: Lead) -> Result<(), AllocError>
         ensures stay { (l : held.Lead) → Contains self.old l → Contains self.new l }
         ensures added { OnOk result (Contains self.new (lead_told lead)) }
@@ -50,7 +50,8 @@ impl Waiting {
         Ok(())
     }
 
-    /// Takes out the first of the turns that lead, if there is one: none of them comes before it.
+    /// Takes out the first of the turns that lead, and returns it. None of them comes before it.
+    /// It returns `None` if no turn leads.
     pub fn take_first(&mut self) -> Option<Lead>
         ensures taken { IfSome result (λ l. self.old ≡ lead_told l ∷ self.new) }
         ensures first { IfSome result (λ l. (other : held.Lead) → Contains self.old other → IsSooner other.turn (lead_told l).turn → ⊥) }

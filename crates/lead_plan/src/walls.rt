@@ -1,16 +1,17 @@
-//! What the joins of items are known not to go past.
+//! Items that others are known not to move past in joins.
 
 ghost use Rattle.std.specs.Prelude.{◌≡◌, []};
 
 use std::alloc::Global;
 use std::marker::Model;
 
-/// Walls of items: under the birth of each the label of an item that it cannot move past in a join; where none is known, 0.
+/// Walls of items: under the birth of each is the label of an item that it cannot move past in a join.
+/// The label is 0 if none is known.
 #[derive(Debug, Drop)]
 pub struct Walls {
-    /// Those for joins up.
+    /// The walls for joins up.
     pub ups: Vec<u64>,
-    /// Those for joins down.
+    /// The walls for joins down.
     pub downs: Vec<u64>,
 }
 
@@ -23,7 +24,7 @@ impl Model for Walls {
 }
 
 impl Walls {
-    /// None is known.
+    /// Returns walls of no item.
     pub fn new(alloc: Global) -> Walls
         ensures ups { result.ups ≡ [] }
         ensures downs { result.downs ≡ [] }

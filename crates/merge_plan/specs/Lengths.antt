@@ -6,7 +6,7 @@ use Rattle.css_model.specs.Sheets.Spelling.{tokens_in}
 use Rattle.css_model.specs.Text.Kept.{solid}
 use Rattle.merge_plan.specs.declared.lengths.Known.{Known}
 
--- the printed text of the selector that stands here
+-- the printed text of the selector of this piece
 abbrev pub text_of_piece : List ℕ → Piece → List ℕ
 text_of_piece source piece = selector_text (map (solid source) (tokens_in source piece))
 

@@ -1,4 +1,4 @@
--- What is told of a step while a sheet is planned.
+-- What is known of a step while a sheet is planned.
 use Rattle.std.specs.Prelude.{ℕ, ◌<◌, ◌≤◌, List}
 use Rattle.css_model.specs.declared.sheet.Item.{Item}
 use Rattle.order_laws.specs.Edits.{Edit}

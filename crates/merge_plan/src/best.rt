@@ -1,4 +1,4 @@
-//! The next step of a sheet, by a look at each of its steps.
+//! Finds the next step of a sheet. It looks at each step of the sheet.
 
 ghost use Rattle.std.specs.Prelude.{◌≡◌, ◌↔◌, ℕ, ◌+◌, ◌<◌, ◌≤◌, List, Option, true, false, IfOk, length, map};
 ghost use Rattle.std.specs.List.{AllPairs, Contains};
@@ -21,14 +21,14 @@ use plan_laws::hindered_is_blocked;
 use std::alloc::{AllocError, Global};
 use step_laws::{Step, parts_are_few};
 
-/// A free step, and how much it saves.
+/// A free step, and how many bytes it saves.
 #[derive(Clone, Copy, Debug, PartialEq, Eq)]
 pub(crate) struct Found {
     pub(crate) step: Step,
     pub(crate) saved: u32,
 }
 
-/// How much the best step so far saves.
+/// Returns how many bytes the best step so far saves, or 0 if there is none.
 fn saved_by(best: &Option<Found>) -> u32
     ensures { result ≡ saved_by best.now }
 {
@@ -38,7 +38,7 @@ fn saved_by(best: &Option<Found>) -> u32
     }
 }
 
-/// Whether a step of a sheet is free. It is blocked where it is not.
+/// Returns whether a step of a sheet is free. If it is not, it is blocked.
 fn is_free<O: Obstacles>(
     obstacles: &mut O,
     sheet: &Sheet,
@@ -60,7 +60,7 @@ fn is_free<O: Obstacles>(
     }
 }
 
-/// The best free step of the first ones of a list and of the one behind them.
+/// Returns the best free step of the first `number` + 1 steps of a list, from the best one of the first `number`.
 fn look<O: Obstacles>(
     obstacles: &mut O,
     source: &KnownLengths<'_>,
@@ -93,7 +93,7 @@ fn look<O: Obstacles>(
 }
 
 #[tactic(auto, using(crate::proofs::Looking::none_looked))]
-/// The best free step of a list, if one is free.
+/// Returns the best free step of a list that saves bytes. If none comes, each step that saves is blocked.
 fn best_of<O: Obstacles>(
     obstacles: &mut O,
     source: &KnownLengths<'_>,
@@ -117,7 +117,7 @@ fn best_of<O: Obstacles>(
 }
 
 #[tactic(auto, using(crate::proofs::Looking::all_looked, crate::proofs::NextSheets::few_parts, crate::proofs::Gains::short_source))]
-/// The next step of a sheet, if one is left that is free and saves.
+/// Returns the next step of a sheet, or `None` if each step that saves bytes is blocked.
 pub(crate) fn next_step<O: Obstacles>(
     alloc: Global,
     obstacles: &mut O,

@@ -1,4 +1,4 @@
-//! The lengths of the printed selectors of a source, remembered by where they stand.
+//! Remembers the lengths of the printed selectors of a source, by the places where they begin.
 
 ghost use Rattle.std.specs.Prelude.{◌≡◌, ◌≤◌, IfOk, IfSome, Some, length, slice_get};
 ghost use Rattle.std.specs.List.{AllByRecursion};
@@ -13,17 +13,17 @@ use std::alloc::{AllocError, Global};
 use std::marker::Model;
 use step_savings::Lengths;
 
-/// The length of the printed text of the selector that begins at a place, if it ends where this says.
+/// The length of the printed text of a selector that begins at a place and ends before `behind`.
 #[derive(Clone, Copy, Debug, Drop)]
 struct Known {
-    /// The place of the first byte behind the selector; 0 where no length is known.
+    /// The place of the first byte after the selector, from 0. It is 0 if no length is known.
     behind: u32,
     /// The length in bytes.
     len: u32,
 }
 
-/// A source with the lengths of the printed texts of its selectors, by where each begins. A length that is not known is
-/// counted anew.
+/// A source with the lengths in bytes of printed selectors, by the places where they begin.
+/// It counts a length that it does not know. Contracts see it as the bytes of the source.
 #[derive(Debug, Drop)]
 pub struct KnownLengths<'a> {
     bytes: &'a [u8],
@@ -40,7 +40,7 @@ impl<'a> Model for KnownLengths<'a> {
     ghost view = { λ lengths. lengths.bytes.now };
 }
 
-/// The length of the printed text of a selector, if it is a number of 32 bits.
+/// Returns the length in bytes of the printed text of a selector. `None` may come if it does not fit in 32 bits.
 fn counted(bytes: &[u8], item: &SelItem) -> Option<u32>
     requires short { length bytes.now ≤ max_bytes }
     requires sound { IsSoundSelector bytes.now item.now }
@@ -53,7 +53,7 @@ fn counted(bytes: &[u8], item: &SelItem) -> Option<u32>
     Some(len as u32)
 }
 
-/// What is known of the selector that begins here, if the place is in the source.
+/// Returns the entry of the selector that begins at this place, if the list has one.
 fn known_at(known: &[Known], start: u32) -> Option<Known>
     ensures { IfSome result (λ k. slice_get known.now start ≡ Some k) }
 {
@@ -64,7 +64,7 @@ fn known_at(known: &[Known], start: u32) -> Option<Known>
 }
 
 impl<'a> KnownLengths<'a> {
-    /// A source of which no length is known. Takes no memory.
+    /// Returns a source with no remembered lengths. The source has at most `max_bytes` bytes.
     pub fn none(alloc: Global, bytes: &'a [u8]) -> KnownLengths<'a>
         requires { length bytes.now ≤ max_bytes }
         ensures { result ≡ bytes.now }
@@ -75,7 +75,7 @@ impl<'a> KnownLengths<'a> {
         }
     }
 
-    /// Remembers the length of a selector.
+    /// Remembers the length of a selector, if it can. The source stays the same.
     fn remember(&mut self, item: &SelItem)
         requires { IsSoundSelector self.old item.now }
         ensures { self.new ≡ self.old }
@@ -92,7 +92,7 @@ impl<'a> KnownLengths<'a> {
         }
     }
 
-    /// Remembers the lengths of some selectors.
+    /// Remembers the lengths of some selectors, if it can. The source stays the same.
     fn remember_each(&mut self, items: &[SelItem])
         requires { AllByRecursion (IsSoundSelector self.old) items.now }
         ensures { self.new ≡ self.old }
@@ -104,7 +104,7 @@ impl<'a> KnownLengths<'a> {
         }
     }
 
-    /// Remembers the lengths of the selectors of a rule.
+    /// Remembers the lengths of the selectors of a rule, if it can. The source stays the same.
     fn remember_rule(&mut self, rule: &Rule)
         requires { IsSoundRule self.old rule.now }
         ensures { self.new ≡ self.old }
@@ -112,7 +112,7 @@ impl<'a> KnownLengths<'a> {
         self.remember_each(&rule.selectors);
     }
 
-    /// Remembers the lengths of the selectors of an item, if it is a rule.
+    /// Remembers the lengths of the selectors of an item that is a rule, if it can. The source stays the same.
     fn remember_item(&mut self, item: &Item)
         requires { IsSoundItem self.old item.now }
         ensures { self.new ≡ self.old }
@@ -122,7 +122,9 @@ impl<'a> KnownLengths<'a> {
         }
     }
 
-    /// A source of which the lengths of all selectors of a sheet are known. The memory is that of the source.
+    /// Returns a source with remembered lengths of the selectors of a sheet.
+    /// The source has at most `max_bytes` bytes, and the sheet is sound for it. The contract does not say which lengths it
+    /// remembers. `Err(AllocError)` if memory is short.
     pub fn of(alloc: Global, bytes: &'a [u8], sheet: &Sheet) -> Result<KnownLengths<'a>, AllocError>
         requires short { length bytes.now ≤ max_bytes }
         requires sound { IsSound bytes.now sheet.now.items }
@@ -139,7 +141,7 @@ impl<'a> KnownLengths<'a> {
         Ok(lengths)
     }
 
-    /// The length of the printed text of the selector that stands here, if it is known.
+    /// Returns the length in bytes of the printed text of the selector of this piece, or `None` if it is not known.
     fn find(&self, piece: &Piece) -> Option<u32>
         ensures { IfSome result (λ len. len ≡ length (text_of_piece self.now piece.now)) }
     {

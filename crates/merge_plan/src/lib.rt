@@ -1,5 +1,5 @@
-//! The plan of merging: steps taken one after the other, each the one that saves most of those that are free,
-//! until none is left that saves.
+//! The plan of merging. It takes one step after another until no free step saves bytes.
+//! Each step is the next one: it is free, and each step that comes before it is blocked. A step that saves more comes first.
 #![tactic(auto)]
 
 mod best;

@@ -1,4 +1,4 @@
-//! Steps taken one after the other.
+//! Takes steps of a sheet, one after another.
 
 ghost use Rattle.std.specs.Prelude.{◌≡◌, IfNone, IfOk, IfSome};
 ghost use Rattle.plan_laws.specs.Plannable.{IsPlannable};
@@ -22,7 +22,7 @@ pub struct Merged {
 }
 
 #[tactic(auto, using(crate::proofs::NextSheets::taken, crate::proofs::NextSheets::taken_plannable))]
-/// The sheet after the next step, if there is one.
+/// Returns the sheet after the next step, or `None` if nothing is left to do.
 fn next_sheet<O: Obstacles>(
     alloc: Global,
     obstacles: &mut O,
@@ -45,9 +45,10 @@ fn next_sheet<O: Obstacles>(
     Ok(Some(new))
 }
 
-/// Merges a sheet: takes steps, each the next one by the answers that `obstacles` holds afterwards, until nothing
-/// is left to do. The sheet is one whose parts are those of the source, which is read without a fault, and it
-/// keeps the limits of a sheet. All that was answered stays, and the budget, also after `AllocError`.
+/// Merges a sheet: takes steps, each the next one, until every step that saves bytes is blocked.
+/// Which step is next, and which is blocked, is by the answers that `obstacles` has afterwards. The sheet can be planned
+/// (`IsPlannable`). The answers of before stay, and the budget too, also after an error. `Err(AllocError)` if memory is
+/// short.
 pub fn merge<O: Obstacles>(
     alloc: Global,
     obstacles: &mut O,

@@ -1,4 +1,4 @@
-//! What a step saves.
+//! How many bytes a step saves.
 
 ghost use Rattle.std.specs.Prelude.{◌≡◌, ◌<◌, ◌≤ℤ◌, pos, true};
 ghost use Rattle.css_model.specs.Sheets.Limits.{max_bytes};
@@ -12,7 +12,7 @@ use css_model::Sheet;
 use merge_steps::Step;
 use step_savings::saving_if_apart;
 
-/// The bytes that are saved, or 0 where none are.
+/// Returns the bytes that are saved, or 0 if none are.
 fn gain(saving: i64) -> u32
     requires { saving ≤ℤ pos max_bytes }
     ensures most { saving ≤ℤ pos result }
@@ -21,8 +21,8 @@ fn gain(saving: i64) -> u32
     if saving > 0 { saving as u32 } else { 0 }
 }
 
-/// How many bytes a step of a sheet saves, or 0 where it saves none. `apart` says that the rules of a step of two items are
-/// known to have no selector in common; their selectors are not compared then. Takes no memory.
+/// Returns how many bytes a step of a sheet saves, or 0 if it saves none.
+/// `apart` says that the rules of the step have no selector in common. If they may have one, it is `false`.
 pub fn saved_if_apart(source: &KnownLengths<'_>, sheet: &Sheet, step: &Step, apart: bool) -> u32
     requires is_step { HasStep sheet.now.items step.now }
     requires plannable { IsPlannable source.now sheet.now.items }
@@ -32,7 +32,7 @@ pub fn saved_if_apart(source: &KnownLengths<'_>, sheet: &Sheet, step: &Step, apa
     gain(saving_if_apart(source, sheet, step, apart))
 }
 
-/// How many bytes a step of a sheet saves, or 0 where it saves none. Takes no memory.
+/// Returns how many bytes a step of a sheet saves, or 0 if it saves none.
 pub fn saved(source: &KnownLengths<'_>, sheet: &Sheet, step: &Step) -> u32
     requires is_step { HasStep sheet.now.items step.now }
     requires plannable { IsPlannable source.now sheet.now.items }

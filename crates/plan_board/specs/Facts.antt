@@ -10,7 +10,7 @@ use Rattle.plan_board.specs.declared.marks.Mark.{Mark}
 use Rattle.step_laws.specs.declared.step.Step.{Step}
 use Rattle.step_laws.specs.Steps.{first_item, last_item}
 
--- what is told of the rule of this number is so
+-- each fact is true of the rule of this number
 pub record AreTrueOf (items : List Item) (n : ℕ) (facts : Facts) : Type 0 where
   pub no_cut : facts.no_cut ≡ true → HasNoCut items n
   pub own_selectors : facts.own_selectors ≡ true → HasOwnSelectors items n

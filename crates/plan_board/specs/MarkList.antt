@@ -25,11 +25,11 @@ pub record AreMarks (list : List Mark) (next : ℕ) : Type 0 where
   pub differ : AllPairs (λ m n. m.birth ≢ n.birth) list
   pub past : All (λ m. m.birth < next) list
 
--- A mark that was born before `first` was born before all behind it.
+-- A mark that was born before `first` was born before all marks after it.
 abbrev pub AreFirst : List Mark → ℕ → Type 0
 AreFirst list first = AllPairs (λ m n. m.birth < first → m.birth < n.birth) list
 
--- all marks behind that of this number were born later
+-- all marks after that of this number were born later
 abbrev pub IsOldestBelow : List Mark → ℕ → Type 0
 IsOldestBelow list n = (k : ℕ) (own other : Mark) → n < k → slice_get list n ≡ Some own → slice_get list k ≡ Some other → own.birth < other.birth
 

@@ -10,20 +10,20 @@ use Rattle.plan_board.specs.BoardParts.{BoardParts}
 use Rattle.plan_board.specs.MarkList.{IsLabelAt}
 use Rattle.plan_board.specs.Putting.{put_at}
 
--- A mark is that of an item which an edit leaves, and which stands at this number behind it.
+-- A mark is that of an item that an edit leaves. The item has this number after the edit.
 pub record IsLeft (old : BoardParts) (e : Edit) (n : ℕ) (m : Mark) : Type 0 where
   pub number : ℕ
   pub leaves : Leaves e number
   pub mark_at : slice_get old.marks number ≡ Some m
   pub is : n ≡ new_number e old.items number
 
--- Behind an edit each item that it leaves keeps its mark, and each other one is born later than all before.
+-- After an edit each item that it leaves keeps its mark. Each other one is born later than all before.
 pub record AreKept (old new : BoardParts) (e : Edit) : Type 0 where
   pub kept : (n : ℕ) (m : Mark) → Leaves e n → slice_get old.marks n ≡ Some m → slice_get new.marks (new_number e old.items n) ≡ Some m
   pub born : (n : ℕ) (m : Mark) → slice_get new.marks n ≡ Some m → (old.next ≤ m.birth) ⊎ IsLeft old e n m
 
--- The marks with so many new ones in the place of the one of this number, all of them born from `next` on.
--- Where there is one it has the label of the one before it.
+-- The marks with so many new ones instead of the one of this number. All of them are born from `next` on.
+-- If there is one, it has the label of the mark that it replaces.
 pub record AreRenewed (old new : List Mark) (next n count : ℕ) : Type 0 where
   pub made : List Mark
   pub count_is : length made ≡ count

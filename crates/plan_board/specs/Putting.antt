@@ -1,4 +1,4 @@
--- What stands in the place of one item.
+-- What is put instead of one item.
 use Rattle.std.specs.Prelude.{ℕ, zero, suc, List, [], ◌∷◌, ◌++◌, map}
 use Rattle.std.specs.List.{Contains}
 use Rattle.css_model.specs.declared.sheet.Item.{Item}
@@ -8,19 +8,19 @@ use Rattle.css_model.specs.declared.sheet.Item.TheVariants.{Rule, KeptBlock}
 use Rattle.plan_board.specs.declared.parts.Left.{Left}
 use Rattle.plan_board.specs.declared.parts.Left.TheVariants.{Nothing, One, Two}
 
--- the list with these elements in the place of the one of this number
+-- the list with these elements instead of the one of this number
 abbrev pub put_at : {X : Type 0} → ℕ → List X → List X → List X
 put_at n by [] = []
 put_at zero by (x ∷ xs) = by ++ xs
 put_at (suc n) by (x ∷ xs) = x ∷ put_at n by xs
 
--- what a step leaves in the place of a rule, as items
+-- what a step puts instead of a rule, as items
 abbrev pub items_in : Left → List Item
 items_in Nothing = []
 items_in (One r) = Rule r ∷ []
 items_in (Two r q) = Rule r ∷ Rule q ∷ []
 
--- what stands in the place of a rule while it is out of its board
+-- the item that is there instead of a rule while the rule is out of its board
 abbrev pub placeholder : Item
 placeholder = KeptBlock (record { start = 0; end = 0 })
 

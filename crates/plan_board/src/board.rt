@@ -24,8 +24,8 @@ use std::marker::Model;
 use step_laws::Step;
 use step_savings::items_of;
 
-/// A sheet while it is planned, with a mark and the mask of each item. Beside it stands what is known of its rules, which
-/// is not seen but by who asks for it.
+/// A sheet while it is planned, with a mark and a mask for each item.
+/// It also keeps facts about its rules. Contracts see the items, the marks and the next birth, but not the facts.
 #[derive(Debug, Drop)]
 pub struct Board {
     marked: MarkedSheet,
@@ -43,7 +43,7 @@ impl Model for Board {
     ghost invariant = { λ b. AreKnown b.marked b.facts.items };
 }
 
-/// The way in which an item moves in a step, if it is a join.
+/// Returns the way in which an item moves in a step. `Some` comes only if the step is a join.
 fn way_of(step: &Step) -> Option<Way>
     ensures { IfSome result (λ way. IsMove way step.now) }
 {
@@ -55,7 +55,8 @@ fn way_of(step: &Step) -> Option<Way>
 }
 
 impl Board {
-    /// The sheet with new marks, born in the order of the items.
+    /// Returns a board with the items of a sheet, with new marks.
+    /// The next birth is the number of items. The sheet has at most `max_items` items. `Err(AllocError)` if memory is short.
     pub fn new(alloc: Global, sheet: Sheet) -> Result<Board, AllocError>
         requires { length sheet.items ≤ max_items }
         ensures items { IfOk result (λ b. b.items ≡ sheet.items) }
@@ -68,21 +69,21 @@ impl Board {
         })
     }
 
-    /// The sheet.
+    /// Returns the sheet.
     pub fn sheet(&self) -> &Sheet
         ensures { result.now.items ≡ self.now.items }
     {
         self.marked.sheet()
     }
 
-    /// The masks of its items, in their order.
+    /// Returns the masks of the items, in the order of the items.
     pub fn masks(&self) -> &[ItemMask]
         ensures { result.now ≡ map item_mask self.now.items }
     {
         self.marked.masks()
     }
 
-    /// The sheet, without its marks.
+    /// Returns the sheet without its marks.
     pub fn into_sheet(self) -> Sheet
         ensures { result.items ≡ self.items }
     {
@@ -91,7 +92,8 @@ impl Board {
         marked.into_sheet()
     }
 
-    /// The marks of its items, in their order: labels ascend, and births differ and are past.
+    /// Returns the marks of the items, in the order of the items.
+    /// Labels ascend. Births differ, and each is below `next`.
     pub fn marks(&self) -> &[Mark]
         ensures marks { result.now ≡ self.now.marks }
         ensures are_marks { AreMarks self.now.marks self.now.next }
@@ -100,14 +102,16 @@ impl Board {
         self.marked.marks()
     }
 
-    /// The birth of the next item that is put in. All births are below it.
+    /// Returns the birth of the next item that is put in.
+    /// All births are below it (see `marks`).
     pub fn next(&self) -> u32
         ensures { result ≡ self.now.next }
     {
         self.marked.next()
     }
 
-    /// The mark of the item of this number.
+    /// Returns the mark of the item of this number, from 0.
+    /// The board has an item of this number.
     pub fn mark(&self, number: u32) -> Mark
         requires { number < length self.now.items }
         ensures { slice_get self.now.marks number ≡ Some result }
@@ -115,8 +119,8 @@ impl Board {
         self.marked.mark(number)
     }
 
-    /// Whether it is known of the item of this number that all below it were born later. It is known of those that stood there
-    /// at first.
+    /// Returns `true` only if all items below the item of this number, from 0, were born later.
+    /// `false` says nothing. The board has an item of this number.
     pub fn is_oldest_below(&self, number: u32) -> bool
         requires { number < length self.now.items }
         ensures { result ≡ true → IsOldestBelow self.now.marks number }
@@ -124,7 +128,8 @@ impl Board {
         self.marked.is_oldest_below(number)
     }
 
-    /// The number of the item with this label, if there is one.
+    /// Returns the number, from 0, of the item with this label, or `None` if no item has it.
+    /// The board has at most `max_items` items.
     pub fn number_of(&self, label: u64) -> Option<u32>
         requires { length self.now.items ≤ max_items }
         ensures some { IfSome result (IsLabelAt self.now.marks label) }
@@ -133,7 +138,8 @@ impl Board {
         self.marked.number_of(label)
     }
 
-    /// What is known of the rule of this number; where there is none, nothing.
+    /// Returns facts that are true of the rule of this number, from 0.
+    /// A field that is `false` says nothing.
     pub fn facts(&self, number: u32) -> Facts
         ensures { AreTrueOf self.now.items number result }
     {
@@ -144,7 +150,9 @@ impl Board {
         }
     }
 
-    /// Adds to what is known of the rule of this number. After an error what was known still is.
+    /// Notes facts that are true of the rule of this number, from 0.
+    /// The items, the marks and the next birth stay the same, also after an error. The contract does not say that `facts`
+    /// returns these facts later. `Err(AllocError)` if memory is short.
     pub fn note(&mut self, number: u32, facts: Facts) -> Result<(), AllocError>
         requires { AreTrueOf self.old.items number facts }
         ensures { self.new ≡ self.old }
@@ -157,14 +165,15 @@ impl Board {
         Ok(())
     }
 
-    /// Whether the new rule of a share finds a label between its neighbours. Each other step needs none.
+    /// Returns whether a share has a free label for its new rule, before the mark of its lower rule.
+    /// Any other step needs no label: the answer is `true`.
     pub fn has_label_for(&self, step: &Step) -> bool
         ensures { IsTrue result ↔ HasLabelFor self.now.marks step.now }
     {
         self.marked.has_label_for(step)
     }
 
-    /// What is known of the rule that a step makes, if it is a join: what is known of both of its rules.
+    /// Returns facts that are true of both rules of a step. `Some` comes only if the step is a join.
     fn facts_of_join(&self, step: &Step) -> Option<Facts>
         ensures { IfSome result (AreTrueOfBoth self.now.items step.now) }
     {
@@ -175,7 +184,7 @@ impl Board {
         }
     }
 
-    /// Whether the rules of a step of two items are known to have no selector in common.
+    /// Returns `true` only if the rules of a step are known to have no selector in common.
     fn is_known_apart(&self, step: &Step) -> bool
         ensures { result ≡ true → StepApart self.now.items step.now }
     {
@@ -183,8 +192,11 @@ impl Board {
         first != last && (self.facts(first).own_selectors || self.facts(last).own_selectors)
     }
 
-    /// The board after one of its steps, which is taken in place: the items that it does not take keep their
-    /// marks, and the others are born later than all before. After an error nothing is left.
+    /// Returns the board after one of its steps.
+    /// Items that the step leaves keep their marks. All other items have births from the old `next` on. A join removes the
+    /// label of the item that moves and keeps all others. `next` grows by at most 4. A share needs a free label (see
+    /// `has_label_for`), and `next` + 4 fits in 32 bits. `Err(AllocError)` if memory is short; the board is consumed then
+    /// too.
     pub fn take(self, alloc: Global, step: &Step) -> Result<Board, AllocError>
         requires is_step { HasStep self.items step.now }
         requires label { HasLabelFor self.marks step.now }

@@ -1,11 +1,11 @@
-//! What is known of rules.
+//! Facts about rules.
 
 ghost use Rattle.std.specs.Prelude.{◌≡◌, ◌≢◌, ℕ, ◌<◌, ◌≤◌, IfOk, OnErr, OnOk, length};
 ghost use Rattle.plan_board.specs.Facts as known;
 
 use std::alloc::AllocError;
 
-/// What is known of a rule; what is not said is not known.
+/// Facts about a rule. A field that is `false` says nothing.
 #[derive(Clone, Copy, Debug, PartialEq, Eq)]
 pub struct Facts {
     /// No part of it can be cut.
@@ -16,7 +16,7 @@ pub struct Facts {
     pub own_decls: bool,
 }
 
-/// Nothing is known.
+/// Returns facts that say nothing.
 pub(crate) fn nothing() -> Facts
     ensures { result ≡ known.nothing }
 {
@@ -27,7 +27,7 @@ pub(crate) fn nothing() -> Facts
     }
 }
 
-/// What is known by both.
+/// Returns the facts that both have.
 pub(crate) fn by_both(one: Facts, other: Facts) -> Facts
     ensures { result ≡ known.by_both one other }
 {
@@ -38,7 +38,7 @@ pub(crate) fn by_both(one: Facts, other: Facts) -> Facts
     }
 }
 
-/// What is known by either.
+/// Returns the facts that either has.
 pub(crate) fn by_either(one: Facts, other: Facts) -> Facts
     ensures { result ≡ known.by_either one other }
 {
@@ -49,7 +49,7 @@ pub(crate) fn by_either(one: Facts, other: Facts) -> Facts
     }
 }
 
-/// What is known of the rule of a birth.
+/// Returns the facts about the rule of a birth, or facts that say nothing if the list has none.
 pub(crate) fn facts_under(facts: &[Facts], birth: u32) -> Facts
     ensures { result ≡ known.facts_under facts.now birth }
 {
@@ -61,7 +61,7 @@ pub(crate) fn facts_under(facts: &[Facts], birth: u32) -> Facts
     }
 }
 
-/// Makes the list as long as this, with nothing known of those that are put to it.
+/// Makes the list at least as long as `count`. The new entries say nothing.
 fn lengthen(facts: &mut Vec<Facts>, count: usize) -> Result<(), AllocError>
     ensures same { (b : ℕ) → known.facts_under facts.new.items b ≡ known.facts_under facts.old.items b }
     ensures long { OnOk result (count ≤ length facts.new.items) }
@@ -73,7 +73,8 @@ fn lengthen(facts: &mut Vec<Facts>, count: usize) -> Result<(), AllocError>
     Ok(())
 }
 
-/// Puts down what is known of the rule of a birth. After an error nothing has changed of what is known.
+/// Sets the facts about the rule of a birth. All other facts stay.
+/// After `Err(AllocError)` the facts of this birth stay too.
 pub(crate) fn learn(facts: &mut Vec<Facts>, birth: u32, own: Facts) -> Result<(), AllocError>
     ensures own { OnOk result (known.facts_under facts.new.items birth ≡ own) }
     ensures own_stays { OnErr result (known.facts_under facts.new.items birth ≡ known.facts_under facts.old.items birth) }
@@ -86,7 +87,7 @@ pub(crate) fn learn(facts: &mut Vec<Facts>, birth: u32, own: Facts) -> Result<()
     Ok(())
 }
 
-/// What is known once something may be known of a rule of the next birth.
+/// Returns the facts after `made`, if there is one, is set for the rule of this birth.
 pub(crate) fn learn_made(
     mut facts: Vec<Facts>,
     birth: u32,

@@ -1,4 +1,4 @@
-//! The sheet while it is planned: its items with marks that tell them while steps are taken in place.
+//! The sheet while it is planned. Each item has a mark that identifies it while steps change the sheet in place.
 #![tactic(auto)]
 
 mod board;

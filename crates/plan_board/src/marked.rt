@@ -12,7 +12,7 @@ use item_masks::{ItemMask, item_masks};
 use std::alloc::{AllocError, Global};
 use std::marker::Model;
 
-/// A sheet with a mark and the mask of each item.
+/// A sheet with a mark and a mask for each item.
 #[derive(Debug, Drop)]
 pub(crate) struct MarkedSheet {
     pub(crate) sheet: Sheet,
@@ -32,7 +32,7 @@ impl Model for MarkedSheet {
     ghost invariant = { λ b. (length b.marks.list ≡ length b.sheet.items) × (b.masks.items ≡ map item_mask b.sheet.items) };
 }
 
-/// The number of the mark with this label, if there is one.
+/// Returns the number, from 0, of the mark with this label, or `Err` if no mark has it.
 fn find_label(marks: &[Mark], label: u64) -> Result<usize, usize>
     requires { Ascends marks.now }
     ensures within { IfOk result (λ n. n < length marks.now) }
@@ -43,7 +43,7 @@ fn find_label(marks: &[Mark], label: u64) -> Result<usize, usize>
 }
 
 impl MarkedSheet {
-    /// The sheet with new marks, born in the order of the items.
+    /// Returns the sheet with new marks. The next birth is the number of items.
     pub(crate) fn new(alloc: Global, sheet: Sheet) -> Result<MarkedSheet, AllocError>
         requires { length sheet.items ≤ max_items }
         ensures items { IfOk result (λ b. b.items ≡ sheet.items) }
@@ -58,21 +58,21 @@ impl MarkedSheet {
         })
     }
 
-    /// The sheet.
+    /// Returns the sheet.
     pub(crate) fn sheet(&self) -> &Sheet
         ensures { result.now.items ≡ self.now.items }
     {
         &self.sheet
     }
 
-    /// The masks of its items, in their order.
+    /// Returns the masks of the items, in the order of the items.
     pub(crate) fn masks(&self) -> &[ItemMask]
         ensures { result.now ≡ map item_mask self.now.items }
     {
         &self.masks
     }
 
-    /// The sheet, without its marks.
+    /// Returns the sheet without its marks.
     pub(crate) fn into_sheet(self) -> Sheet
         ensures { result.items ≡ self.items }
     {
@@ -86,7 +86,8 @@ impl MarkedSheet {
         sheet
     }
 
-    /// The marks of its items, in their order: labels ascend, and births differ and are past.
+    /// Returns the marks of the items, in the order of the items.
+    /// Labels ascend. Births differ, and each is below `next`.
     pub(crate) fn marks(&self) -> &[Mark]
         ensures marks { result.now ≡ self.now.marks }
         ensures are_marks { AreMarks self.now.marks self.now.next }
@@ -95,7 +96,7 @@ impl MarkedSheet {
         self.marks.list()
     }
 
-    /// The birth of the next item that is put in. All births are below it.
+    /// Returns the birth of the next item that is put in. All births are below it.
     pub(crate) fn next(&self) -> u32
         ensures next { result ≡ self.now.next }
         ensures are_marks { AreMarks self.now.marks self.now.next }
@@ -104,7 +105,7 @@ impl MarkedSheet {
         self.marks.next()
     }
 
-    /// The mark of the item of this number.
+    /// Returns the mark of the item of this number.
     pub(crate) fn mark(&self, number: u32) -> Mark
         requires { number < length self.now.items }
         ensures { slice_get self.now.marks number ≡ Some result }
@@ -112,7 +113,7 @@ impl MarkedSheet {
         self.marks.list()[number as usize]
     }
 
-    /// Whether it is known of the item of this number that all below it were born later.
+    /// Returns `true` only if all items below the item of this number were born later.
     pub(crate) fn is_oldest_below(&self, number: u32) -> bool
         requires { number < length self.now.items }
         ensures { result ≡ true → IsOldestBelow self.now.marks number }
@@ -120,7 +121,7 @@ impl MarkedSheet {
         self.marks.is_oldest_below(number)
     }
 
-    /// The mask of the item of this number.
+    /// Returns the mask of the item of this number.
     pub(crate) fn mask(&self, number: u32) -> ItemMask
         requires { number < length self.now.items }
         ensures { (item : Item) → slice_get self.now.items number ≡ Some item → result ≡ item_mask item }
@@ -128,7 +129,7 @@ impl MarkedSheet {
         self.masks[number as usize]
     }
 
-    /// The number of the item with this label, if there is one.
+    /// Returns the number of the item with this label, or `None` if no item has it.
     pub(crate) fn number_of(&self, label: u64) -> Option<u32>
         requires { length self.now.items ≤ max_items }
         ensures some { IfSome result (IsLabelAt self.now.marks label) }

@@ -1,4 +1,4 @@
-//! What tells the items of a board.
+//! The marks that identify the items of a board.
 
 ghost use Rattle.std.specs.Prelude.{◌≡◌, ◌≤◌, ◌<◌, ◌+◌, ◌^◌, ℕ, IfOk, Some, length, slice_get, true};
 ghost use Rattle.css_model.specs.Sheets.Limits.{max_items};
@@ -10,16 +10,17 @@ use crate::parts::Left;
 use std::alloc::{AllocError, Global};
 use std::marker::Model;
 
-/// How far the labels of neighbours are apart at first.
+/// How far apart the labels of neighbours are at first.
 const GAP: u64 = 0x1_0000_0000_0000;
 
-/// The mark of an item. Labels ascend with the items' numbers, and a label stays while its item does. A
-/// birth tells the item from each other one that ever stood in the board.
+/// The mark of an item of a board.
+/// Labels ascend with the numbers of the items. No two items of a board have the same birth. An item keeps its mark after
+/// each step that leaves it. An item that a step makes has a birth that no item of the board had before.
 #[derive(Clone, Copy, Debug, PartialEq, Eq)]
 pub struct Mark {
-    /// Where the item stands among the others.
+    /// The place of the item among the others.
     pub label: u64,
-    /// When the item was put in: the later, the more.
+    /// When the item was put in. An item that a later step makes has a higher birth.
     pub birth: u32,
 }
 
@@ -28,7 +29,7 @@ pub struct Mark {
 pub(crate) struct Marks {
     list: Vec<Mark>,
     next: u32,
-    /// Below this birth, births ascend as the labels do, and all below such an item were born later.
+    /// If an item was born before this birth, all items below it were born later than it.
     first: u32,
 }
 
@@ -44,7 +45,7 @@ impl Model for Marks {
 }
 
 impl Marks {
-    /// Marks of so many items, born in their order.
+    /// Returns marks of `count` items. The next birth is `count`.
     pub(crate) fn new(alloc: Global, count: u32) -> Result<Marks, AllocError>
         requires { count ≤ max_items }
         ensures length { IfOk result (λ marks. length marks.list ≡ count) }
@@ -62,7 +63,7 @@ impl Marks {
         })
     }
 
-    /// The marks.
+    /// Returns the marks.
     pub(crate) fn list(&self) -> &[Mark]
         ensures list { result.now ≡ self.now.list }
         ensures are_marks { AreMarks self.now.list self.now.next }
@@ -70,7 +71,7 @@ impl Marks {
         &self.list
     }
 
-    /// The birth of the next mark.
+    /// Returns the birth of the next mark.
     pub(crate) fn next(&self) -> u32
         ensures next { result ≡ self.now.next }
         ensures are_marks { AreMarks self.now.list self.now.next }
@@ -78,7 +79,7 @@ impl Marks {
         self.next
     }
 
-    /// Whether it is known of the item of this number that all below it were born later.
+    /// Returns `true` only if all items below the item of this number were born later.
     pub(crate) fn is_oldest_below(&self, number: u32) -> bool
         requires { number < length self.now.list }
         ensures { result ≡ true → IsOldestBelow self.now.list number }
@@ -86,7 +87,7 @@ impl Marks {
         self.list[number as usize].birth < self.first
     }
 
-    /// The marks without the one of this number.
+    /// Returns the marks without the one of this number.
     fn without(self, number: u32) -> Marks
         requires { number < length self.list }
         ensures marks { AreRenewed self.list result.list self.next number 0 }
@@ -101,7 +102,7 @@ impl Marks {
         Marks { list, next, first }
     }
 
-    /// The marks with a new one in the place of the one of this number, with its label.
+    /// Returns the marks with a new one instead of the one of this number. The new one has the same label.
     fn renewed(self, number: u32) -> Marks
         requires at { number < length self.list }
         requires births { self.next + 1 < 2 ^ 32 }
@@ -122,7 +123,7 @@ impl Marks {
         }
     }
 
-    /// The marks with two new ones in the place of the one of this number, the second one with its label.
+    /// Returns the marks with two new ones instead of the one of this number.
     fn split(self, number: u32) -> Result<Marks, AllocError>
         requires at { number < length self.list }
         requires behind { 0 < number }
@@ -158,7 +159,7 @@ impl Marks {
         })
     }
 
-    /// The marks with new ones for what a step leaves in the place of the item of this number.
+    /// Returns the marks with new ones for the rules that a step puts instead of the item of this number.
     pub(crate) fn put(self, number: u32, left: &Left) -> Result<Marks, AllocError>
         requires at { number < length self.list }
         requires room { 1 < length (items_in left.now) → (0 < number) × HasLabelBefore self.list number }
@@ -174,7 +175,7 @@ impl Marks {
     }
 }
 
-/// A label between two others.
+/// Returns a label between two others.
 fn middle(above: u64, below: u64) -> u64
     requires { above + 1 < below }
     ensures more { above < result }

@@ -1,4 +1,4 @@
-//! What a step leaves of its rules: their parts are moved, and copied only where they stand twice behind it.
+//! What a step leaves of its rules.
 
 ghost use Rattle.std.specs.Prelude.{◌≡◌, ◌++◌, ◌<◌, ◌∷◌, [], IfOk, OnOk, not, length, true};
 ghost use Rattle.std.specs.List.{filter, remove};
@@ -14,7 +14,7 @@ use css_model::{DeclItem, Rule, SelItem};
 use std::alloc::{AllocError, Global};
 use step_savings::{has_decl, has_selector};
 
-/// The rules that a step leaves in the place of one.
+/// The rules that a step puts instead of one rule.
 #[derive(Debug, Drop)]
 pub(crate) enum Left {
     /// None.
@@ -25,7 +25,7 @@ pub(crate) enum Left {
     Two(Rule, Rule),
 }
 
-/// A rule, if it has a selector and a declaration.
+/// Returns a rule, or nothing if it has no selector or no declaration.
 pub(crate) fn left_of(rule: Rule) -> Left
     ensures { items_in result ≡ parting.rule_or_none rule }
 {
@@ -36,7 +36,7 @@ pub(crate) fn left_of(rule: Rule) -> Left
     }
 }
 
-/// A rule above what is left of another one.
+/// Returns a rule, and below it another one if that has a selector and a declaration.
 pub(crate) fn above_left(made: Rule, rest: Rule) -> Left
     ensures { items_in result ≡ item.Rule made ∷ parting.rule_or_none rest }
 {
@@ -47,7 +47,7 @@ pub(crate) fn above_left(made: Rule, rest: Rule) -> Left
     }
 }
 
-/// What is left of a rule without its declaration of this number.
+/// Returns what is left of a rule without its declaration of this number.
 pub(crate) fn without_decl(rule: Rule, decl: u32) -> Left
     requires { decl < length rule.decls }
     ensures { items_in result ≡ parting.rule_or_none (record { selectors = rule.selectors; decls = remove rule.decls decl }) }
@@ -60,7 +60,7 @@ pub(crate) fn without_decl(rule: Rule, decl: u32) -> Left
     left_of(Rule { selectors, decls })
 }
 
-/// What is left of a rule without its selector of this number.
+/// Returns what is left of a rule without its selector of this number.
 pub(crate) fn without_selector(rule: Rule, sel: u32) -> Left
     requires { sel < length rule.selectors }
     ensures { items_in result ≡ parting.rule_or_none (record { selectors = remove rule.selectors sel; decls = rule.decls }) }
@@ -73,7 +73,7 @@ pub(crate) fn without_selector(rule: Rule, sel: u32) -> Left
     left_of(Rule { selectors, decls })
 }
 
-/// The upper rule with the declarations of the lower one behind its own.
+/// Returns the upper rule with the declarations of the lower one after its own.
 pub(crate) fn joined_up(upper: Rule, lower: Rule) -> Result<Rule, AllocError>
     ensures { IfOk result (λ r. r ≡ style.joined upper lower) }
 {
@@ -90,7 +90,7 @@ pub(crate) fn joined_up(upper: Rule, lower: Rule) -> Result<Rule, AllocError>
     Ok(Rule { selectors, decls })
 }
 
-/// The lower rule with the declarations of the upper one before its own.
+/// Returns the lower rule with the declarations of the upper one before its own.
 pub(crate) fn joined_down(upper: Rule, lower: Rule) -> Result<Rule, AllocError>
     ensures { IfOk result (λ r. r ≡ record { selectors = lower.selectors; decls = upper.decls ++ lower.decls }) }
 {
@@ -107,7 +107,7 @@ pub(crate) fn joined_down(upper: Rule, lower: Rule) -> Result<Rule, AllocError>
     Ok(Rule { selectors, decls })
 }
 
-/// Those of the selectors that are not among the others.
+/// Returns those of the selectors that are not among the others.
 fn new_selectors(
     alloc: Global,
     items: Vec<SelItem>,
@@ -124,8 +124,8 @@ fn new_selectors(
     Ok(kept)
 }
 
-/// The selectors of the upper rule, then those of the lower one that the upper one lacks. `apart` says that these are known to
-/// be all.
+/// Returns the selectors of the upper rule, then those of the lower one that the upper one lacks.
+/// `apart` says that the two lists have no selector in common.
 fn all_selectors(
     alloc: Global,
     upper: Vec<SelItem>,
@@ -145,8 +145,8 @@ fn all_selectors(
     Ok(all)
 }
 
-/// The selectors of both rules with the declarations of the upper one. `apart` says that the rules are known to have no selector
-/// in common.
+/// Returns a rule with the selectors of both rules and the declarations of the upper one.
+/// `apart` says that the rules have no selector in common.
 pub(crate) fn widened_up(
     alloc: Global,
     upper: Rule,
@@ -169,8 +169,8 @@ pub(crate) fn widened_up(
     Ok(Rule { selectors, decls })
 }
 
-/// The selectors of both rules with the declarations of the lower one. `apart` says that the rules are known to have no selector
-/// in common.
+/// Returns a rule with the selectors of both rules and the declarations of the lower one.
+/// `apart` says that the rules have no selector in common.
 pub(crate) fn widened_down(
     alloc: Global,
     upper: Rule,
@@ -193,7 +193,7 @@ pub(crate) fn widened_down(
     Ok(Rule { selectors, decls })
 }
 
-/// Copies of the selectors.
+/// Returns copies of the selectors.
 fn selectors(alloc: Global, items: &[SelItem]) -> Result<Vec<SelItem>, AllocError>
     ensures { IfOk result (λ copies. copies.items ≡ items.now) }
 {
@@ -204,7 +204,7 @@ fn selectors(alloc: Global, items: &[SelItem]) -> Result<Vec<SelItem>, AllocErro
     Ok(copies)
 }
 
-/// Puts copies of those of the selectors that are not among the others behind what is there.
+/// Returns `into` with copies of those of the selectors that are not among the others after its own.
 fn push_new_selectors(
     into: Vec<SelItem>,
     items: &[SelItem],
@@ -223,7 +223,7 @@ fn push_new_selectors(
     Ok(kept)
 }
 
-/// Copies of the selectors of the upper rule, then of those of the lower one that the upper one lacks.
+/// Returns copies of the selectors of the upper rule, then of those of the lower one that the upper one lacks.
 fn both_selectors(alloc: Global, upper: &Rule, lower: &Rule) -> Result<Vec<SelItem>, AllocError>
     ensures { IfOk result (λ both. both.items ≡ parting.both_selectors upper.now lower.now) }
 {
@@ -231,7 +231,7 @@ fn both_selectors(alloc: Global, upper: &Rule, lower: &Rule) -> Result<Vec<SelIt
     push_new_selectors(first, &lower.selectors, &upper.selectors)
 }
 
-/// Copies of those of the declarations that are among the others.
+/// Returns copies of those of the declarations that are among the others.
 fn decls_among(
     alloc: Global,
     items: &[DeclItem],
@@ -250,7 +250,7 @@ fn decls_among(
     Ok(kept)
 }
 
-/// Copies of the declarations, each once, of where it stands last.
+/// Returns copies of the declarations, each once, at its last place.
 fn each_last(alloc: Global, items: &[DeclItem]) -> Result<Vec<DeclItem>, AllocError>
     ensures { IfOk result (λ last. last.items ≡ parting.each_last items.now) }
 {
@@ -265,8 +265,7 @@ fn each_last(alloc: Global, items: &[DeclItem]) -> Result<Vec<DeclItem>, AllocEr
     Ok(last)
 }
 
-/// Copies of the declarations of the lower rule that stand in the upper one, each once, of where it stands
-/// last.
+/// Returns copies of the declarations of the lower rule that the upper one has too, each once, at its last place.
 fn common_decls(alloc: Global, upper: &Rule, lower: &Rule) -> Result<Vec<DeclItem>, AllocError>
     ensures { IfOk result (λ common. common.items ≡ parting.common_decls upper.now lower.now) }
 {
@@ -274,7 +273,7 @@ fn common_decls(alloc: Global, upper: &Rule, lower: &Rule) -> Result<Vec<DeclIte
     each_last(alloc, &common)
 }
 
-/// The common declarations of two rules, with the selectors of both.
+/// Returns a rule with the common declarations of two rules and the selectors of both.
 pub(crate) fn shared(alloc: Global, upper: &Rule, lower: &Rule) -> Result<Rule, AllocError>
     ensures { IfOk result (λ r. r ≡ edits.shared upper.now lower.now) }
 {
@@ -283,7 +282,7 @@ pub(crate) fn shared(alloc: Global, upper: &Rule, lower: &Rule) -> Result<Rule, 
     Ok(Rule { selectors, decls })
 }
 
-/// Those of the declarations that are not among the others.
+/// Returns those of the declarations that are not among the others.
 fn other_decls(
     alloc: Global,
     items: Vec<DeclItem>,
@@ -300,7 +299,7 @@ fn other_decls(
     Ok(kept)
 }
 
-/// A rule without these declarations.
+/// Returns a rule without these declarations.
 pub(crate) fn without_decls(
     alloc: Global,
     gone: &[DeclItem],

@@ -1,4 +1,4 @@
-//! An item taken out of a marked sheet, and what is put in its place.
+//! Takes an item out of a marked sheet, and puts others instead.
 
 ghost use Rattle.std.specs.Prelude.{◌≡◌, ◌<◌, ◌+◌, ◌^◌, IfOk, IfSome, Some, length, map, slice_get, slice_set};
 ghost use Rattle.css_model.specs.declared.sheet.Item.TheVariants as item;
@@ -15,7 +15,7 @@ use item_masks::{ItemMask, rule_mask};
 use std::alloc::AllocError;
 use std::mem;
 
-/// The rule of this number, with an empty piece left in its place.
+/// Takes out the rule of this number. An empty kept block is there instead.
 fn lift_rule(items: &mut Vec<Item>, number: u32) -> Rule
     requires { (r : RuleParts) × (slice_get items.old.items number ≡ Some (item.Rule r)) }
     ensures rule { slice_get items.old.items number ≡ Some (item.Rule result) }
@@ -28,7 +28,7 @@ fn lift_rule(items: &mut Vec<Item>, number: u32) -> Rule
     }
 }
 
-/// Puts the mask of an empty piece in the place of the one of this number.
+/// Puts the mask of an empty kept block instead of the one of this number.
 fn lift_mask(masks: &mut Vec<ItemMask>, number: u32)
     requires { number < length masks.old.items }
     ensures { masks.new.items ≡ slice_set masks.old.items number (item_mask placeholder) }
@@ -39,7 +39,7 @@ fn lift_mask(masks: &mut Vec<ItemMask>, number: u32)
     };
 }
 
-/// The mask of a rule, if it is not known.
+/// Returns the mask of a rule, which may be known.
 fn mask_of(rule: &Rule, known: Option<ItemMask>) -> ItemMask
     requires { IfSome known (λ m. m ≡ item_mask (item.Rule rule.now)) }
     ensures { result ≡ item_mask (item.Rule rule.now) }
@@ -50,8 +50,8 @@ fn mask_of(rule: &Rule, known: Option<ItemMask>) -> ItemMask
     }
 }
 
-/// Puts the masks of what a step leaves in the place of the one of this number. Where it is one rule, its mask may be
-/// known.
+/// Puts the masks of what a step leaves instead of the one of this number.
+/// If it leaves one rule, its mask may be known.
 fn put_masks(
     mut masks: Vec<ItemMask>,
     number: u32,
@@ -80,7 +80,7 @@ fn put_masks(
     }
 }
 
-/// Puts what a step leaves in the place of the item of this number.
+/// Puts what a step leaves instead of the item of this number.
 fn put_items(mut items: Vec<Item>, number: u32, left: Left) -> Result<Vec<Item>, AllocError>
     requires { number < length items.items }
     ensures { IfOk result (λ new. new.items ≡ put_at number (items_in left) items.items) }
@@ -104,7 +104,7 @@ fn put_items(mut items: Vec<Item>, number: u32, left: Left) -> Result<Vec<Item>,
 }
 
 impl MarkedSheet {
-    /// The rule of this number, and the sheet with an empty piece in its place.
+    /// Returns the sheet with an empty kept block instead of the rule of this number, and the rule.
     pub(crate) fn lift(self, number: u32) -> (MarkedSheet, Rule)
         requires { (r : RuleParts) × (slice_get self.items number ≡ Some (item.Rule r)) }
         ensures rule { slice_get self.items number ≡ Some (item.Rule result.1) }
@@ -130,8 +130,8 @@ impl MarkedSheet {
         (board, rule)
     }
 
-    /// The sheet with what a step leaves in the place of the item of this number. Where it is one rule, its mask may
-    /// be known.
+    /// Returns the sheet with what a step leaves instead of the item of this number.
+    /// If it leaves one rule, its mask may be known.
     pub(crate) fn put(
         self,
         number: u32,

@@ -1,4 +1,4 @@
-//! A step taken in a marked sheet.
+//! Takes a step in a marked sheet.
 
 ghost use Rattle.std.specs.Prelude.{◌≡◌, ◌↔◌, ◌≤◌, ◌<◌, ◌+◌, ◌^◌, ◌∷◌, [], IfOk, IsTrue, length, true};
 ghost use Rattle.std.specs.List.{remove};
@@ -28,7 +28,8 @@ use std::alloc::{AllocError, Global};
 use step_laws::Step;
 use step_savings::items_of;
 
-/// Whether a label is left before the mark of this number, if it is not the first one.
+/// Returns whether a label is free between the mark of this number and the one before it.
+/// It is `true` if the mark is the first one, or if there is none of this number.
 fn has_label_before(marks: &[Mark], number: u32) -> bool
     ensures { IsTrue result ↔ HasLabelBefore marks.now number }
 {
@@ -41,14 +42,14 @@ fn has_label_before(marks: &[Mark], number: u32) -> bool
     above < below && below - above > 1
 }
 
-/// What a step leaves in the places of its two rules.
+/// What a step puts instead of its two rules.
 #[derive(Debug, Drop)]
 struct Halves {
     above: Left,
     below: Left,
 }
 
-/// What a cut leaves of its rule.
+/// Returns what a cut leaves of its rule.
 fn cut(step: &Step, rule: Rule) -> Left
     requires cut { IsCutKind step.now }
     requires part { HasPart step.now rule }
@@ -61,7 +62,7 @@ fn cut(step: &Step, rule: Rule) -> Left
     }
 }
 
-/// What a share leaves of its rules.
+/// Returns what a share leaves of its rules.
 fn share(alloc: Global, x: u32, upper: Rule, y: u32, lower: Rule) -> Result<Halves, AllocError>
     ensures changes { IfOk result (λ h. (kinds.share x y upper lower).changes ≡ record { at = x; by = items_in h.above } ∷ record { at = y; by = items_in h.below } ∷ []) }
 {
@@ -74,7 +75,8 @@ fn share(alloc: Global, x: u32, upper: Rule, y: u32, lower: Rule) -> Result<Halv
     })
 }
 
-/// What a step of two rules leaves of them. `apart` says that they are known to have no selector in common.
+/// Returns what a step of two rules leaves of them.
+/// `apart` says that they have no selector in common.
 fn both_left(
     alloc: Global,
     step: &Step,
@@ -96,7 +98,7 @@ fn both_left(
     }
 }
 
-/// The mask of the rule that a join makes of two rules with these masks: the bits of both.
+/// Returns the bits of both masks if the step is a join, or `None`.
 fn joined_mask(step: &Step, upper: ItemMask, lower: ItemMask) -> Option<ItemMask>
     ensures { result ≡ masks.joined_mask step.now upper lower }
 {
@@ -112,7 +114,7 @@ fn joined_mask(step: &Step, upper: ItemMask, lower: ItemMask) -> Option<ItemMask
     }
 }
 
-/// A rule in the upper place.
+/// Returns a rule in the upper place, and nothing in the lower one.
 fn up(rule: Rule) -> Halves
     ensures above { items_in result.above ≡ item.Rule rule ∷ [] }
     ensures below { items_in result.below ≡ [] }
@@ -123,7 +125,7 @@ fn up(rule: Rule) -> Halves
     }
 }
 
-/// A rule in the lower place.
+/// Returns a rule in the lower place, and nothing in the upper one.
 fn down(rule: Rule) -> Halves
     ensures above { items_in result.above ≡ [] }
     ensures below { items_in result.below ≡ item.Rule rule ∷ [] }
@@ -135,7 +137,8 @@ fn down(rule: Rule) -> Halves
 }
 
 impl MarkedSheet {
-    /// Whether the new rule of a share finds a label between its neighbours. Each other step needs none.
+    /// Returns whether a share has a free label for its new rule, before the mark of its lower rule.
+    /// Any other step needs no label: the answer is `true`.
     pub(crate) fn has_label_for(&self, step: &Step) -> bool
         ensures { IsTrue result ↔ HasLabelFor self.now.marks step.now }
     {
@@ -145,7 +148,7 @@ impl MarkedSheet {
         }
     }
 
-    /// The sheet after a cut.
+    /// Returns the sheet after a cut.
     fn take_cut(self, step: &Step, number: u32) -> Result<MarkedSheet, AllocError>
         requires is_step { HasStep self.items step.now }
         requires cut { IsCutKind step.now }
@@ -162,7 +165,8 @@ impl MarkedSheet {
         Ok(after)
     }
 
-    /// The sheet after a step of two rules. `apart` says that they are known to have no selector in common.
+    /// Returns the sheet after a step of two rules.
+    /// `apart` says that they have no selector in common.
     fn take_two(
         self,
         alloc: Global,
@@ -195,9 +199,9 @@ impl MarkedSheet {
         Ok(after)
     }
 
-    /// The sheet after one of its steps, which is taken in place: the items that it does not take keep their marks, and the
-    /// others are born later than all before. `apart` says that the rules of a step of two items are known to have no selector in
-    /// common. After an error nothing is left.
+    /// Returns the sheet after one of its steps.
+    /// Items that the step leaves keep their marks. All other items have births from the old `next` on. `apart` says that the
+    /// rules of the step have no selector in common. `Err(AllocError)` if memory is short; the sheet is consumed then too.
     pub(crate) fn take(
         self,
         alloc: Global,

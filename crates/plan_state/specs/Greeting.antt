@@ -15,8 +15,7 @@ use Rattle.rule_tables.specs.Tables.{TableParts, Labelled, Cover, with_label}
 abbrev pub first_lead : ℕ → held.Lead
 first_lead birth = record { turn = first_turn (max_bytes + 1); owner = birth; scope = Owned }
 
--- The steps of an item are led, its label stands under its birth, and the tables cover it, if it is a rule and `put` says that it
--- is put in.
+-- The steps of an item are led. Its label is under its birth. If it is a rule and `put` is true, the tables cover it.
 pub record IsGreeted (put : Bool) (tables : TableParts) (leads : List held.Lead) (homes : List ℕ) (m : Mark) (x : Item) : Type 0 where
   pub lead : Contains leads (first_lead m.birth)
   pub home : slice_get homes m.birth ≡ Some m.label
@@ -26,7 +25,7 @@ pub record IsGreeted (put : Bool) (tables : TableParts) (leads : List held.Lead)
 abbrev pub IsGreetedAt : Bool → ℕ → List Mark → List Item → TableParts → List held.Lead → List ℕ → ℕ → Type 0
 IsGreetedAt put next marks items tables leads homes n = (m : Mark) (x : Item) → slice_get marks n ≡ Some m → slice_get items n ≡ Some x → next ≤ m.birth → IsGreeted put tables leads homes m x
 
--- and so is each of the items
+-- each of the items is greeted, if it was born at `next` or later
 abbrev pub AreGreeted : Bool → ℕ → List Mark → List Item → TableParts → List held.Lead → List ℕ → Type 0
 AreGreeted put next marks items tables leads homes = (n : ℕ) → IsGreetedAt put next marks items tables leads homes n
 

@@ -9,8 +9,8 @@ use Rattle.rule_tables.specs.Tables.{TableParts}
 use Rattle.step_laws.specs.declared.step.Step.{Step}
 use Rattle.step_laws.specs.Steps.{IsStep}
 
--- Rules that are born by the step are to be put in, and those that it leaves stay covered; or it is a join, and all rules behind
--- it will be covered.
+-- Rules that are born by the step are to be put in, and those that it leaves stay covered; or it is a join, and the
+-- tables cover all rules after it.
 abbrev pub AreMended : (put : Bool) → BoardParts → Step → (tables later : TableParts) → Type 0
 AreMended true b k tables later = (e : Edit) → IsStep b.items k e → StayCovered b e tables later
 AreMended false b k tables later = (way : Way) × IsMove way k × ((e : Edit) → IsStep b.items k e → CoverFollows way b k e tables later)

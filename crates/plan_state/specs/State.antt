@@ -29,6 +29,6 @@ pub record IsLedBy (answers : List Answered) (source : List ℕ) (p : PlanParts)
   pub known : IsKnown answers source p.board leads aside p.entries
   pub walls : AreWalls answers p.board p.entries (max_bytes + 1) p.leads p.walls
 
--- and so by those of the plan
+-- the same by the turns of the plan
 abbrev pub IsState : List Answered → List ℕ → PlanParts → Type 0
 IsState answers source p = IsLedBy answers source p p.leads

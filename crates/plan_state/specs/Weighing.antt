@@ -29,7 +29,8 @@ IsNotHeavier source h r = (weight (printed_selector source) r.selectors ≤ h.se
 
 -- ---- What is put down
 
--- What is told under the birth of a rule holds of it, and so what is told of all rules.
+-- The weight under the birth of a rule is a bound for the rule. The heaviest weights are bounds for it too.
+-- If `once` is true, it has each declaration once.
 pub record IsWeighed (source : List ℕ) (weights : WeightParts) (birth : ℕ) (r : RuleParts) : Type 0 where
   pub own : WeighsAtMost source r (weight_under weights.each birth)
   pub all : IsNotHeavier source weights.heaviest r
@@ -39,7 +40,8 @@ pub record IsWeighed (source : List ℕ) (weights : WeightParts) (birth : ℕ) (
 abbrev pub IsWeighedAt : List ℕ → ℕ → BoardParts → WeightParts → ℕ → Type 0
 IsWeighedAt source next board weights n = (m : Mark) (r : RuleParts) → slice_get board.marks n ≡ Some m → slice_get board.items n ≡ Some (Rule r) → next ≤ m.birth → IsWeighed source weights m.birth r
 
--- What is told under some births stays, and what is told of all rules still holds of those of which it did.
+-- The weights under some births stay the same. The bounds for all rules do not get smaller. If `once` is true, it was true
+-- before.
 pub record Stay (Kept : ℕ → Type 0) (old new : WeightParts) : Type 0 where
   pub kept : (b : ℕ) → Kept b → weight_under new.each b ≡ weight_under old.each b
   pub selectors : old.heaviest.selectors ≤ new.heaviest.selectors

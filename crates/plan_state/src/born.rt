@@ -9,7 +9,7 @@ use std::alloc::{AllocError, Global};
 use step_laws::Step;
 use step_savings::items_of;
 
-/// Whether the item of this number is known to have this birth.
+/// Returns `true` only if the item of this number has this birth.
 fn is_born_at(marks: &[Mark], number: u32, birth: u32) -> bool
     ensures { result ≡ true → IsBornAt marks.now number birth }
 {
@@ -19,7 +19,7 @@ fn is_born_at(marks: &[Mark], number: u32, birth: u32) -> bool
     }
 }
 
-/// The number of the item of this birth, if it stands near those of a step.
+/// Looks near the items of a step for the item of this birth, and returns its number.
 fn place_of(marks: &[Mark], step: &Step, birth: u32) -> Option<u32>
     ensures { IfSome result (λ n. IsBornAt marks.now n birth) }
 {
@@ -41,7 +41,8 @@ fn place_of(marks: &[Mark], step: &Step, birth: u32) -> Option<u32>
     None
 }
 
-/// The numbers of the items that were born at `next` or later, where they stand near those of a step.
+/// Returns numbers that contain those of all items born at `next` or later, or `None`.
+/// It looks only near the items of a step. `None` says nothing.
 pub(crate) fn born_near(
     alloc: Global,
     board: &Board,

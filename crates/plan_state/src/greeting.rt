@@ -18,7 +18,7 @@ use smallvec::SmallVec;
 use std::alloc::AllocError;
 use std::cmp::Reverse;
 
-/// The turn that comes before all steps of the item of this birth.
+/// Returns the turn that comes before all steps of the item of this birth.
 fn first_lead(owner: u32) -> Lead
     ensures { lead_told result ≡ spec.first_lead owner }
 {
@@ -32,7 +32,7 @@ fn first_lead(owner: u32) -> Lead
     }
 }
 
-/// Puts a label under a birth.
+/// Puts the label of a mark under its birth.
 fn put_home(homes: &mut Vec<u64>, mark: &Mark) -> Result<(), AllocError>
     ensures put { OnOk result (slice_get homes.new.items mark.now.birth ≡ Some mark.now.label) }
     ensures others { OnOk result ((b l : ℕ) → b ≢ mark.now.birth → slice_get homes.old.items b ≡ Some l → slice_get homes.new.items b ≡ Some l) }
@@ -56,7 +56,7 @@ fn put_in(tables: &mut Tables, item: &Item, label: u64) -> Result<(), AllocError
     }
 }
 
-/// Has the tables cover an item, if it is a rule and is to be put in.
+/// Puts an item into the tables, if `put` is `true` and it is a rule.
 fn cover(tables: &mut Tables, put: bool, item: &Item, label: u64) -> Result<(), AllocError>
     ensures stay { OnOk result ((rules : List covering.Labelled) → covering.Cover tables.old rules → covering.Cover tables.new rules) }
     ensures covered { OnOk result (put ≡ true → (r : RuleParts) → item.now ≡ kinds.Rule r → covering.Cover tables.new (covering.with_label r label ∷ [])) }
@@ -67,7 +67,7 @@ fn cover(tables: &mut Tables, put: bool, item: &Item, label: u64) -> Result<(), 
     put_in(tables, item, label)
 }
 
-/// The mark of this number.
+/// Returns the mark of this number.
 fn mark_at(marks: &[Mark], number: usize) -> &Mark
     requires { number < length marks.now }
     ensures { slice_get marks.now number ≡ Some result.now }
@@ -75,7 +75,7 @@ fn mark_at(marks: &[Mark], number: usize) -> &Mark
     &marks[number]
 }
 
-/// The item of this number.
+/// Returns the item of this number.
 fn item_at(items: &[Item], number: usize) -> &Item
     requires { number < length items.now }
     ensures { slice_get items.now number ≡ Some result.now }
@@ -83,8 +83,8 @@ fn item_at(items: &[Item], number: usize) -> &Item
     &items[number]
 }
 
-/// Lets a turn before all steps of an item lead them, with its label under its birth, and has the tables cover it, if it is to be
-/// put in.
+/// Greets an item: lets a turn before all its steps lead, and puts its label under its birth.
+/// If `put` is `true` and the item is a rule, the tables cover it.
 fn greet_item(
     put: bool,
     mark: &Mark,
@@ -101,7 +101,7 @@ fn greet_item(
     waiting.add(first_lead(mark.birth))
 }
 
-/// The same, if the item was born at `next` or later.
+/// Greets an item if it was born at `next` or later.
 fn greet_if_new(
     put: bool,
     next: u32,
@@ -121,7 +121,7 @@ fn greet_if_new(
     greet_item(put, mark, item, tables, waiting, homes)
 }
 
-/// Does so for each item, with the mark of the same number.
+/// Greets each item that was born at `next` or later. Its mark has the same number.
 fn greet_each(
     put: bool,
     next: u32,
@@ -144,7 +144,7 @@ fn greet_each(
     Ok(())
 }
 
-/// Does so for the items of these numbers.
+/// Greets the items of these numbers that were born at `next` or later.
 fn greet_those(
     put: bool,
     next: u32,
@@ -171,7 +171,8 @@ fn greet_those(
     Ok(())
 }
 
-/// Does so for all items of a board that were born at `next` or later. `born` may tell the numbers of all of them.
+/// Greets all items of a board that were born at `next` or later.
+/// `born` may have the numbers of all of them.
 pub(crate) fn greet(
     put: bool,
     board: &Board,

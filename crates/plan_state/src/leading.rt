@@ -13,8 +13,9 @@ use crate::walls::take_down_of;
 use lead_plan::Lead;
 
 impl Plan {
-    /// Takes out the first of the turns that lead, if there is one: none of them comes before it. Where it leads all joins
-    /// of an item in a way, the item's wall in that way is taken down.
+    /// Takes out the first of the turns that lead, or returns `None` if none leads.
+    /// No other of them comes before it. Only the turns and the walls change. If the plan was a state, each step that saves
+    /// bytes is led by this turn or by those that are left, or it is set aside.
     pub fn take_first(&mut self) -> Option<Lead>
         ensures same { self.new ≡ record self.old { leads = self.new.leads; walls = self.new.walls } }
         ensures taken { IfSome result (λ l. self.old.leads ≡ lead_told l ∷ self.new.leads) }

@@ -28,7 +28,7 @@ fn uncover_item(tables: &mut Tables, item: &Item, label: u64)
     }
 }
 
-/// The same for the item of this number, if there is one.
+/// Takes the entries of the item of this number out of the tables, if it is a rule.
 fn uncover_at(tables: &mut Tables, marks: &[Mark], sheet: &Sheet, number: u32)
     ensures exact { (m : marking.Mark) (r : RuleParts) → slice_get marks.now number ≡ Some m
         → slice_get sheet.now.items number ≡ Some (kinds.Rule r) → covering.TakesRule tables.old r m.label tables.new }
@@ -45,7 +45,8 @@ fn uncover_at(tables: &mut Tables, marks: &[Mark], sheet: &Sheet, number: u32)
     uncover_item(tables, item, mark.label);
 }
 
-/// Takes the entries of a step's first and last item out of the tables. They still cover each rule that the step leaves.
+/// Takes the entries of the first and the last item of a step out of the tables.
+/// The tables still cover each rule that the step leaves.
 pub(crate) fn uncover(tables: &mut Tables, board: &Board, step: &Step)
     ensures { (e : Edit) → IsStep board.now.items step.now e → StayCovered board.now e tables.old tables.new }
 {

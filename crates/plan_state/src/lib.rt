@@ -1,5 +1,5 @@
-//! The state of a plan by turns that lead: a sheet with its marks and tables, the turns that lead, and what is set
-//! aside. It stays one when a step is taken.
+//! The state of a plan: a sheet with marks and tables, the turns that lead, and what is set aside.
+//! After the next step of a sheet it is a state again.
 #![tactic(auto)]
 
 mod born;

@@ -1,4 +1,4 @@
-//! How the tables of a plan are mended for a step.
+//! Mends the tables of a plan for a step.
 
 ghost use Rattle.std.specs.Prelude.{◌≡◌, ◌<◌, IfOk, IfSome, OnOk, Some, length, slice_get};
 ghost use Rattle.hold_laws.specs.Ways.{IsMove, mover, partner};
@@ -17,7 +17,7 @@ use std::alloc::AllocError;
 use step_laws::Step;
 use step_savings::{items_of, rule_at};
 
-/// The way in which an item moves in a step, if the step is a join.
+/// Returns the way in which an item moves in a step. `Some` comes only if the step is a join.
 fn way_of_join(step: &Step) -> Option<Way>
     ensures { IfSome result (λ way. IsMove way step.now) }
 {
@@ -28,7 +28,7 @@ fn way_of_join(step: &Step) -> Option<Way>
     }
 }
 
-/// The numbers of the item that moves in a join, and of the one that it moves into.
+/// Returns the number of the item that moves in a join, and that of the item that it moves into.
 fn moved_items(way: Way, step: &Step) -> (u32, u32)
     ensures { result ≡ (mover way step.now, partner way step.now) }
 {
@@ -39,7 +39,7 @@ fn moved_items(way: Way, step: &Step) -> (u32, u32)
     }
 }
 
-/// The label of the mark of this number.
+/// Returns the label of the mark of this number.
 fn label_at(marks: &[Mark], number: u32) -> u64
     requires { number < length marks.now }
     ensures { slice_get (labels_of marks.now) number ≡ Some result }
@@ -47,8 +47,8 @@ fn label_at(marks: &[Mark], number: u32) -> u64
     marks[number as usize].label
 }
 
-/// Puts the rule that moves in a join in under the label of the one that it moves into, and takes it out under its own: so the
-/// tables will cover what the join makes. The time is that of its parts.
+/// Puts the rule that moves in a join under the label of its partner, and takes it out under its own label.
+/// After the join the tables cover all rules.
 fn move_over(tables: &mut Tables, board: &Board, way: Way, step: &Step) -> Result<(), AllocError>
     requires is_step { HasStep board.now.items step.now }
     requires moves { IsMove way step.now }
@@ -65,7 +65,9 @@ fn move_over(tables: &mut Tables, board: &Board, way: Way, step: &Step) -> Resul
     Ok(())
 }
 
-/// Mends the tables for a step, before it is taken, and tells whether rules that are born by it are to be put in.
+/// Mends the tables for a step before it is taken.
+/// If it returns `true`, the tables still cover each rule that the step leaves; the rules that the step makes are to be put
+/// in. If it returns `false`, the step is a join, and the tables cover all rules after it.
 pub(crate) fn mend(tables: &mut Tables, board: &Board, step: &Step) -> Result<bool, AllocError>
     requires { HasStep board.now.items step.now }
     ensures { IfOk result (λ put. AreMended put board.now step.now tables.old tables.new) }

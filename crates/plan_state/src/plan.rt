@@ -18,22 +18,22 @@ use rule_tables::Tables;
 use std::alloc::{AllocError, Global};
 use std::marker::Model;
 
-/// A sheet that is planned, with what is held of its steps.
+/// A sheet that is planned, with what is known of its steps.
 #[derive(Drop)]
 pub struct Plan {
     /// The sheet with its marks.
     pub board: Board,
-    /// They cover the rules of the sheet.
+    /// The tables of the rules of the sheet.
     pub tables: Tables,
     /// The turns that lead.
     pub waiting: Waiting,
-    /// What is set aside, under the digests of the pairs that block it.
+    /// The leads that are set aside, each under the digests of a pair.
     pub aside: Aside,
-    /// The label of the item of each birth, while there is one.
+    /// The label of the item of each birth, while the item is in the sheet.
     pub homes: Vec<u64>,
-    /// What joins of its items are known to be hindered past.
+    /// The walls: no join moves an item past its wall.
     pub walls: Walls,
-    /// What its rules weigh at most.
+    /// Upper bounds for the weights of the rules.
     pub weights: RuleWeights,
 }
 
@@ -54,7 +54,8 @@ impl Model for Plan {
 }
 
 impl Plan {
-    /// A plan of a sheet of which nothing is known.
+    /// Returns the first plan of a sheet. It is a state for any answers.
+    /// The sheet can be planned (`IsPlannable`). `Err(AllocError)` if memory is short.
     pub fn new(alloc: Global, source: &KnownLengths<'_>, sheet: Sheet) -> Result<Plan, AllocError>
         requires plannable { IsPlannable source.now sheet.items }
         ensures items { IfOk result (λ p. p.board.items ≡ sheet.items) }
@@ -63,7 +64,7 @@ impl Plan {
         Plan::begin(alloc, source, sheet)
     }
 
-    /// The same, where it is not known whether the sheet is too long to be planned.
+    /// Returns the first plan of a sheet. It is a state if the sheet can be planned.
     pub(crate) fn begin(
         alloc: Global,
         source: &KnownLengths<'_>,

@@ -1,4 +1,4 @@
-//! A step taken in a plan.
+//! Takes a step in a plan.
 
 ghost use Rattle.std.specs.Prelude.{◌≡◌, ◌<◌, ◌+◌, ◌^◌, IfOk, IsTrue, List, ℕ, length};
 ghost use Rattle.css_model.specs.Sheets.Limits.{max_items};
@@ -26,7 +26,8 @@ use plan_laws::items_stay;
 use std::alloc::{AllocError, Global};
 use step_laws::{Step, each_is_made_of_itself, steps_make_of};
 
-/// Whether a step can be taken in place: a sheet may have two more items, and labels and births are left.
+/// Returns `true` only if a step can be taken in place.
+/// Then the sheet has at least two items fewer than a sheet may have, and labels and births are left.
 fn has_room(board: &Board, step: &Step) -> bool
     ensures items { IsTrue result → length board.now.items + 1 < max_items }
     ensures label { IsTrue result → HasLabelFor board.now.marks step.now }
@@ -39,7 +40,7 @@ fn has_room(board: &Board, step: &Step) -> bool
 }
 
 impl Plan {
-    /// The plan after a step that is taken in place.
+    /// Returns the plan after a step that is taken in place.
     fn take_in_place(
         self,
         alloc: Global,
@@ -101,7 +102,9 @@ impl Plan {
         })
     }
 
-    /// The plan after its next step. Where the step cannot be taken in place, it begins anew.
+    /// Returns the plan after a step of its sheet.
+    /// Its sheet is the one after the step. If the plan was a state and the step is the next one, the new plan is a state.
+    /// `Err(AllocError)` if memory is short; the plan is consumed then too.
     pub fn take(
         self,
         alloc: Global,

@@ -1,4 +1,4 @@
-//! What leads again where a step moves pairs.
+//! Lets leads lead again if a step moves pairs.
 
 ghost use Rattle.std.specs.Prelude.{◌≡◌, ◌∷◌, [], IfNone, IfOk, IfSome, OnOk, Some, map, slice_get, true};
 ghost use Rattle.std.specs.List.{Contains};
@@ -40,7 +40,7 @@ fn lead_all_again(waiting: &mut Waiting, leads: &[Lead]) -> Result<(), AllocErro
     Ok(())
 }
 
-/// The leads that are set aside under two digests.
+/// Returns leads that include all that are set aside under two digests.
 fn leads_of(alloc: Global, aside: &Aside, selector: u32, decl: u32) -> Result<Vec<Lead>, AllocError>
     ensures { IfOk result (λ leads. spec.HasLeadsUnder aside.now leads.items selector decl) }
 {
@@ -49,7 +49,7 @@ fn leads_of(alloc: Global, aside: &Aside, selector: u32, decl: u32) -> Result<Ve
     aside.under(alloc, selector, decl)
 }
 
-/// Lets those lead again that are set aside under two digests.
+/// Lets the leads lead again that are set aside under two digests.
 fn wake_pair(
     alloc: Global,
     aside: &Aside,
@@ -65,7 +65,7 @@ fn wake_pair(
     Ok(())
 }
 
-/// The same for the digests of a selector and of some declarations.
+/// Lets the leads lead again that are set aside under the digests of a selector and of one of some declarations.
 fn wake_decls(
     alloc: Global,
     aside: &Aside,
@@ -84,7 +84,7 @@ fn wake_decls(
     Ok(())
 }
 
-/// The same for the digests of some selectors and of some declarations.
+/// Lets the leads lead again that are set aside under the digests of one of some selectors and one of some declarations.
 fn wake_pairs(
     alloc: Global,
     aside: &Aside,
@@ -103,7 +103,7 @@ fn wake_pairs(
     Ok(())
 }
 
-/// The same for the pairs of some selectors and some declarations.
+/// Lets the leads lead again that are set aside under the pairs of some selectors and some declarations.
 fn wake_parts(
     alloc: Global,
     aside: &Aside,
@@ -120,7 +120,7 @@ fn wake_parts(
     Ok(())
 }
 
-/// The same for the pairs of a rule.
+/// Lets the leads lead again that are set aside under the pairs of a rule.
 fn wake_pairs_of(
     alloc: Global,
     aside: &Aside,
@@ -134,7 +134,7 @@ fn wake_pairs_of(
     Ok(())
 }
 
-/// The same for the pairs of the item of this number, if it is a rule.
+/// Lets the leads lead again that are set aside under the pairs of the item of this number, if it is a rule.
 fn wake_rule(
     alloc: Global,
     aside: &Aside,
@@ -152,7 +152,7 @@ fn wake_rule(
     Ok(())
 }
 
-/// The rule of this number, if a rule stands there.
+/// Returns the rule of this number, or `None` if no rule has it.
 fn find_rule(sheet: &Sheet, number: u32) -> Option<&Rule>
     ensures some { IfSome result (λ rule. slice_get sheet.now.items number ≡ Some (kinds.Rule rule.now)) }
     ensures none { IfNone result ((r : RuleParts) → slice_get sheet.now.items number ≡ Some (kinds.Rule r) → ⊥) }
@@ -163,7 +163,7 @@ fn find_rule(sheet: &Sheet, number: u32) -> Option<&Rule>
     }
 }
 
-/// The numbers of the items that a step moves pairs out of: the first one, and the last one.
+/// Returns the numbers of the first and the last item that a step moves pairs out of.
 fn moved_out(step: &Step) -> (u32, u32)
     ensures first { result.0 ≡ spec.first_out step.now }
     ensures last { result.1 ≡ spec.last_out step.now }
@@ -176,7 +176,7 @@ fn moved_out(step: &Step) -> (u32, u32)
     }
 }
 
-/// Lets those lead again that are set aside under the digests of a pair that a step moves.
+/// Lets the leads lead again that are set aside under the digests of a pair that a step moves.
 pub(crate) fn wake_moved(
     alloc: Global,
     aside: &Aside,

@@ -1,4 +1,4 @@
-//! Walls that are taken down.
+//! Takes down walls.
 
 ghost use Rattle.std.specs.Prelude.{◌≡◌, ℕ, ◌<◌, Some, length, slice_get};
 ghost use Rattle.hold_laws.specs.declared.way.Way as declared;
@@ -15,7 +15,7 @@ use plan_board::Board;
 use step_laws::Step;
 use step_savings::items_of;
 
-/// Takes down the wall under a birth, if it stands at one of these labels.
+/// Takes down the wall under a birth, if it is at one of these labels.
 fn take_down_if(walls: &mut Vec<u64>, birth: usize, first: u64, last: u64)
     requires { birth < length walls.old.items }
     ensures { SomeStay walls.old.items walls.new.items (λ b label. birth ≡ b → IsFromOther first last b label) }
@@ -25,7 +25,7 @@ fn take_down_if(walls: &mut Vec<u64>, birth: usize, first: u64, last: u64)
     }
 }
 
-/// Takes down the walls that stand at one of these labels.
+/// Takes down the walls that are at one of these labels.
 fn take_down_from(walls: &mut Vec<u64>, first: u64, last: u64)
     ensures { SomeStay walls.old.items walls.new.items (IsFromOther first last) }
 {
@@ -34,7 +34,7 @@ fn take_down_from(walls: &mut Vec<u64>, first: u64, last: u64)
     }
 }
 
-/// The label of the item of this number.
+/// Returns the label of the item of this number.
 fn label_of(board: &Board, number: u32) -> u64
     requires { number < length board.now.items }
     ensures { slice_get (labels_of board.now.marks) number ≡ Some result }
@@ -42,7 +42,7 @@ fn label_of(board: &Board, number: u32) -> u64
     board.mark(number).label
 }
 
-/// Takes down the walls that stand at an item of a step.
+/// Takes down the walls that are at the first or the last item of a step.
 pub(crate) fn take_down_for(walls: &mut Walls, board: &Board, step: &Step)
     requires { HasStep board.now.items step.now }
     ensures { (way : declared.Way) → SomeStay (walls_on way walls.old) (walls_on way walls.new) (λ birth label. (n : ℕ) → slice_get (labels_of board.now.marks) n ≡ Some label
@@ -65,7 +65,7 @@ fn take_down(walls: &mut Vec<u64>, birth: u32)
     }
 }
 
-/// The way in which an item moves in the joins that a lead leads, if it leads all of an item in a way.
+/// Returns the way of the joins of an item, if a lead leads all joins of the item in that way.
 fn way_of(lead: &Lead) -> Option<Way>
     ensures ups { lead.now.scope ≡ scopes.Ups → result ≡ Some ways.Up }
     ensures downs { lead.now.scope ≡ scopes.Downs → result ≡ Some ways.Down }
@@ -77,7 +77,7 @@ fn way_of(lead: &Lead) -> Option<Way>
     }
 }
 
-/// Takes down the wall of the item of which a lead leads all joins in a way, if it does.
+/// Takes down the wall of an item in a way, if the lead leads all joins of the item in that way.
 pub(crate) fn take_down_of(walls: &mut Walls, lead: &Lead)
     ensures { (way : declared.Way) → SomeStay (walls_on way walls.old) (walls_on way walls.new) (IsOfOther way lead.now) }
 {

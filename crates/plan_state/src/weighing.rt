@@ -1,4 +1,4 @@
-//! What the rules of a plan weigh at most.
+//! Upper bounds for the weights of the rules of a plan.
 
 ghost use Rattle.std.specs.Prelude.{◌≡◌, ◌+◌, ◌<◌, ◌≢◌, ◌≤◌, ℕ, IfSome, OnOk, Some, length, min, slice_get, true};
 ghost use Rattle.std.specs.List.{Contains};
@@ -23,17 +23,17 @@ use std::alloc::AllocError;
 use step_laws::Step;
 use step_savings::{decls_weight, items_of, selectors_weight};
 
-/// Of more declarations than this it is not known whether each stands in its rule once.
+/// If a rule has more declarations than this, it is not known whether it has each once.
 const MANY: usize = 64;
 
-/// Whether each declaration of a rule is known to stand in it once.
+/// Returns `true` only if a rule has each of its declarations once.
 fn has_each_once(rule: &Rule) -> bool
     ensures { result ≡ true → StandOnce (λ x. x.decl) rule.now.decls }
 {
     rule.decls.len() <= MANY && are_decls_different(&rule.decls)
 }
 
-/// What a rule weighs.
+/// Returns what a rule weighs at most.
 fn weight_of(source: &KnownLengths<'_>, rule: &Rule) -> RuleWeight
     requires { IsWeighable source.now rule.now }
     ensures { WeighsAtMost source.now rule.now result }
@@ -45,7 +45,7 @@ fn weight_of(source: &KnownLengths<'_>, rule: &Rule) -> RuleWeight
     }
 }
 
-/// What two weigh together at most, if together they weigh no more than a sheet.
+/// Returns the sum of two weights, or `max_bytes` if the sum is more.
 fn together(one: u32, other: u32) -> u32
     ensures { result ≡ min (one + other) max_bytes }
 {
@@ -53,7 +53,7 @@ fn together(one: u32, other: u32) -> u32
     sum.min(u64::from(MAX_BYTES)) as u32
 }
 
-/// What the rule that a join by selectors makes weighs at most.
+/// Returns what the rule that a join by selectors makes weighs at most.
 fn joined_by_selectors(upper: RuleWeight, lower: RuleWeight) -> RuleWeight
     ensures { result ≡ spec.joined_by_selectors upper lower }
 {
@@ -64,7 +64,7 @@ fn joined_by_selectors(upper: RuleWeight, lower: RuleWeight) -> RuleWeight
     }
 }
 
-/// What the rule that a join by declarations makes weighs at most.
+/// Returns what the rule that a join by declarations makes weighs at most.
 fn joined_by_decls(upper: RuleWeight, lower: RuleWeight) -> RuleWeight
     ensures { result ≡ spec.joined_by_decls upper lower }
 {
@@ -75,7 +75,7 @@ fn joined_by_decls(upper: RuleWeight, lower: RuleWeight) -> RuleWeight
     }
 }
 
-/// What the rule of this number weighs at most.
+/// Returns what the rule of this number weighs at most, if the weights are those of the board.
 fn weight_at(board: &Board, weights: &RuleWeights, number: u32) -> RuleWeight
     requires { number < length board.now.items }
     ensures { spec.IsAtMost board.now weights.now number result }
@@ -83,7 +83,8 @@ fn weight_at(board: &Board, weights: &RuleWeights, number: u32) -> RuleWeight
     weights.under(board.mark(number).birth)
 }
 
-/// What the rule that a step makes weighs at most, if it is a join: no more than its two rules together. It is told in no time.
+/// Returns what each rule that a step makes weighs at most, if the rule can be weighed.
+/// This needs weights that are those of the board. `None` says nothing.
 pub(crate) fn made_weight(board: &Board, weights: &RuleWeights, step: &Step) -> Option<RuleWeight>
     requires is_step { HasStep board.now.items step.now }
     ensures { IfSome result (spec.MakesAtMost board.now weights.now step.now) }
@@ -100,7 +101,7 @@ pub(crate) fn made_weight(board: &Board, weights: &RuleWeights, step: &Step) -> 
     }
 }
 
-/// What a rule weighs at most, where it may be known.
+/// Returns what a rule weighs at most. `known` may have it.
 fn known_weight(source: &KnownLengths<'_>, known: Option<RuleWeight>, rule: &Rule) -> RuleWeight
     requires weighable { IsWeighable source.now rule.now }
     requires known { IfSome known (WeighsAtMost source.now rule.now) }
@@ -115,7 +116,7 @@ fn known_weight(source: &KnownLengths<'_>, known: Option<RuleWeight>, rule: &Rul
     }
 }
 
-/// Puts down what a rule weighs, under its birth.
+/// Notes what a rule weighs at most, under its birth.
 fn weigh_rule(
     source: &KnownLengths<'_>,
     known: Option<RuleWeight>,
@@ -131,7 +132,7 @@ fn weigh_rule(
     weights.put(birth, known_weight(source, known, rule))
 }
 
-/// The same for an item, if it is a rule.
+/// Notes what an item weighs at most, if it is a rule.
 fn weigh_item(
     source: &KnownLengths<'_>,
     known: Option<RuleWeight>,
@@ -150,7 +151,7 @@ fn weigh_item(
     }
 }
 
-/// The item of this number.
+/// Returns the item of this number.
 fn item_at(items: &[Item], number: u32) -> &Item
     requires { number < length items.now }
     ensures { slice_get items.now number ≡ Some result.now }
@@ -158,7 +159,7 @@ fn item_at(items: &[Item], number: u32) -> &Item
     &items[number as usize]
 }
 
-/// The same for the item of this number, if it was born at `next` or later.
+/// Notes what the item of this number weighs at most, if it is a rule born at `next` or later.
 fn weigh_at(
     source: &KnownLengths<'_>,
     known: Option<RuleWeight>,
@@ -182,7 +183,7 @@ fn weigh_at(
     weigh_item(source, known, birth, item, weights)
 }
 
-/// The same for the items of these numbers.
+/// Notes what those of the items of these numbers weigh at most that are rules born at `next` or later.
 fn weigh_those(
     source: &KnownLengths<'_>,
     known: Option<RuleWeight>,
@@ -206,7 +207,7 @@ fn weigh_those(
     Ok(())
 }
 
-/// The same for each item.
+/// Notes what each rule born at `next` or later weighs at most.
 fn weigh_each(
     source: &KnownLengths<'_>,
     known: Option<RuleWeight>,
@@ -227,8 +228,8 @@ fn weigh_each(
     Ok(())
 }
 
-/// Puts down what the rules weigh that were born at `next` or later, where it may be known that each of them weighs no more than
-/// so much. `born` may tell the numbers of all that were born then.
+/// Notes what each rule born at `next` or later weighs at most.
+/// `known` may have a bound for all of them. `born` may have the numbers of all items born then.
 pub(crate) fn weigh_born(
     source: &KnownLengths<'_>,
     known: Option<RuleWeight>,

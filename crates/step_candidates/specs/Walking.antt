@@ -30,6 +30,6 @@ IsOf first last k = (first_item k ≡ first) × (last_item k ≡ last)
 abbrev pub IsBelow : ℕ → ℕ → Step → Type 0
 IsBelow number other k = IsOf number other k × (number < other)
 
--- a step of an item and one of these that stands below it
+-- a step of an item and one of these below it
 abbrev pub IsWithOne : ℕ → List ℕ → Step → Type 0
 IsWithOne number others k = (first_item k ≡ number) × (number < last_item k) × Contains others (last_item k)

@@ -1,4 +1,4 @@
-//! The steps that save something, for a sheet that changes step by step.
+//! The steps that save bytes, for a sheet that changes step by step.
 
 ghost use Rattle.std.specs.Prelude.{◌≡◌, ◌≤◌, IfOk, OnErr, OnOk, length};
 ghost use Rattle.css_model.specs.Sheets.Limits.{max_bytes, max_items};
@@ -15,7 +15,7 @@ use std::alloc::{AllocError, Global};
 use std::marker::Model;
 use step_laws::{each_is_made_of_itself, steps_make_of, steps_stay_sound};
 
-/// The steps of a sheet that save something. Contracts see it as their list.
+/// The steps of a sheet that save bytes. Contracts see them as a list.
 #[derive(Debug, Drop)]
 pub struct Candidates {
     found: Vec<Step>,
@@ -31,8 +31,9 @@ impl Model for Candidates {
 }
 
 impl Candidates {
-    /// Those of a sheet that is sound for `source`, has no more items than one may have, and prints to no more bytes.
-    /// The error comes where memory is short.
+    /// Returns exactly the steps of a sheet that save bytes.
+    /// The sheet is sound for `source`, has at most `max_items` items, and prints to at most `max_bytes` bytes.
+    /// `Err(AllocError)` if memory is short.
     pub fn new(alloc: Global, sheet: &Sheet, source: &[u8]) -> Result<Candidates, AllocError>
         requires length { length source.now ≤ max_bytes }
         requires few_items { length sheet.now.items ≤ max_items }
@@ -44,15 +45,16 @@ impl Candidates {
         Ok(Candidates { found })
     }
 
-    /// The steps that save something, in the order of all steps. Takes no memory.
+    /// Returns the steps that save bytes, in the order of steps.
     pub fn saving_steps(&self) -> &[Step]
         ensures { result.now ≡ self.now }
     {
         &self.found
     }
 
-    /// Makes them those of the sheet after one of the steps of `sheet`, the one that they are of. The error comes where
-    /// memory is short; then they are as they were.
+    /// Changes the steps to those of the sheet after a step of `sheet`.
+    /// Before, they are the steps of `sheet`. The sheet after the step prints to at most `max_bytes` bytes. After
+    /// `Err(AllocError)` (memory is short) the steps stay as they were.
     pub fn change(
         &mut self,
         alloc: Global,
@@ -69,7 +71,7 @@ impl Candidates {
         ensures changed { OnOk result ((e : Edit) → IsStep sheet.now.items step.now e → AreSavingSteps source.now (edited e sheet.now.items) self.new) }
         ensures kept { OnErr result (self.new ≡ self.old) }
     {
-        // Laws on what a step leaves of a sheet; they do nothing.
+        // Laws on what a step leaves of a sheet. They do nothing.
         steps_stay_sound();
         steps_make_of();
         each_is_made_of_itself();

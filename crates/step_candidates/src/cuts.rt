@@ -1,4 +1,4 @@
-//! Whether a step is one of a sheet, with tables of its rules.
+//! Checks whether a step is one of a sheet, with tables of its rules.
 
 ghost use Rattle.std.specs.Prelude.{◌↔◌, IsTrue, map};
 ghost use Rattle.std.specs.List.{Contains};
@@ -16,7 +16,7 @@ use merge_steps::is_step;
 use rule_tables::{decl_cuts_are_told, selector_cuts_are_told};
 use step_laws::Step;
 
-/// Whether each of the selectors stands with a declaration in a rule of another number.
+/// Returns whether, for each of the selectors, a rule of another number has it and the declaration.
 fn all_stand_with_decl(on: &Numbered<'_>, own: u64, selectors: &[SelItem], decl: &Decl) -> bool
     requires { spec.IsReady on.now.tables.now on.now.lengths.now on.now.sheet.now.items }
     ensures { IsTrue result ↔ ((s : SelectorParts) → Contains (map (λ x. x.selector) selectors.now) s → pairs.AnotherHasBoth (spec.numbered on.now.sheet.now.items) own s decl.now) }
@@ -31,7 +31,7 @@ fn all_stand_with_decl(on: &Numbered<'_>, own: u64, selectors: &[SelItem], decl:
     true
 }
 
-/// Whether each of the declarations stands with a selector in a rule of another number.
+/// Returns whether, for each of the declarations, a rule of another number has it and the selector.
 fn all_stand_with_selector(
     on: &Numbered<'_>,
     own: u64,
@@ -51,7 +51,7 @@ fn all_stand_with_selector(
     true
 }
 
-/// Whether a declaration of a rule can be cut.
+/// Returns whether a declaration of a rule can be cut.
 fn can_cut_decl(on: &Numbered<'_>, number: u32, decl: u32) -> bool
     requires { spec.IsReady on.now.tables.now on.now.lengths.now on.now.sheet.now.items }
     ensures { IsTrue result ↔ HasStep on.now.sheet.now.items (kinds.CutDecl number decl) }
@@ -70,7 +70,7 @@ fn can_cut_decl(on: &Numbered<'_>, number: u32, decl: u32) -> bool
     all_stand_with_decl(on, own, &rule.selectors, &cut.decl)
 }
 
-/// Whether a selector of a rule can be cut.
+/// Returns whether a selector of a rule can be cut.
 fn can_cut_selector(on: &Numbered<'_>, number: u32, sel: u32) -> bool
     requires { spec.IsReady on.now.tables.now on.now.lengths.now on.now.sheet.now.items }
     ensures { IsTrue result ↔ HasStep on.now.sheet.now.items (kinds.CutSel number sel) }
@@ -89,8 +89,7 @@ fn can_cut_selector(on: &Numbered<'_>, number: u32, sel: u32) -> bool
     all_stand_with_selector(on, own, &cut.selector, &rule.decls)
 }
 
-/// Whether a step is one of the sheet. Takes no memory. The time is that of the parts of its rules, and of a cut that of
-/// the rules with these parts.
+/// Returns whether a step is one of the sheet.
 pub(crate) fn is_step_of(on: &Numbered<'_>, step: &Step) -> bool
     requires { spec.IsReady on.now.tables.now on.now.lengths.now on.now.sheet.now.items }
     ensures { IsTrue result ↔ HasStep on.now.sheet.now.items step.now }

@@ -1,4 +1,4 @@
-//! Steps that were found, in their order.
+//! Steps that were found, in the order of steps.
 
 ghost use Rattle.std.specs.Prelude.{◌≡◌, ◌∷◌, [], IfOk, OnOk, map};
 ghost use Rattle.std.specs.List.{AllPairs};
@@ -23,7 +23,7 @@ enum Kind {
     Share,
 }
 
-/// A step by its kind and its two numbers. They are ordered as their steps are.
+/// A step by its kind and its two numbers. The order is that of steps.
 #[derive(Clone, Copy, Debug, PartialEq, Eq, PartialOrd, Ord)]
 struct Ranked {
     kind: Kind,
@@ -31,7 +31,7 @@ struct Ranked {
     second: u32,
 }
 
-/// A step by its kind and its numbers.
+/// Returns a step by its kind and its two numbers.
 fn rank_of(step: &Step) -> Ranked
     ensures { ranking.ranked_step result ≡ step.now }
 {
@@ -51,7 +51,7 @@ fn rank_of(step: &Step) -> Ranked
     }
 }
 
-/// The step of a kind and these numbers.
+/// Returns the step of a kind and two numbers.
 fn step_of(ranked: &Ranked) -> Step
     ensures { result ≡ ranking.ranked_step ranked.now }
 {
@@ -88,7 +88,7 @@ fn step_of(ranked: &Ranked) -> Step
     }
 }
 
-/// The steps of these kinds and numbers.
+/// Returns the steps of these kinds and numbers, in the same order.
 fn steps_of(alloc: Global, list: &[Ranked]) -> Result<Vec<Step>, AllocError>
     ensures { IfOk result (λ steps. steps.items ≡ map ranking.ranked_step list.now) }
 {
@@ -101,7 +101,7 @@ fn steps_of(alloc: Global, list: &[Ranked]) -> Result<Vec<Step>, AllocError>
     Ok(steps)
 }
 
-/// What a set has, in order.
+/// Returns what a set has, in the order of steps.
 fn list_ranked(alloc: Global, set: BTreeSet<Ranked>) -> Result<Vec<Ranked>, AllocError>
     ensures same { IfOk result (λ list. list.items ≡ set.keys) }
     ensures ascends { IfOk result (λ list. AllPairs StandsBefore (map ranking.ranked_step list.items)) }
@@ -109,7 +109,7 @@ fn list_ranked(alloc: Global, set: BTreeSet<Ranked>) -> Result<Vec<Ranked>, Allo
     set.into_iter().collect(alloc)
 }
 
-/// Steps that were found. Contracts see them as their list.
+/// Steps that were found. Contracts see them as a list.
 #[derive(Drop)]
 pub(crate) struct Found {
     steps: BTreeSet<Ranked>,
@@ -126,7 +126,7 @@ impl Model for Found {
 }
 
 impl Found {
-    /// Nothing was found.
+    /// Returns a set with no steps.
     pub(crate) fn new(alloc: Global) -> Found
         ensures { result ≡ [] }
     {
@@ -135,7 +135,7 @@ impl Found {
         }
     }
 
-    /// Puts a step in, if it is not there.
+    /// Adds a step, if the set does not have it.
     pub(crate) fn put(&mut self, step: &Step) -> Result<(), AllocError>
         ensures { OnOk result (Puts self.old (step.now ∷ []) self.new) }
     {
@@ -143,7 +143,7 @@ impl Found {
         Ok(())
     }
 
-    /// The steps that were found, in their order.
+    /// Returns the steps that were found, in the order of steps.
     pub(crate) fn list(self, alloc: Global) -> Result<Vec<Step>, AllocError>
         ensures same { IfOk result (λ list. list.items ≡ self) }
         ensures ascends { IfOk result (λ list. AllPairs StandsBefore list.items) }

@@ -1,4 +1,4 @@
-//! The steps of a sheet that save something, kept up to date while steps are taken.
+//! The steps of a sheet that save bytes, kept up to date while steps are taken.
 #![tactic(auto)]
 
 mod candidates;

@@ -1,4 +1,4 @@
-//! Whether parts stand among those of a rule, and whether one stands there twice.
+//! Checks whether a rule has a selector or a declaration, and whether it has one twice.
 
 ghost use Rattle.std.specs.Prelude.{◌≡◌, ◌↔◌, ◌+◌, ◌<◌, IsTrue, drop, length, map};
 ghost use Rattle.std.specs.List.{Contains, remove};
@@ -6,21 +6,21 @@ ghost use Rattle.std.specs.List.{Contains, remove};
 use css_model::{Decl, DeclItem, SelItem, Selector};
 use step_savings::{has_decl, has_selector};
 
-/// Whether a selector is among these.
+/// Returns whether a selector is among these.
 pub(crate) fn is_selector_among(items: &[SelItem], selector: &Selector) -> bool
     ensures { IsTrue result ↔ Contains (map (λ x. x.selector) items.now) selector.now }
 {
     has_selector(items, selector)
 }
 
-/// Whether a declaration is among these.
+/// Returns whether a declaration is among these.
 pub(crate) fn is_decl_among(items: &[DeclItem], decl: &Decl) -> bool
     ensures { IsTrue result ↔ Contains (map (λ x. x.decl) items.now) decl.now }
 {
     has_decl(items, decl)
 }
 
-/// The declarations behind the one of this number.
+/// Returns the declarations after the one of this number.
 #[tactic(auto, using(std::proofs::lemmas::List::take_rest))]
 fn decls_behind(items: &[DeclItem], number: usize) -> &[DeclItem]
     requires { number < length items.now }
@@ -29,7 +29,7 @@ fn decls_behind(items: &[DeclItem], number: usize) -> &[DeclItem]
     &items[number + 1..]
 }
 
-/// The selectors behind the one of this number.
+/// Returns the selectors after the one of this number.
 #[tactic(auto, using(std::proofs::lemmas::List::take_rest))]
 fn selectors_behind(items: &[SelItem], number: usize) -> &[SelItem]
     requires { number < length items.now }
@@ -38,7 +38,7 @@ fn selectors_behind(items: &[SelItem], number: usize) -> &[SelItem]
     &items[number + 1..]
 }
 
-/// Whether a declaration stands twice in a rule, once at this number.
+/// Returns whether a declaration is among those of a rule without the one of this number.
 pub(crate) fn is_decl_again(decls: &[DeclItem], number: u32, decl: &Decl) -> bool
     requires { number < length decls.now }
     ensures { IsTrue result ↔ Contains (map (λ x. x.decl) (remove decls.now number)) decl.now }
@@ -50,7 +50,7 @@ pub(crate) fn is_decl_again(decls: &[DeclItem], number: u32, decl: &Decl) -> boo
     is_decl_among(decls_behind(decls, number), decl)
 }
 
-/// Whether a selector stands twice in a rule, once at this number.
+/// Returns whether a selector is among those of a rule without the one of this number.
 pub(crate) fn is_selector_again(selectors: &[SelItem], number: u32, selector: &Selector) -> bool
     requires { number < length selectors.now }
     ensures { IsTrue result ↔ Contains (map (λ x. x.selector) (remove selectors.now number)) selector.now }

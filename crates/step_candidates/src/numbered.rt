@@ -1,4 +1,4 @@
-//! A sheet with tables of its rules, each of which has its number for a label.
+//! A sheet with tables of its rules. Each rule has its number as its label.
 
 ghost use Rattle.std.specs.Prelude.{◌≡◌, ◌↔◌, ◌≤◌, IfNone, IfOk, IfSome, IsTrue, Some, length, slice_get};
 ghost use Rattle.std.specs.List.{Contains};
@@ -23,7 +23,7 @@ pub(crate) struct Numbered<'a> {
     pub(crate) lengths: &'a KnownLengths<'a>,
 }
 
-/// The numbers of items, from 0.
+/// Returns the numbers of items, from 0.
 pub(crate) fn numbers(alloc: Global, items: &[Item]) -> Result<Vec<u64>, AllocError>
     requires { length items.now ≤ max_items }
     ensures { IfOk result (λ list. list.items ≡ spec.numbers items.now) }
@@ -39,7 +39,7 @@ pub(crate) fn numbers(alloc: Global, items: &[Item]) -> Result<Vec<u64>, AllocEr
     Ok(list)
 }
 
-/// The rule of this number, if a rule stands there.
+/// Returns the rule of this number, or `None` if no rule has it.
 pub(crate) fn find_rule(sheet: &Sheet, number: u64) -> Option<&Rule>
     ensures some { IfSome result (λ rule. slice_get sheet.now.items number ≡ Some (item.Rule rule.now)) }
     ensures none { IfNone result ((r : RuleParts) → slice_get sheet.now.items number ≡ Some (item.Rule r) → ⊥) }
@@ -50,7 +50,7 @@ pub(crate) fn find_rule(sheet: &Sheet, number: u64) -> Option<&Rule>
     }
 }
 
-/// The rule whose label is this number, if there is one.
+/// Returns the rule with this label, or `None` if no rule has it.
 fn rule_with(sheet: &Sheet, label: u64) -> Option<&Rule>
     ensures some { IfSome result (λ rule. (r : RuleParts) → Contains (spec.numbered sheet.now.items) (with_label r label) ↔ (r ≡ rule.now)) }
     ensures none { IfNone result ((r : RuleParts) → Contains (spec.numbered sheet.now.items) (with_label r label) → ⊥) }
@@ -60,7 +60,7 @@ fn rule_with(sheet: &Sheet, label: u64) -> Option<&Rule>
     find_rule(sheet, label)
 }
 
-/// Whether a rule has a selector and a declaration.
+/// Returns whether a rule has both a selector and a declaration.
 fn has_both(rule: &Rule, selector: &Selector, decl: &Decl) -> bool
     ensures { IsTrue result ↔ pairs.HasBoth rule.now selector.now decl.now }
 {

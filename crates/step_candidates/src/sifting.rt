@@ -1,4 +1,4 @@
-//! Which steps of a sheet save something.
+//! Finds the steps of a sheet that save bytes.
 
 ghost use Rattle.std.specs.Prelude.{◌≤◌, IfOk, length};
 ghost use Rattle.css_model.specs.Sheets.Limits.{max_bytes, max_items};
@@ -15,8 +15,7 @@ use rule_tables::Tables;
 use std::alloc::{AllocError, Global};
 use step_laws::Step;
 
-/// The steps of a sheet that save something, in their order. The time is that of the sheet's parts, of its pairs of rules
-/// with the same selectors or a declaration in common, and of what is found, with a logarithm.
+/// Returns exactly the steps of a sheet that save bytes, in the order of steps.
 pub(crate) fn find_saving_steps(
     alloc: Global,
     sheet: &Sheet,

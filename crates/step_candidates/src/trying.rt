@@ -1,4 +1,4 @@
-//! Steps are tried: those of a rule by itself, and those of it and each rule below that can be its partner.
+//! Tries steps: the cuts of a rule, and its steps with each rule below that can be its partner.
 
 ghost use Rattle.std.specs.Prelude.{◌≡◌, ◌<◌, ◌↔◌, IsTrue, Some, OnOk, length, slice_get};
 ghost use Rattle.css_model.specs.declared.sheet.Item.TheVariants as item;
@@ -16,7 +16,7 @@ use std::alloc::{AllocError, Global};
 use step_laws::{Step, parts_are_few};
 use step_savings::saving_by;
 
-/// Whether a step of the sheet saves something.
+/// Returns whether a step of the sheet saves bytes.
 fn saves(on: &Numbered<'_>, step: &Step) -> bool
     requires ready { IsReady on.now.tables.now on.now.lengths.now on.now.sheet.now.items }
     requires is_step { HasStep on.now.sheet.now.items step.now }
@@ -25,7 +25,7 @@ fn saves(on: &Numbered<'_>, step: &Step) -> bool
     saving_by(on.lengths, on.sheet, step) > 0
 }
 
-/// Puts a step in, if it is one of the sheet and saves something.
+/// Adds a step, if it is one of the sheet and saves bytes.
 fn try_step(on: &Numbered<'_>, step: &Step, found: &mut Found) -> Result<(), AllocError>
     requires { IsReady on.now.tables.now on.now.lengths.now on.now.sheet.now.items }
     ensures { OnOk result (Adds on.now.lengths.now on.now.sheet.now.items (λ k. k ≡ step.now) found.old found.new) }
@@ -40,7 +40,7 @@ fn try_step(on: &Numbered<'_>, step: &Step, found: &mut Found) -> Result<(), All
     Ok(())
 }
 
-/// Puts in the cuts of a rule's declarations, of which there are so many.
+/// Adds the cuts of the first `count` declarations of a rule that save bytes.
 fn try_decl_cuts(
     on: &Numbered<'_>,
     number: u32,
@@ -56,7 +56,7 @@ fn try_decl_cuts(
     Ok(())
 }
 
-/// Puts in the cuts of a rule's selectors, of which there are so many.
+/// Adds the cuts of the first `count` selectors of a rule that save bytes.
 fn try_selector_cuts(
     on: &Numbered<'_>,
     number: u32,
@@ -72,21 +72,21 @@ fn try_selector_cuts(
     Ok(())
 }
 
-/// How many declarations a rule has.
+/// Returns how many declarations a rule has.
 fn decl_count(rule: &Rule) -> usize
     ensures { result ≡ length rule.now.decls }
 {
     rule.decls.len()
 }
 
-/// How many selectors a rule has.
+/// Returns how many selectors a rule has.
 fn selector_count(rule: &Rule) -> usize
     ensures { result ≡ length rule.now.selectors }
 {
     rule.selectors.len()
 }
 
-/// Puts in the cuts of a rule.
+/// Adds the cuts of a rule that save bytes.
 fn try_cuts(
     on: &Numbered<'_>,
     number: u32,
@@ -97,7 +97,7 @@ fn try_cuts(
     requires rule { slice_get on.now.sheet.now.items number ≡ Some (item.Rule rule.now) }
     ensures { OnOk result (Adds on.now.lengths.now on.now.sheet.now.items (IsOf number number) found.old found.new) }
 {
-    // A law that the number of parts stands on; it does nothing.
+    // A law on the number of parts. It does nothing.
     parts_are_few();
     let decls = decl_count(rule) as u32;
     let selectors = selector_count(rule) as u32;
@@ -106,7 +106,7 @@ fn try_cuts(
     Ok(())
 }
 
-/// Puts in the steps of two rules.
+/// Adds the steps of two rules that save bytes.
 fn try_joins(on: &Numbered<'_>, upper: u32, lower: u32, found: &mut Found) -> Result<(), AllocError>
     requires ready { IsReady on.now.tables.now on.now.lengths.now on.now.sheet.now.items }
     requires in_order { upper < lower }
@@ -120,7 +120,7 @@ fn try_joins(on: &Numbered<'_>, upper: u32, lower: u32, found: &mut Found) -> Re
     Ok(())
 }
 
-/// Puts in the steps of a rule and the item of a number, if that stands below it.
+/// Adds the steps of a rule and the item of a number that save bytes, if that item is below the rule.
 fn try_partner(
     on: &Numbered<'_>,
     number: u32,
@@ -141,7 +141,7 @@ fn try_partner(
     Ok(())
 }
 
-/// Puts in the steps of a rule and those of these items that stand below it.
+/// Adds the steps of a rule and one of these items below it that save bytes.
 fn try_partners(
     on: &Numbered<'_>,
     number: u32,
@@ -159,7 +159,7 @@ fn try_partners(
     Ok(())
 }
 
-/// Puts in the steps whose upper rule is this one.
+/// Adds the steps that save bytes and have the item of this number as their first item.
 fn try_rule(
     alloc: Global,
     on: &Numbered<'_>,
@@ -169,7 +169,7 @@ fn try_rule(
     requires { IsReady on.now.tables.now on.now.lengths.now on.now.sheet.now.items }
     ensures { OnOk result (Adds on.now.lengths.now on.now.sheet.now.items (λ k. first_item k ≡ number) found.old found.new) }
 {
-    // Laws on partners; they do nothing.
+    // Laws on partners. They do nothing.
     steps_have_partners();
     rules_are_labelled();
     let Some(rule) = find_rule(on.sheet, u64::from(number)) else {
@@ -181,7 +181,7 @@ fn try_rule(
     Ok(())
 }
 
-/// Puts in all steps of the sheet that save something.
+/// Adds all steps of the sheet that save bytes.
 pub(crate) fn try_rules(
     alloc: Global,
     on: &Numbered<'_>,

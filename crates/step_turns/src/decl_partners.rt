@@ -40,8 +40,8 @@ use rule_tables::Tables;
 use std::alloc::AllocError;
 use std::collections::BTreeSet;
 
-/// What the steps by declarations of a rule and one above it save at most, if each declaration of the rule stands in it once.
-/// `own` says that no other rule has one of its selectors.
+/// What the steps by declarations of a rule and one above it save at most, if this is known.
+/// It holds if each declaration of the rule is in it once. `own` says that no other rule has one of its selectors.
 fn most_above(
     board: &Board,
     source: &KnownLengths<'_>,
@@ -63,7 +63,8 @@ fn most_above(
     heaviest.decls.checked_add(u64::from(selectors))
 }
 
-/// And so of a rule and one below it, if each declaration of that one stands in it once.
+/// What the steps by declarations of a rule and one below it save at most, if this is known.
+/// It holds if each declaration of the one below is in it once. `own` says that no other rule has a selector of the upper one.
 fn most_below(
     board: &Board,
     source: &KnownLengths<'_>,
@@ -82,9 +83,10 @@ fn most_below(
     heaviest.decls.checked_add(heaviest.selectors)
 }
 
-/// Whether it is known of the steps by declarations of the item with the label `at` and others, which save no more than `most`
-/// if `once` holds, that they do not come before the first of the others that were found, if the labels of the other items
-/// are this one or later ones on the same side of `at`.
+/// Whether steps by declarations of the item with the label `at` and others are known to come too late.
+///
+/// They are the steps that save at most `most`. The labels of the other items are `label` or later ones, on the same side
+/// of `at`. `true` only if `once` holds and `most` is known. None of these steps comes before the first of the others found.
 fn are_late_from(found: &Found, most: Option<u64>, once: bool, at: u64, label: u64) -> bool
     ensures once { result ≡ true → once ≡ true }
     ensures late { result ≡ true → (limit : ℕ) × (most ≡ Some limit) × AreLateFrom found.now.others lead_kinds.DeclJoinUp at label limit }
@@ -107,8 +109,8 @@ fn are_late_from(found: &Found, most: Option<u64>, once: bool, at: u64, label: u
     true
 }
 
-/// Whether the rules of two numbers are known to have no selector in common. `own` says that no other rule has one of the first
-/// one's; the digests that are told are of its selectors.
+/// Whether the rules of two numbers are known to have no selector in common.
+/// `own` says that no other rule has a selector of the first one, and `told` has digests of its selectors.
 fn are_known_apart(
     board: &Board,
     told: &Option<BTreeSet<u32>>,
@@ -127,8 +129,8 @@ fn are_known_apart(
     own || are_apart(board, told, number, other)
 }
 
-/// Puts the turns of the steps by declarations of an item and one below it. `once` says that each declaration of that one is known
-/// to stand in it once.
+/// Puts the turns of the steps by declarations of an item and one below it.
+/// `once` says that each declaration of the one below is known to be in it once.
 fn try_lower(
     board: &Board,
     tables: &Tables,
@@ -162,7 +164,8 @@ fn try_lower(
     )
 }
 
-/// And of an item and one above it. `once` says that each declaration of the item is known to stand in it once.
+/// Puts the turns of the steps by declarations of an item and one above it.
+/// `once` says that each declaration of the item is known to be in it once.
 fn try_upper(
     board: &Board,
     tables: &Tables,
@@ -196,8 +199,8 @@ fn try_upper(
     )
 }
 
-/// Puts the turns of the steps by declarations of an item and another one with this label. `last` is the number of the last one
-/// that was found.
+/// Puts the turns of the steps by declarations of an item and another one with this label.
+/// `last` is the number of the last other item that was found.
 fn try_partner(
     board: &Board,
     tables: &Tables,
@@ -252,9 +255,9 @@ fn try_partner(
     Ok(())
 }
 
-/// Puts the turns of the steps by declarations of the item with the label `at` and others with these labels, which ascend below
-/// it. It ends where all that is left comes too late. `most_above` is what the steps with one above save at most, if each
-/// declaration of the item stands in it once.
+/// Puts the turns of the steps by declarations of the item with the label `at` and others above it.
+/// The labels of the others ascend. It ends once all the rest comes too late. `most_above` is what the steps with one above
+/// save at most, if each declaration of the item is in it once.
 fn try_above(
     board: &Board,
     tables: &Tables,
@@ -306,8 +309,9 @@ fn try_above(
     Ok(())
 }
 
-/// And others below it. It ends there too, if each declaration of each rule stands in it once. `most_below` is what the steps with one
-/// below save at most then.
+/// Puts the turns of the steps by declarations of the item with the label `at` and others below it.
+/// The labels of the others ascend. If each declaration of each rule is in it once, it ends once all the rest comes too late.
+/// `most_below` is what the steps with one below save at most then.
 fn try_below(
     board: &Board,
     tables: &Tables,
@@ -359,8 +363,9 @@ fn try_below(
     Ok(())
 }
 
-/// Puts the turns of the joins by declarations and of the shares of an item and others with these labels, which ascend. `own`
-/// says that no other rule has one of its selectors, `once` that each of its declarations stands in it once.
+/// Puts the turns of the steps by declarations of an item and others with these labels, which ascend.
+/// These steps are joins by declarations and shares. `own` says that no other rule has a selector of the item, and `once` that
+/// each of its declarations is in it once.
 pub(crate) fn try_decl_partners(
     board: &Board,
     tables: &Tables,

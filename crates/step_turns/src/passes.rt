@@ -29,7 +29,7 @@ use rule_tables::{Tables, rules_are_labelled};
 use std::alloc::{AllocError, Global};
 use std::collections::BTreeSet;
 
-/// Whether it is known of the rule of this number that no other rule has one of its selectors.
+/// Whether it is known that no other rule has one of the selectors of the rule of this number.
 fn is_known_apart(board: &Board, number: u32) -> bool
     ensures { result ≡ true → HasOwnSelectors board.now.items number }
 {
@@ -64,7 +64,7 @@ fn is_known_alone(board: &Board, number: u32) -> bool
     board.facts(number).own_decls
 }
 
-/// Whether there is no other label than this one.
+/// Whether it is known that there is no other label than this one.
 fn is_alone(labels: &[u64], at: u64) -> bool
     ensures { result ≡ true → (label : ℕ) → Contains labels.now label → label ≡ at }
 {
@@ -74,7 +74,8 @@ fn is_alone(labels: &[u64], at: u64) -> bool
     }
 }
 
-/// The digests of the selectors of a rule, if others may have one of them, and it has many.
+/// The digests of the selectors of a rule, or `None` if it has few, or if `own` says that no other rule has one of them.
+/// `Err(AllocError)` if memory is short.
 fn told_of(alloc: Global, rule: &Rule, own: bool) -> Result<Option<BTreeSet<u32>>, AllocError>
     ensures { IfOk result (λ told. Tells told rule.now) }
 {
@@ -84,9 +85,9 @@ fn told_of(alloc: Global, rule: &Rule, own: bool) -> Result<Option<BTreeSet<u32>
     told_digests(alloc, rule)
 }
 
-/// Puts the turns of the joins by declarations and of the shares of a rule, and tells whether no other rule has one of its
-/// declarations. `own` says that no other rule has one of its selectors, `once` that each of its declarations stands in it
-/// once.
+/// Puts the turns of the joins by declarations and of the shares of a rule.
+/// Returns whether it is known that no other rule has one of its declarations. `own` says that no other rule has one of its
+/// selectors, and `once` that each of its declarations is in it once. `Err(AllocError)` if memory is short.
 pub(crate) fn look_at_decls(
     alloc: Global,
     board: &Board,
@@ -147,6 +148,7 @@ pub(crate) fn look_at_decls(
 }
 
 /// Puts the turns of the joins by selectors of a rule. `own` says that no other rule has one of its selectors.
+/// `Err(AllocError)` if memory is short.
 pub(crate) fn look_at_selectors(
     alloc: Global,
     board: &Board,
