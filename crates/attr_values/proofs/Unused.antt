@@ -1,6 +1,6 @@
 -- The least code point that stands in no value.
 use Rattle.std.proofs.Common.{◌≡◌, ◌≢◌, ◌⊎◌, ℕ, zero, suc, ◌<◌, ◌≤◌, ◌+◌, ◌-◌, Bool, true, false, Option, Some, None, List, [], ◌∷◌, refl, sym, ap, inl, inr, ◌∙◌, arith, slice_index_or}
-use Rattle.std.specs.Prelude.{◌==◌, nat_le, is_some, MatchOption}
+use Rattle.std.specs.Prelude.{◌==◌, nat_le, MatchOption}
 use Rattle.std.specs.Char.{IsScalar}
 use lib.Utf8.{scalar, scalar_cases}
 use Rattle.std.specs.List.{All}
@@ -89,8 +89,3 @@ pub unmarked_is : (marks : List Bool) (tests : List (AttrTest × Bool)) (r : Opt
     MatchOption r (HasUnused tests → ⊥) (λ f. IsFirstUnused f tests)
 unmarked_is marks tests None are h = none_is marks tests are h
 unmarked_is marks tests (Some f) are h = first_is f marks tests are h
-
-pub found_is : (tests : List (AttrTest × Bool)) (r : Option ℕ) (b : Bool) → MatchOption r (HasUnused tests → ⊥) (λ f. IsFirstUnused f tests) → b ≡ is_some r →
-    (b ≡ true → HasUnused tests) × (HasUnused tests → b ≡ true)
-found_is tests None b none e = (λ is. absurd (false≢true (sym e ∙ is)), λ has. absurd (none has))
-found_is tests (Some f) b first e = (λ is. (f, first.scalar, first.from_a, first.unused), λ has. e)

@@ -14,6 +14,5 @@ pub mod LitLemmas
 pub mod MemberLemmas
 pub mod PropagationLemmas
 pub mod RangeLemmas
-pub mod Rooms
 pub mod SizeLemmas
 pub mod SumLemmas

@@ -5,11 +5,11 @@ use command_texts::refusal_text;
 use cssmin_run::Status;
 
 const PROGRAM: &[u8] =
-    b"Makes a CSS style sheet smaller, and never changes which declaration wins\n";
+    b"Makes a CSS style sheet smaller, with the same winners on every legal page\n";
 
-const MIN: &[u8] = b"Make a style sheet smaller, with the same winners of the cascade\n";
+const MIN: &[u8] = b"Make a style sheet smaller, with the same winners on every legal page\n";
 
-const CMP: &[u8] = b"Tell whether one element can match two selectors\n";
+const CMP: &[u8] = b"Tell whether one element of a legal page can match two selectors\n";
 
 /// Lines that ask for help, with the first line of the help.
 const HELP: &[(&str, &[u8])] = &[
@@ -22,7 +22,7 @@ const HELP: &[(&str, &[u8])] = &[
     ("cssmin cmp -h", CMP),
     (
         "cssmin dead --help",
-        b"Tell which selectors of a style sheet match nothing\n",
+        b"Tell which selectors of a style sheet match nothing on any legal page\n",
     ),
     (
         "cssmin style --help",
@@ -38,7 +38,7 @@ const HELP: &[(&str, &[u8])] = &[
     ),
     (
         "cssmin same --help",
-        b"Tell whether two style sheets style every page alike\n",
+        b"Tell whether two style sheets style every legal page alike\n",
     ),
     (
         "cssmin trial --help",

@@ -1,7 +1,8 @@
 //! The commands of the program, as `clap` describes them.
 
+use crate::purposes::purpose;
 use clap::{Arg, ArgAction, Command, value_parser};
-use command_words::{MOST_BUDGET, MOST_RULES};
+use command_words::{MOST_BUDGET, MOST_RULES, Topic};
 use std::alloc::{AllocError, Global};
 
 const PROGRAM_HELP: &str = "\
@@ -20,7 +21,10 @@ Exit status:
 
 cssmin takes no file names. Name the sheet with `<` and the target with `>`. The
 target must be another file. `cssmin min --help` says more of `min`; each
-command has such a page.";
+command has such a page.
+
+A page is legal if each id occurs once, no link is both visited and unvisited,
+and nothing is both enabled and disabled.";
 
 const MIN_HELP: &str = "\
 cssmin reads the sheet from standard input, and writes the smaller one to
@@ -85,7 +89,7 @@ fn budget<'a>(alloc: Global) -> Arg<'a> {
 /// The command `dead`.
 fn dead_command<'a>(alloc: Global) -> Result<Command<'a>, AllocError> {
     Command::new(alloc, "dead")
-        .about("Tell which selectors of a style sheet match nothing")
+        .about(purpose(Topic::Dead))
         .override_usage("cssmin dead [OPTIONS] <SHEET")
         .after_help(DEAD_HELP)
         .arg(budget(alloc))
@@ -107,7 +111,7 @@ The lines do not say which of two related properties comes last, as `margin` and
 /// The command `style`.
 fn style_command<'a>(alloc: Global) -> Command<'a> {
     Command::new(alloc, "style")
-        .about("Tell which declarations win for an element of a small page")
+        .about(purpose(Topic::Style))
         .override_usage("cssmin style <PAGE-AND-SHEET")
         .after_help(STYLE_HELP)
 }
@@ -119,7 +123,7 @@ fn min_command<'a>(alloc: Global) -> Result<Command<'a>, AllocError> {
         .action(ArgAction::SetTrue)
         .help("List on standard error what blocks further steps");
     Command::new(alloc, "min")
-        .about("Make a style sheet smaller, with the same winners of the cascade")
+        .about(purpose(Topic::Min))
         .override_usage("cssmin min [OPTIONS] <SHEET >TARGET")
         .after_help(MIN_HELP)
         .arg(budget(alloc))?
@@ -137,7 +141,7 @@ fn trial_command<'a>(alloc: Global) -> Result<Command<'a>, AllocError> {
         .required(true)
         .help("The number of rules, 0 to 2000");
     Command::new(alloc, "trial")
-        .about("Make a sheet and merge it, and tell what came of it")
+        .about(purpose(Topic::Trial))
         .after_help(TRIAL_HELP)
         .arg(rules.value_parser(value_parser!(u32).range(0..=i64::from(MOST_RULES))))
 }
@@ -153,7 +157,7 @@ fn cmp_command<'a>(alloc: Global) -> Result<Command<'a>, AllocError> {
         .action(ArgAction::SetTrue)
         .help("Write a log for `cssmin check` instead of `disjoint`,\nif there is one");
     Command::new(alloc, "cmp")
-        .about("Tell whether one element can match two selectors")
+        .about(purpose(Topic::Cmp))
         .after_help(CMP_HELP)
         .arg(left)?
         .arg(right)?
@@ -177,7 +181,7 @@ why on standard error: `log refused: line N`, the first line that no log has, or
 /// The command `check`.
 fn check_command<'a>(alloc: Global) -> Command<'a> {
     Command::new(alloc, "check")
-        .about("Check a log that refutes a formula")
+        .about(purpose(Topic::Check))
         .override_usage("cssmin check <LOG")
         .after_help(CHECK_HELP)
 }
@@ -207,7 +211,7 @@ fn why_command<'a>(alloc: Global) -> Result<Command<'a>, AllocError> {
         .required(true)
         .help("The number of the item to move it to");
     Command::new(alloc, "why")
-        .about("Tell why a rule of a style sheet may not be moved to another one")
+        .about(purpose(Topic::Why))
         .override_usage("cssmin why [OPTIONS] FROM TO <SHEET")
         .after_help(WHY_HELP)
         .arg(from.value_parser(value_parser!(u32)))?
@@ -242,7 +246,7 @@ fn same_command<'a>(alloc: Global) -> Result<Command<'a>, AllocError> {
         .required(true)
         .help("The number of bytes of the first sheet");
     Command::new(alloc, "same")
-        .about("Tell whether two style sheets style every page alike")
+        .about(purpose(Topic::Same))
         .override_usage("cssmin same [OPTIONS] N <TWO-SHEETS")
         .after_help(SAME_HELP)
         .arg(split.value_parser(value_parser!(u32)))?
@@ -257,7 +261,7 @@ fn help_command<'a>(alloc: Global) -> Command<'a> {
 /// The program.
 pub(crate) fn program<'a>(alloc: Global, version: &'a str) -> Result<Command<'a>, AllocError> {
     Command::new(alloc, "cssmin")
-        .about("Makes a CSS style sheet smaller, and never changes which declaration wins")
+        .about(purpose(Topic::Program))
         .version(version)
         .after_help(PROGRAM_HELP)
         .subcommand_required(true)

@@ -3,6 +3,7 @@
 
 mod commands;
 mod ended;
+mod purposes;
 mod texts;
 
 pub use texts::{VERSION, help_text, refusal_text, version_text};

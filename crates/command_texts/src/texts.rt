@@ -1,10 +1,11 @@
 //! The texts.
 
 ghost use Rattle.std.specs.Prelude.{◌≡◌, IfOk};
-ghost use Rattle.command_texts.specs.Texts.{EndsLine, version_text};
+ghost use Rattle.command_texts.specs.Texts.{EndsLine, IsHelpOn, version_text};
 
 use crate::commands::program;
-use crate::ended::ended;
+use crate::ended::{begun, ended};
+use crate::purposes::purpose;
 use clap::Error;
 use clap::error::ErrorKind;
 use command_words::Topic;
@@ -47,10 +48,10 @@ fn is_refusal(error: &Error) -> bool {
     }
 }
 
-/// How the program, or a command of it, is used, as bytes. The text ends with the end of a line; what it says is
-/// tested. `AllocError` where memory runs out.
+/// How the program, or a command of it, is used, as bytes: a line that says what it does, and more lines, in `clap`'s words.
+/// Tests compare what more it says. `AllocError` if memory runs out.
 pub fn help_text(alloc: Global, about: Topic) -> Result<Vec<u8>, AllocError>
-    ensures { IfOk result (λ text. EndsLine text.items) }
+    ensures { IfOk result (λ text. IsHelpOn about text.items) }
 {
     let words: &[&str] = match about {
         Topic::Program => &["cssmin", "--help"],
@@ -63,7 +64,8 @@ pub fn help_text(alloc: Global, about: Topic) -> Result<Vec<u8>, AllocError>
         Topic::Check => &["cssmin", "check", "--help"],
         Topic::Trial => &["cssmin", "trial", "--help"],
     };
-    text_of(alloc, told(alloc, words)?)
+    let text = text_of(alloc, told(alloc, words)?)?;
+    begun(alloc, purpose(about), text.as_slice())
 }
 
 /// The name of the program and its version, as a line of bytes. `AllocError` where memory runs out.

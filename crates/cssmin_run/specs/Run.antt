@@ -1,6 +1,6 @@
 -- What a run of the program did, by what its words ask for and its status.
 use Rattle.std.specs.Prelude.{◌≡◌, ℕ, ◌+◌, Bool, true, false, List, Option, Some, None}
-use Rattle.command_texts.specs.Texts.{EndsLine, version_text}
+use Rattle.command_texts.specs.Texts.{IsHelpOn, version_text}
 use Rattle.command_words.specs.Forms.{Form, Min, Style, Dead, Cmp, Check, Why, Same, Trial, Help, Version, form_of}
 use Rattle.css_model.specs.Sheets.Limits.{max_bytes}
 use Rattle.log_text.specs.CheckedTexts.{max_log_bytes}
@@ -31,7 +31,7 @@ Outcome Check status input output err held = CheckDoes status input output err h
 Outcome (Why from to budget) status input output err held = WhyDoes from to budget status input output err held
 Outcome (Same split budget) status input output err held = SameDoes split budget status input output err held
 Outcome (Trial rules) status input output err held = TrialDoes rules status output err held
-Outcome (Help about) status input output err held = WritesSome EndsLine status output err × (held ≡ None)
+Outcome (Help about) status input output err held = WritesSome (IsHelpOn about) status output err × (held ≡ None)
 Outcome Version status input output err held = WritesSome (λ text. text ≡ version_text) status output err × (held ≡ None)
 
 -- The same of any words: those that have no form are refused.

@@ -174,7 +174,7 @@ fn with_id(
 
 /// The id that an element gets where its id is free: the first free name that is neither refused nor taken.
 #[tactic(auto, using(crate::proofs::Choices::no_own_id, crate::proofs::Choices::an_own_id))]
-pub(crate) fn own_id(
+fn own_id(
     alloc: Global,
     left: &[Simple],
     right: &[Simple],

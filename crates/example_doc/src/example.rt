@@ -105,7 +105,7 @@ fn example_of(
 /// The lines of an example, and the number of the marked one. They are made of the steps of a shape, of the numbers of
 /// siblings before and after the slots, and of their elements.
 #[tactic(auto, using(crate::proofs::Written::counts_some))]
-pub(crate) fn written(
+fn written(
     alloc: Global,
     top_is_root: bool,
     steps: &[SlotStep],

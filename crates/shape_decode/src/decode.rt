@@ -57,7 +57,7 @@ fn shape_from(alloc: Global, plan: &PairPlan, values: &[bool]) -> Result<Shape, 
 }
 
 /// The shape of values, by the combinators of both selectors, and by whether some test looks at a number of siblings.
-pub(crate) fn shape_read(
+fn shape_read(
     alloc: Global,
     values: &[bool],
     g: Numbering,

@@ -1,4 +1,3 @@
-mod AskingSelectors
 mod GatheredParts
 mod ShapeExamples
 mod SteppedParts

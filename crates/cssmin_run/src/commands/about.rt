@@ -1,7 +1,7 @@
 //! What the program writes of itself: how it is used, and its version.
 
 ghost use Rattle.std.specs.Prelude.{◌≡◌, ◌≢◌, ◌≤◌, ℕ, List};
-ghost use Rattle.command_texts.specs.Texts.{EndsLine, version_text};
+ghost use Rattle.command_texts.specs.Texts.{IsHelpOn, version_text};
 ghost use Rattle.cssmin_run.specs.Change.{change_of};
 ghost use Rattle.cssmin_run.specs.Writing.{WritesSome};
 
@@ -23,7 +23,7 @@ pub(crate) fn help<O: Sink, E: Sink>(
 ) -> Status
     requires out_fits { (bytes : List ℕ) → O.fits out.old bytes }
     requires err_fits { (bytes : List ℕ) → E.fits err.old bytes }
-    ensures outcome { WritesSome EndsLine result
+    ensures outcome { WritesSome (IsHelpOn about) result
         (change_of O.written O.faults out.old out.new)
         (change_of E.written E.faults err.old err.new) }
     ensures untouched { result ≢ Status.Done → result ≢ Status.WriteFault → out.new ≡ out.old }

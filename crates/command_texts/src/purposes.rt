@@ -1,0 +1,25 @@
+//! What the program and its commands do, in a line each.
+
+ghost use Rattle.std.specs.Prelude.{◌≡◌};
+ghost use Rattle.command_texts.specs.Texts as spec;
+
+use command_words::Topic;
+
+/// What the program does, or a command of it.
+pub(crate) fn purpose(about: Topic) -> &'static str
+    ensures { result.now ≡ spec.purpose about }
+{
+    match about {
+        Topic::Program => {
+            "Makes a CSS style sheet smaller, with the same winners on every legal page"
+        }
+        Topic::Min => "Make a style sheet smaller, with the same winners on every legal page",
+        Topic::Dead => "Tell which selectors of a style sheet match nothing on any legal page",
+        Topic::Style => "Tell which declarations win for an element of a small page",
+        Topic::Cmp => "Tell whether one element of a legal page can match two selectors",
+        Topic::Why => "Tell why a rule of a style sheet may not be moved to another one",
+        Topic::Same => "Tell whether two style sheets style every legal page alike",
+        Topic::Check => "Check a log that refutes a formula",
+        Topic::Trial => "Make a sheet and merge it, and tell what came of it",
+    }
+}
