@@ -1,0 +1,4 @@
+mod Faultless
+mod Rules
+mod Sample
+mod Texts
