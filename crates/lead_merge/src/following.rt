@@ -13,8 +13,8 @@ ghost use Rattle.plan_state.specs.State.{IsBoard};
 ghost use Rattle.plan_laws.specs.Wall.Holding.{Aside};
 
 use lead_plan::{Lead, Scope, Waiting, later_weighs_less};
-use merge_plan::KnownLengths;
 use plan_state::Plan;
+use saved_bytes::KnownLengths;
 use std::alloc::{AllocError, Global};
 use step_turns::{Looked, Seen, next_leads};
 

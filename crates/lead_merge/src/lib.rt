@@ -8,4 +8,4 @@ mod setting_aside;
 mod trying;
 mod walling;
 
-pub use merging::merge;
+pub use merging::{Merged, merge};

@@ -11,11 +11,20 @@ use crate::trying::try_lead;
 use css_model::Sheet;
 use hold_laws::no_lead_is_done;
 use merge_laws::read_keeps_the_limits;
-use merge_plan::{KnownLengths, Merged};
 use obstacles::Obstacles;
 use plan_state::Plan;
+use saved_bytes::KnownLengths;
 use std::alloc::{AllocError, Global};
 use step_laws::{Step, each_is_made_of_itself, steps_make_of};
+
+/// A merged sheet.
+#[derive(Debug, Drop)]
+pub struct Merged {
+    /// The sheet.
+    pub sheet: Sheet,
+    /// How many steps led to it.
+    pub taken: u32,
+}
 
 /// Returns the next step of a plan, or `None` if nothing is left to do. The board stays.
 fn next_step<O: Obstacles>(
@@ -73,7 +82,7 @@ fn merge_by<O: Obstacles>(
 /// Each step is the next one by the answers that are held at the end. The source must be read without a
 /// fault. The parts of the sheet must be those of the source, and it must keep the limits of a sheet. All that was answered
 /// stays, and the budget, also after `Err(AllocError)`.
-#[tactic(auto, using(merge_plan::proofs::ForCallers::short_source))]
+#[tactic(auto, using(saved_bytes::proofs::ForCallers::short_source))]
 pub fn merge<O: Obstacles>(
     alloc: Global,
     obstacles: &mut O,

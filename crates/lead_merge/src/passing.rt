@@ -20,9 +20,9 @@ use lead_laws::{
     aside_is_known, blocked_is_known, more_is_known, none_is_known, walled_may_be_aside, walls_stay,
 };
 use lead_plan::Lead;
-use merge_plan::KnownLengths;
 use obstacles::Obstacle;
 use plan_state::Plan;
+use saved_bytes::KnownLengths;
 use std::alloc::{AllocError, Global};
 use step_laws::Step;
 

@@ -1,5 +1,5 @@
+mod Answering
+mod Blocking
 pub mod ForCallers
-mod Gains
-mod KnownLists
-mod Looking
-mod NextSheets
+mod Never
+mod Planned

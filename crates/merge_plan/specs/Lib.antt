@@ -1,3 +1,1 @@
-pub mod Best
-pub mod Lengths
-pub mod Planning
+pub mod Blocked

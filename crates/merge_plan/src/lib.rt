@@ -1,12 +1,8 @@
-//! The plan of merging. It takes one step after another until no free step saves bytes.
-//! Each step is the next one: it is free, and each step that comes before it is blocked. A step that saves more comes first.
+//! The plan of merging: the sheet that it leads to, how many steps it takes, and what blocks each step that is left.
 #![tactic(auto)]
 
-mod best;
-mod lengths;
-mod merging;
-mod savings;
+mod blocked;
+mod planning;
 
-pub use lengths::KnownLengths;
-pub use merging::{Merged, merge};
-pub use savings::{saved, saved_if_apart};
+pub use blocked::blocked_steps;
+pub use planning::{Plan, plan};

@@ -1,38 +1,25 @@
 -- What is told of a merged text.
 use Rattle.std.proofs.Common.{◌≡◌, ℕ, List, map, Result, Ok, Err, length, sym, ◌∙◌, ap, subst}
 use Rattle.std.specs.Prelude.{IfOk}
-use Rattle.std.specs.List.{Contains}
 use Rattle.css_model.specs.declared.sheet.Item.{Item}
 use Rattle.css_model.specs.Sheets.Sheet.{sheet_of}
+use Rattle.merge_plan.proofs.ForCallers.{stays_among}
 use Rattle.merge_report.specs.Remaining.{AreRemainingOpened, Entry}
 use Rattle.merge_report.specs.Reports.{IsReport}
 use Rattle.merge_text.specs.declared.merged.MergedText.{MergedText}
 use Rattle.merge_text.specs.MergedTexts.{IsTold}
 use Rattle.opened_merge_laws.proofs.ForCallers.{told_more}
 use Rattle.opened_merge_laws.specs.Merged.{IsDoneOpened, IsMergedOpened}
-use Rattle.order_laws.proofs.ForCallers.{map_has, map_from}
 use Rattle.overlap.specs.PairsParts.{PairsParts}
-use Rattle.plan_laws.proofs.ForCallers.{blocked_more}
 use Rattle.report_text.specs.Report.{report_of}
 use Rattle.sheet_order.specs.Allowing.{Stays}
 use Rattle.sheet_order.specs.Laws.{answer_seen}
 use Rattle.step_laws.specs.Free as steps
-use Rattle.step_laws.specs.Leading.{IsDone}
-
--- what is held stays among what is seen
-pub stays_among : (p q : PairsParts) → Stays p q → steps.AreAmong (map answer_seen p.answers) (map answer_seen q.answers)
-stays_among p q stays a inside =
-    let from = map_from answer_seen p.answers a inside in
-    subst (λ (x : steps.Answered). Contains (map answer_seen q.answers) x) from.2 (map_has answer_seen q.answers from.0 (stays.held from.0.left from.0.right from.0.answer from.1))
 
 -- nothing is left to do in the sheet that a merged text is
 pub done_there : (answers : List steps.Answered) (read written : List ℕ) (items : List Item) → IsMergedOpened answers read written → sheet_of written ≡ Ok items → IsDoneOpened answers written items
 done_there answers read written items is written_is =
     let same : is.again ≡ items = (let again = is.again_read in cc) in subst (λ (xs : List Item). IsDoneOpened answers written xs) same is.planned.done
-
--- nothing is left to do while more is answered
-pub done_more : (p q : PairsParts) → Stays p q → (source : List ℕ) (items : List Item) → IsDone (map answer_seen p.answers) source items → IsDone (map answer_seen q.answers) source items
-done_more p q stays source items done = λ k e n is saves some. blocked_more (map answer_seen p.answers) (map answer_seen q.answers) (stays_among p q stays) items e (done k e n is saves some)
 
 -- the report of these numbers and steps
 pub reported : {X E : Type 0} (result : Result X E) (text_of : X → List ℕ) (p q : PairsParts) → Stays p q → (read : List ℕ) (m : MergedText) → IsTold (map answer_seen p.answers) read m → (written : List ℕ) → written ≡ m.text.items → (items : List Item) →

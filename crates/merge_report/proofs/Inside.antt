@@ -10,8 +10,8 @@ use Rattle.media_groups.specs.declared.media.Media.{Media}
 use Rattle.media_groups.specs.Laws.{IsBlockOf}
 use Rattle.media_groups.specs.Opened.{opened_of}
 use Rattle.merge_laws.specs.Reading.{ReadIsPlannable}
+use Rattle.merge_plan.proofs.ForCallers.{done_more}
 use Rattle.merge_report.specs.Remaining.{AreRemaining, AreRemainingInside, AreRemainingOpened, Entry}
-use Rattle.merge_report.proofs.Counted.{done_more}
 use Rattle.merge_report.proofs.Growing.{all_more, inside_more}
 use Rattle.overlap.specs.PairsParts.{Answered, PairsParts}
 use Rattle.plan_laws.specs.Plannable.{IsPlannable}

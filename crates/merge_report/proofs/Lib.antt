@@ -1,4 +1,3 @@
 mod Counted
 mod Growing
 mod Inside
-mod Never

@@ -1,19 +1,15 @@
 -- The steps of a sheet that still save something, with what blocks each of them (own).
 use Rattle.std.specs.Prelude.{◌≡◌, ℕ, List, [], ◌∷◌, ◌++◌, Option, Some, None}
-use Rattle.std.specs.List.{AllZip, Contains}
+use Rattle.std.specs.List.{AllZip}
 use Rattle.css_model.specs.declared.sheet.Item.{Item}
 use Rattle.css_model.specs.Text.Source.{text_at}
 use Rattle.media_groups.specs.declared.media.Media.{Media}
 use Rattle.media_groups.specs.Opened.{opened_of}
-use Rattle.order_laws.specs.Edits.{Edit, edited}
-use Rattle.order_laws.specs.Reversed.{reversed}
+use Rattle.merge_plan.specs.Blocked.{BlockedStep, IsCauseOf}
 use Rattle.overlap.specs.PairsParts.{Answered}
-use Rattle.sheet_order.specs.Allowing.{IsFirst}
 use Rattle.step_candidates.specs.Saving.{AreSavingSteps}
-use Rattle.step_laws.specs.Free as steps
 use Rattle.step_laws.specs.declared.cause.BlockCause.{BlockCause}
 use Rattle.step_laws.specs.declared.step.Step.{Step}
-use Rattle.step_laws.specs.Steps.{HasStep, IsStep}
 
 -- a step, of the sheet itself or of the body of the opened block that is the item of this number, with what blocks it (own)
 abbrev pub Entry : Type 0
@@ -21,9 +17,9 @@ Entry = Option ℕ × Step × BlockCause
 
 -- ---- One step
 
--- What blocks a step is the first of what it reverses that is no pair whose selectors are answered to be apart (own).
-abbrev pub IsCauseOf : List Answered → List Item → Step → BlockCause → Type 0
-IsCauseOf answers items k cause = (e : Edit) → IsStep items k e → IsFirst answers (reversed items (edited e items) e.moved) cause
+-- what was found of a step, of the sheet itself or of the body of this opened block (own)
+abbrev pub told_in : Option ℕ → BlockedStep → Entry
+told_in block found = (block, found.0, found.1)
 
 -- an entry tells of this step, and what blocks it (own)
 pub record IsEntryOf (answers : List Answered) (items : List Item) (block : Option ℕ) (k : Step) (entry : Entry) : Type 0 where
@@ -32,10 +28,6 @@ pub record IsEntryOf (answers : List Answered) (items : List Item) (block : Opti
   pub cause_is : IsCauseOf answers items k cause
 
 -- ---- All steps
-
--- these are steps of a sheet, each of them blocked (own)
-abbrev pub AreBlocked : List steps.Answered → List Item → List Step → Type 0
-AreBlocked answers items list = (k : Step) → Contains list k → HasStep items k × ((e : Edit) → IsStep items k e → steps.IsBlocked answers items e)
 
 -- Of all steps of a sheet those that still save something, in their order, each with its cause (own).
 abbrev pub AreRemaining : List Answered → List ℕ → List Item → Option ℕ → List Entry → Type 0

@@ -1,92 +1,55 @@
 //! The steps of a sheet that still save something, where nothing is left to do, and those of the bodies of its opened
 //! blocks.
 
-ghost use Rattle.std.specs.Prelude.{◌≡◌, ◌++◌, ◌∷◌, [], List, IfOk, OnOk, map, Ok, Some};
-ghost use Rattle.std.specs.List.{AllByRecursion, AllZip};
+ghost use Rattle.std.specs.Prelude.{◌≡◌, IfOk, map, Ok, Some};
+ghost use Rattle.std.specs.List.{AllByRecursion};
 ghost use Rattle.css_model.specs.Sheets.Sheet.{sheet_of};
 ghost use Rattle.css_model.specs.Text.Source.{text_at};
 ghost use Rattle.media_groups.specs.Laws.{IsBlockOf};
-ghost use Rattle.merge_report.specs.Remaining.{AreBlocked, AreRemaining, AreRemainingInside, AreRemainingOpened, IsCauseOf, IsEntryOf};
+ghost use Rattle.merge_report.specs.Remaining.{AreRemaining, AreRemainingInside, AreRemainingOpened, told_in};
 ghost use Rattle.opened_merge_laws.specs.Merged.{IsDoneOpened};
-ghost use Rattle.order_laws.specs.Edits.{Edit};
 ghost use Rattle.plan_laws.specs.Plannable.{IsPlannable};
 ghost use Rattle.sheet_order.specs.Allowing.{Stays};
 ghost use Rattle.sheet_order.specs.Laws.{answer_seen};
-ghost use Rattle.sheet_order.specs.Narrow.{CanBePlanned};
-ghost use Rattle.step_laws.specs.Free.{IsBlocked};
 ghost use Rattle.step_laws.specs.Leading.{IsDone};
-ghost use Rattle.step_laws.specs.Steps.{HasStep, IsStep};
 
 use css_model::Sheet;
 use media_groups::{Media, open_media, opened_blocks_are_sheets};
-use merge_laws::{read_is_plannable, read_keeps_the_limits};
-use order_index::Index;
+use merge_laws::read_is_plannable;
+use merge_plan::blocked_steps;
 use overlap::Pairs;
-use sheet_order::{Allowed, BlockCause, allowed_steps_are_free};
+use sheet_order::BlockCause;
 use std::alloc::{AllocError, Global};
-use step_candidates::Candidates;
-use step_laws::{Step, steps_are_one_edit};
+use step_laws::Step;
 
-/// What blocks a step that is blocked.
-fn cause_of(
-    alloc: Global,
-    pairs: &mut Pairs,
-    index: &Index<'_>,
-    step: &Step,
-) -> Result<BlockCause, AllocError>
-    requires is_step { HasStep index.now step.now }
-    requires planned { CanBePlanned index.now }
-    requires blocked { (e : Edit) → IsStep index.now step.now e → IsBlocked (map answer_seen pairs.old.answers) index.now e }
-    ensures stays { Stays pairs.old pairs.new }
-    ensures cause { IfOk result (λ cause. IsCauseOf pairs.new.answers index.now step.now cause) }
+/// Returns what was found of a step, with the block whose body has it.
+fn told_of(
+    block: Option<u32>,
+    found: &(Step, BlockCause),
+) -> (Option<u32>, Step, BlockCause)
+    ensures { result ≡ told_in block found.now }
 {
-    allowed_steps_are_free();
-    let allowed = index.permitted(alloc, pairs, step)?;
-    pairs.are_true();
-    match allowed {
-        Allowed::Blocked(cause) => Ok(cause),
-        Allowed::Free => unreachable!(),
-    }
+    (block, found.0, found.1)
 }
 
-/// Appends a step with its cause.
-fn push_told(
-    found: &mut Vec<(Option<u32>, Step, BlockCause)>,
-    block: Option<u32>,
-    step: &Step,
-    cause: BlockCause,
-) -> Result<(), AllocError>
-    ensures { OnOk result (found.new.items ≡ found.old.items ++ (block, step.now, cause) ∷ []) }
-{
-    found.push((block, *step, cause))?;
-    Ok(())
-}
-
-/// Some blocked steps, in their order, each with its cause.
-fn remaining_of(
+/// Returns what was found of some steps, with the block whose body has them.
+fn told_in_block(
     alloc: Global,
-    pairs: &mut Pairs,
-    index: &Index<'_>,
     block: Option<u32>,
-    list: &[Step],
+    found: &[(Step, BlockCause)],
 ) -> Result<Vec<(Option<u32>, Step, BlockCause)>, AllocError>
-    requires planned { CanBePlanned index.now }
-    requires blocked { AreBlocked (map answer_seen pairs.old.answers) index.now list.now }
-    ensures stays { Stays pairs.old pairs.new }
-    ensures are { IfOk result (λ found. AllZip (IsEntryOf pairs.new.answers index.now block) list.now found.items) }
+    ensures { IfOk result (λ told. told.items ≡ map (told_in block) found.now) }
 {
-    let mut found = Vec::new(alloc);
-    for step in list {
-        let cause = cause_of(alloc, pairs, index, step)?;
-        push_told(&mut found, block, step, cause)?;
+    let mut told = Vec::with_capacity(alloc, found.len())?;
+    for entry in found {
+        told.push(told_of(block, entry))?;
     }
-    Ok(found)
+    Ok(told)
 }
 
 /// The steps that still save something of a sheet in which nothing is left to do, in their order. Each has its cause by
 /// the answers that are held afterwards. It is the sheet itself, or the body of this block. All that was answered
 /// stays. `AllocError` where memory runs out; it stays then too.
-#[tactic(auto, using(merge_plan::proofs::ForCallers::short_source))]
 fn remaining_steps(
     alloc: Global,
     pairs: &mut Pairs,
@@ -99,11 +62,8 @@ fn remaining_steps(
     ensures stays { Stays pairs.old pairs.new }
     ensures are { IfOk result (λ found. AreRemaining pairs.new.answers source.now sheet.now.items block found.items) }
 {
-    read_keeps_the_limits();
-    steps_are_one_edit();
-    let candidates = Candidates::new(alloc, sheet, source)?;
-    let index = Index::new(alloc, sheet)?;
-    remaining_of(alloc, pairs, &index, block, candidates.saving_steps())
+    let found = blocked_steps(alloc, pairs, source, sheet)?;
+    told_in_block(alloc, block, found.as_slice())
 }
 
 /// The steps that still save something of the body of an opened block.

@@ -10,10 +10,9 @@ ghost use Rattle.opened_merge_laws.specs.Plans.{AreBodyPlans, IsBodyPlan};
 ghost use Rattle.step_laws.specs.Free.{AreAmong};
 
 use css_model::Sheet;
-use lead_merge::merge;
+use lead_merge::{Merged, merge};
 use media_groups::Media;
 use merge_laws::read_is_plannable;
-use merge_plan::Merged;
 use obstacles::Obstacles;
 use print_laws::printed_is_no_longer;
 use std::alloc::{AllocError, Global};

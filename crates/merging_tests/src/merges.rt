@@ -1,9 +1,12 @@
 //! What sheets become, worked by hand; and that the plan by turns that lead is the plan by a look at each step.
 
-use crate::sheets::{PAGE, sheet};
 use cnf::NO_LIMIT;
+use crate::sheets::{DOWN, PAGE, UP, sheet};
+use merge_plan::plan;
+use merge_steps::Step;
 use merge_text::merge_text;
 use overlap::Pairs;
+use sheet_order::BlockCause;
 use step_obstacles::PairObstacles;
 use trial_gen::make_sheet;
 
@@ -158,18 +161,45 @@ fn what_sheets_become(rt: HostRuntime) {
     }
 }
 
+/// A source, how many steps its plan takes, and what blocks each step that is left.
+const PLANS: [(&str, u32, &[(Step, BlockCause)]); 3] = [
+    ("a{top:0}b{top:0}", 1, &[]),
+    (
+        ".a{top:0}.b{top:1px}.a{top:2px}",
+        0,
+        &[(UP, BlockCause::Meet(1)), (DOWN, BlockCause::Meet(1))],
+    ),
+    (
+        ".a{top:0}@x;.a{left:0}",
+        0,
+        &[(UP, BlockCause::Kept(1)), (DOWN, BlockCause::Kept(1))],
+    ),
+];
+
 #[test]
-fn leads_plan_as_the_plain_loop_does(rt: HostRuntime) {
+fn plans_list_the_steps_that_are_left(rt: HostRuntime) {
+    let alloc = rt.alloc();
+    for (source, taken, blocked) in &PLANS {
+        let bytes = source.as_bytes();
+        let old = sheet(&rt, alloc, bytes);
+        let mut pairs = Pairs::new(alloc, NO_LIMIT);
+        let planned = plan(alloc, &mut pairs, bytes, &old).expect(&rt, "memory");
+        assert_eq!(rt; planned.taken, *taken, "{source}");
+        assert!(rt; planned.blocked.as_slice() == *blocked, "{source}");
+    }
+}
+
+#[test]
+fn plans_are_those_of_the_plain_loop(rt: HostRuntime) {
     let alloc = rt.alloc();
     for (rules, taken) in [(0, 0), (10, 2), (20, 4), (40, 9), (60, 13)] {
         let source = make_sheet(alloc, rules).expect(&rt, "memory");
         let old = sheet(&rt, alloc, &source);
+        let mut pairs = Pairs::new(alloc, NO_LIMIT);
+        let planned = plan(alloc, &mut pairs, &source, &old).expect(&rt, "memory");
         let mut obstacles = PairObstacles::new(alloc, Pairs::new(alloc, NO_LIMIT));
-        let plain = merge_plan::merge(alloc, &mut obstacles, &source, old).expect(&rt, "memory");
-        let old = sheet(&rt, alloc, &source);
-        let mut obstacles = PairObstacles::new(alloc, Pairs::new(alloc, NO_LIMIT));
-        let by_leads = lead_merge::merge(alloc, &mut obstacles, &source, old).expect(&rt, "memory");
-        assert!(rt; by_leads.sheet == plain.sheet, "at {rules}");
-        assert_eq!(rt; (by_leads.taken, plain.taken), (taken, taken), "at {rules}");
+        let plain = plain_plan::merge(alloc, &mut obstacles, &source, old).expect(&rt, "memory");
+        assert!(rt; planned.sheet == plain.sheet, "at {rules}");
+        assert_eq!(rt; (planned.taken, plain.taken), (taken, taken), "at {rules}");
     }
 }

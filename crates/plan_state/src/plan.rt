@@ -12,9 +12,9 @@ use crate::weighing::weigh_born;
 use css_model::Sheet;
 use lead_laws::{cover_is_of_each, start_is_known};
 use lead_plan::{Aside, RuleWeights, Waiting, Walls};
-use merge_plan::KnownLengths;
 use plan_board::Board;
 use rule_tables::Tables;
+use saved_bytes::KnownLengths;
 use std::alloc::{AllocError, Global};
 use std::marker::Model;
 

@@ -19,10 +19,10 @@ use crate::weighing::{made_weight, weigh_born};
 use css_model::MAX_ITEMS;
 use hold_laws::sheets_have_room;
 use lead_laws::{cover_goes_on, homes_go_on, taken_is_known, walls_go_over};
-use merge_plan::KnownLengths;
 use merge_steps::apply;
 use plan_board::Board;
 use plan_laws::items_stay;
+use saved_bytes::KnownLengths;
 use std::alloc::{AllocError, Global};
 use step_laws::{Step, each_is_made_of_itself, steps_make_of};
 

@@ -16,8 +16,8 @@ ghost use Rattle.step_savings.specs.Weighing.{IsWeighable};
 
 use css_model::{Item, MAX_BYTES, Rule};
 use lead_plan::{RuleWeight, RuleWeights, are_decls_different};
-use merge_plan::KnownLengths;
 use plan_board::Board;
+use saved_bytes::KnownLengths;
 use smallvec::SmallVec;
 use std::alloc::AllocError;
 use step_laws::Step;

@@ -11,8 +11,8 @@ ghost use Rattle.step_candidates.specs.Numbered as spec;
 
 use crate::members::{is_decl_among, is_selector_among};
 use css_model::{Decl, Item, Rule, Selector, Sheet};
-use merge_plan::KnownLengths;
 use rule_tables::{LabelledRules, Tables, labelled_rules_stand, rules_are_labelled};
+use saved_bytes::KnownLengths;
 use std::alloc::{AllocError, Global};
 
 /// A sheet with tables of its rules by their numbers, and with the lengths of its texts.

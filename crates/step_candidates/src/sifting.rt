@@ -10,8 +10,8 @@ use crate::found::Found;
 use crate::numbered::{Numbered, numbers};
 use crate::trying::try_rules;
 use css_model::Sheet;
-use merge_plan::KnownLengths;
 use rule_tables::Tables;
+use saved_bytes::KnownLengths;
 use std::alloc::{AllocError, Global};
 use step_laws::Step;
 

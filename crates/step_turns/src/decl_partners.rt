@@ -34,9 +34,9 @@ use crate::order::label_of;
 use crate::others::{other_number, owns_none_below};
 use css_model::Rule;
 use lead_plan::{Heaviest, Kind, Lead, RuleWeights, Walls};
-use merge_plan::KnownLengths;
 use plan_board::Board;
 use rule_tables::Tables;
+use saved_bytes::KnownLengths;
 use std::alloc::AllocError;
 use std::collections::BTreeSet;
 

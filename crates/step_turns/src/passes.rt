@@ -23,9 +23,9 @@ use crate::found::Found;
 use crate::selector_partners::try_selector_partners;
 use css_model::Rule;
 use lead_plan::{Lead, RuleWeights, Walls};
-use merge_plan::KnownLengths;
 use plan_board::Board;
 use rule_tables::{Tables, rules_are_labelled};
+use saved_bytes::KnownLengths;
 use std::alloc::{AllocError, Global};
 use std::collections::BTreeSet;
 

@@ -2,8 +2,7 @@ use Rattle.std.proofs.Common.{◌≡◌, ◌-◌, ◌∷◌, length, map, take, 
 use Rattle.std.specs.List.{AllByRecursion}
 use Rattle.css_model.specs.Text.Source.{text_at}
 use Rattle.media_groups.specs.Laws.{IsBlockOf}
-use Rattle.merge_report.proofs.Counted.{done_more}
-use Rattle.merge_report.proofs.Growing.{stays_on}
+use Rattle.merge_plan.proofs.ForCallers.{done_more, stays_on}
 use Rattle.merge_report.proofs.Inside.{AreDone, cut_media, found_on}
 use Rattle.merge_report.proofs.remaining.remaining_inside.Goals as goal
 use Rattle.sheet_order.specs.Laws.{answer_seen}

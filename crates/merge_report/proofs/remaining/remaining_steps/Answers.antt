@@ -1,13 +1,7 @@
-use Rattle.std.proofs.Common.{List, ◌∙◌, sym, map, subst}
-use Rattle.css_model.specs.declared.sheet.Item.{Item}
-use Rattle.merge_report.proofs.Growing.{saving_blocked}
+use Rattle.merge_report.proofs.Growing.{told_remain}
 use Rattle.merge_report.proofs.remaining.remaining_steps.Goals as goal
-use Rattle.merge_report.specs.Remaining.{AreBlocked}
-use Rattle.sheet_order.specs.Laws.{answer_seen}
-use Rattle.step_laws.specs.declared.step.Step.{Step}
 
-pub remaining_of-requires-clause-blocked : goal.remaining_of-requires-clause-blocked
-remaining_of-requires-clause-blocked c =
-    subst (λ (items : List Item). AreBlocked (map answer_seen c.args.pairs.now.answers) items c.saving_steps.result.now) (sym c.in_ok-index.ensures)
-    (subst (λ (list : List Step). AreBlocked (map answer_seen c.args.pairs.now.answers) c.args.sheet.now.items list) (sym c.saving_steps.ensures)
-    (saving_blocked c.steps_are_one_edit.ensures (map answer_seen c.args.pairs.now.answers) c.args.source.now c.args.sheet.now.items c.in_ok-candidates.candidates c.in_ok-candidates.ensures c.requires.done))
+pub returns-clause-are : goal.returns-clause-are
+returns-clause-are c =
+    told_remain c.told_in_block.result (λ told. told.items) c.blocked_steps.new.pairs.answers c.args.source.now c.args.sheet.now.items c.args.block c.in_ok-found.found.items c.as_slice.result.now c.as_slice.ensures.value c.in_ok-found.ensures.are
+    c.told_in_block.ensures

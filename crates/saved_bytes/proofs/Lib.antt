@@ -1,0 +1,3 @@
+pub mod ForCallers
+mod Gains
+mod KnownLists
