@@ -15,7 +15,7 @@ pub fn disjoint_selectors_do_not_meet()
 }
 
 /// After `overlap` comes the text of an example, which shows that the two selectors meet: its document is legal, and
-/// both match the marked element.
+/// both match the marked element, or its pseudo-element.
 pub fn overlap_shows_meeting()
     ensures { OverlapShowsMeeting }
 {}

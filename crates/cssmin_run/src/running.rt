@@ -115,8 +115,8 @@ fn obey<S: Source, O: Sink, E: Sink>(
 /// - `NoItem` comes exactly where the sheet has no item of one of the numbers of `why`.
 /// - `NoSplit` comes exactly where there are fewer bytes than the number of `same`.
 /// - `ReadFault` comes only where a read failed: the count of faults rose, or has its last value.
-/// - `WriteFault` comes only where a write failed: a count of faults rose, or has its last value. A front of the text
-///   is then on `out`.
+/// - `WriteFault` comes only if a write failed: a count of faults rose, or has its last value. A front of the text is then
+///   on `out`, or all of it and a front of the report on `err`.
 /// - `NoMemory` comes where memory is short, before the first byte is written.
 ///
 /// No clause says when memory is short. A body that always answered `NoMemory` for words with a form would meet all

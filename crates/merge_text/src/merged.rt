@@ -54,8 +54,8 @@ fn told<O: Obstacles>(obstacles: &O, source: &[u8], planned: &Planned, text: Vec
     }
 }
 
-/// The merged text of a style sheet, as bytes: no more of them than the source has, with the same winners of the
-/// cascade in every legal document and every scene of its kept items (CSS Cascading 3, section 6). Nothing is left to
+/// The merged text of a style sheet, as bytes: no more of them than the source has, with the same winners of related
+/// declarations in every legal document and every scene of its kept items (CSS Cascading 3, section 6). Nothing is left to
 /// do in it, nor in the body of an opened block, by the answers that `obstacles` holds afterwards. All earlier answers
 /// stay, and the budget.
 ///

@@ -12,7 +12,8 @@ pub fn same_texts_win_alike()
 {}
 
 /// The example of two pairs that are found in another order shows that their order counts. For its marked element, in a
-/// legal document, the later one of the two rules wins, whichever it is (CSS Cascading 3, section 6).
+/// legal document, the later one of the two rules wins, whichever it is, if a browser understands both and no other rule
+/// applies (CSS Cascading 3, section 6).
 pub fn reversed_pairs_show_order()
     ensures { ReversedPairsShowOrder }
 {

@@ -54,9 +54,9 @@ fn styled(alloc: Global, document: &[u8], source: &[u8]) -> Result<Vec<u8>, Styl
     Ok(lines(alloc, &sheet, wons.as_slice())?)
 }
 
-/// Which declarations of a style sheet win in a document, as lines of bytes (CSS Cascading 3, section 6). `input` is
-/// the text of a document, as `print_doc` writes it, then an empty line and a style sheet. Without an empty line the
-/// sheet is empty.
+/// Which declarations of a style sheet win in a document, as lines of bytes (CSS Cascading 3, section 6). Every value
+/// counts as one that a browser understands. `input` is the text of a document, as `print_doc` writes it, then an empty
+/// line and a style sheet. Without an empty line the sheet is empty.
 ///
 /// - The first line has the number of kept items of the sheet: what these apply does not count.
 /// - Then comes a line `NAME:VALUE A,B,C` for each property that a rule gives to the marked element, or to its

@@ -18,7 +18,8 @@ pub fn free_moves_keep()
 }
 
 /// The example of a move that is found to be blocked shows that the order of the two pairs counts. For its marked
-/// element, in a legal document, the later one of the two rules wins, whichever it is (CSS Cascading 3, section 6).
+/// element, in a legal document, the later one of the two rules wins, whichever it is, if a browser understands both and no
+/// other rule applies (CSS Cascading 3, section 6).
 pub fn blocked_moves_show_order()
     ensures { BlockedMovesShowOrder }
 {
