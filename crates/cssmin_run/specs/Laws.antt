@@ -22,7 +22,6 @@ use Rattle.cssmin_run.specs.Run.{Ran, needs_input}
 use Rattle.cssmin_run.specs.SheetFaults.{HasFault, HasNoFault}
 use Rattle.cssmin_run.specs.Tasks.{Began, Did, IsRefused}
 use Rattle.cssmin_run.specs.Telling.{Tells}
-use Rattle.trial_gen.specs.Made.{made_sheet}
 use Rattle.cssmin_run.specs.declared.status.Status.{Status}
 use Rattle.cssmin_run.specs.declared.status.Status.TheVariants.{Done, Usage, SheetRefused, ReadFault, WriteFault, NoMemory}
 
@@ -146,11 +145,11 @@ SheetsAreCompared =
     (words : List (List ℕ)) (split : ℕ) (budget : Option ℕ) (status : Status) (input output err : Change) (held : Option PairsParts) → Ran words status input output err held
     → form_of words ≡ Some (Same split budget) → IsSomeAnd input.old (λ read. (other : Status) → SameRefuses split other read → ⊥) → (HasFailed input → ⊥) → (HasFailed output → ⊥) → (status ≡ Done) ⊎ (status ≡ NoMemory)
 
--- what needs no input is done, where a made sheet has no fault, no write failed and the memory sufficed
+-- what needs no input is done, where no write failed and the memory sufficed
 abbrev pub OthersAreDone : Type 0
 OthersAreDone =
     (words : List (List ℕ)) (status : Status) (input output err : Change) (held : Option PairsParts) (form : Form) → Ran words status input output err held
-    → form_of words ≡ Some form → needs_input (Some form) ≡ false → ((rules : ℕ) → form ≡ Trial rules → HasNoFault (made_sheet rules)) → (HasFailed output → ⊥) → (status ≡ Done) ⊎ (status ≡ NoMemory)
+    → form_of words ≡ Some form → needs_input (Some form) ≡ false → (HasFailed output → ⊥) → (status ≡ Done) ⊎ (status ≡ NoMemory)
 
 -- over a source whose count of faults stays, below its last value, no read fault is answered
 abbrev pub ConstantCountHasNoReadFault : Type 0
