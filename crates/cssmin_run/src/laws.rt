@@ -18,12 +18,18 @@ pub fn words_decide_usage()
 /// What each status says of the input and the output.
 pub fn each_status_has_its_cause()
     ensures done { laws.DoneIsMerged }
-    ensures unspent { laws.NoBudgetIsSpent }
     ensures refused { laws.RefusedHasTheFault }
     ensures read_fault { laws.ReadFaultHasFailed }
     ensures write_fault { laws.WriteFaultHasFailed }
     ensures front { laws.WriteFaultLeavesAFront }
     ensures told { laws.StatusIsTold }
+{}
+
+/// The answers that are held after a run are true, with the budget of its words. If the words name no budget, none of
+/// them is `Spent`.
+pub fn held_answers_are_true()
+    ensures all_true { laws.HeldIsTrue }
+    ensures unspent { laws.NoBudgetIsSpent }
 {}
 
 /// Which status comes where no stream failed, unless memory runs out.
