@@ -18,6 +18,7 @@ use Rattle.cssmin_run.specs.Commands.Same.{SameDoes, SameRefuses}
 use Rattle.cssmin_run.specs.Commands.Style.{StyleDoes, StyleRefuses}
 use Rattle.cssmin_run.specs.Commands.Trial.{TrialDoes}
 use Rattle.cssmin_run.specs.Commands.Why.{WhyDoes, WhyRefuses}
+use Rattle.cssmin_run.specs.Remaining.{LeavesOnlyBlocked}
 use Rattle.cssmin_run.specs.Run.{Ran, named_budget, needs_input}
 use Rattle.cssmin_run.specs.SheetFaults.{HasFault, HasNoFault}
 use Rattle.cssmin_run.specs.Tasks.{Began, Did, IsRefused}
@@ -90,6 +91,14 @@ NoBudgetIsSpent =
 -- the text that was written is that of the sheet that was read, all that was left, merged by the answers that are held
 abbrev pub DoneIsMerged : Type 0
 DoneIsMerged = (words : List (List ℕ)) (budget : Option ℕ) (asked : Bool) (status : Status) (input output err : Change) (held : Option PairsParts) → Ran words status input output err held → form_of words ≡ Some (Min budget asked) → status ≡ Done → Did (Merges budget asked) input output err held
+
+-- After `Done`, each step that would still save bytes in the text that was written is blocked (own). It reverses a pair and a kept
+-- item, or two pairs: a legal document shows an element that the selectors of both match, or they are outside of what is decided, or
+-- the budget was spent on them.
+abbrev pub RemainingIsBlocked : Type 0
+RemainingIsBlocked =
+    (words : List (List ℕ)) (budget : Option ℕ) (asked : Bool) (status : Status) (input output err : Change) (held : Option PairsParts) → Ran words status input output err held
+    → form_of words ≡ Some (Min budget asked) → status ≡ Done → Did (λ read text report held. LeavesOnlyBlocked budget text held) input output err held
 
 -- a sheet is refused only for a fault that it has
 abbrev pub RefusedHasTheFault : Type 0
