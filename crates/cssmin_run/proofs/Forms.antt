@@ -22,7 +22,6 @@ use Rattle.cssmin_run.specs.SheetFaults.{HasFault, HasNoFault}
 use Rattle.cssmin_run.specs.Tasks.{Began, Did, IsRefused, Silent}
 use Rattle.cssmin_run.specs.Telling.{Tells}
 use Rattle.cssmin_run.specs.Writing.{Stops, WritesSome}
-use Rattle.trial_gen.specs.Made.{made_sheet}
 use Rattle.cssmin_run.specs.declared.status.Status.{Status}
 use Rattle.cssmin_run.specs.declared.status.Status.TheVariants.{Done, Usage, SheetRefused, NoItem, DocRefused, LogRefused, NoSplit, SecondRefused, ReadFault, WriteFault, NoMemory}
 use Rattle.cssmin_run.proofs.Faults.{one_fault, fault_or_none, merged_no_fault}
@@ -228,34 +227,34 @@ cmp_done left right budget log ReadFault output err held h safe = absurd h
 cmp_done left right budget log WriteFault output err held h safe = absurd (safe (stops_out h.0 output err h.2))
 cmp_done left right budget log NoMemory output err held h safe = inr refl
 
-trial_done : (rules : ℕ) (status : Status) (output err : Change) (held : Option PairsParts) → TrialDoes rules status output err held → HasNoFault (made_sheet rules) → (HasFailed output → ⊥) → (status ≡ Done) ⊎ (status ≡ NoMemory)
-trial_done rules Done output err held h none safe = inl refl
-trial_done rules Usage output err held h none safe = absurd h
-trial_done rules (SheetRefused fault) output err held h none safe = absurd (fault_or_none (made_sheet rules) fault h.0 none)
-trial_done rules (NoItem fault) output err held h none safe = absurd h
-trial_done rules (DocRefused fault) output err held h none safe = absurd h
-trial_done rules (LogRefused fault) output err held h none safe = absurd h
-trial_done rules (NoSplit fault) output err held h none safe = absurd h
-trial_done rules (SecondRefused fault) output err held h none safe = absurd h
-trial_done rules ReadFault output err held h none safe = absurd h
-trial_done rules WriteFault output err held h none safe = absurd (safe (stops_out h.0 output err h.2))
-trial_done rules NoMemory output err held h none safe = inr refl
+trial_done : (rules : ℕ) (status : Status) (output err : Change) (held : Option PairsParts) → TrialDoes rules status output err held → (HasFailed output → ⊥) → (status ≡ Done) ⊎ (status ≡ NoMemory)
+trial_done rules Done output err held h safe = inl refl
+trial_done rules Usage output err held h safe = absurd h
+trial_done rules (SheetRefused fault) output err held h safe = absurd h
+trial_done rules (NoItem fault) output err held h safe = absurd h
+trial_done rules (DocRefused fault) output err held h safe = absurd h
+trial_done rules (LogRefused fault) output err held h safe = absurd h
+trial_done rules (NoSplit fault) output err held h safe = absurd h
+trial_done rules (SecondRefused fault) output err held h safe = absurd h
+trial_done rules ReadFault output err held h safe = absurd h
+trial_done rules WriteFault output err held h safe = absurd (safe (stops_out h.0 output err h.2))
+trial_done rules NoMemory output err held h safe = inr refl
 
-other_done : (form : Form) (status : Status) (input output err : Change) (held : Option PairsParts) → Outcome form status input output err held → needs_input (Some form) ≡ false → ((rules : ℕ) → form ≡ Trial rules → HasNoFault (made_sheet rules)) → (HasFailed output → ⊥) → (status ≡ Done) ⊎ (status ≡ NoMemory)
-other_done (Min budget asked) status input output err held h unneeded none safe = absurd (false≢true (sym unneeded))
-other_done (Cmp left right budget log) status input output err held h unneeded none safe = cmp_done left right budget log status output err held h safe
-other_done Check status input output err held h unneeded none safe = absurd (false≢true (sym unneeded))
-other_done (Dead budget) status input output err held h unneeded none safe = absurd (false≢true (sym unneeded))
-other_done Style status input output err held h unneeded none safe = absurd (false≢true (sym unneeded))
-other_done (Why from to budget) status input output err held h unneeded none safe = absurd (false≢true (sym unneeded))
-other_done (Same split budget) status input output err held h unneeded none safe = absurd (false≢true (sym unneeded))
-other_done (Trial rules) status input output err held h unneeded none safe = trial_done rules status output err held h (none rules refl) safe
-other_done (Help about) status input output err held h unneeded none safe = writes_done _ status output err h.0 safe
-other_done Version status input output err held h unneeded none safe = writes_done _ status output err h.0 safe
+other_done : (form : Form) (status : Status) (input output err : Change) (held : Option PairsParts) → Outcome form status input output err held → needs_input (Some form) ≡ false → (HasFailed output → ⊥) → (status ≡ Done) ⊎ (status ≡ NoMemory)
+other_done (Min budget asked) status input output err held h unneeded safe = absurd (false≢true (sym unneeded))
+other_done (Cmp left right budget log) status input output err held h unneeded safe = cmp_done left right budget log status output err held h safe
+other_done Check status input output err held h unneeded safe = absurd (false≢true (sym unneeded))
+other_done (Dead budget) status input output err held h unneeded safe = absurd (false≢true (sym unneeded))
+other_done Style status input output err held h unneeded safe = absurd (false≢true (sym unneeded))
+other_done (Why from to budget) status input output err held h unneeded safe = absurd (false≢true (sym unneeded))
+other_done (Same split budget) status input output err held h unneeded safe = absurd (false≢true (sym unneeded))
+other_done (Trial rules) status input output err held h unneeded safe = trial_done rules status output err held h safe
+other_done (Help about) status input output err held h unneeded safe = writes_done _ status output err h.0 safe
+other_done Version status input output err held h unneeded safe = writes_done _ status output err h.0 safe
 
 pub others_done : (words : List (List ℕ)) (status : Status) (input output err : Change) (held : Option PairsParts) (form : Form) → Ran words status input output err held
-    → form_of words ≡ Some form → needs_input (Some form) ≡ false → ((rules : ℕ) → form ≡ Trial rules → HasNoFault (made_sheet rules)) → (HasFailed output → ⊥) → (status ≡ Done) ⊎ (status ≡ NoMemory)
-others_done words status input output err held form ran is unneeded none safe = other_done form status input output err held (did words (Some form) status input output err held ran is) unneeded none safe
+    → form_of words ≡ Some form → needs_input (Some form) ≡ false → (HasFailed output → ⊥) → (status ≡ Done) ⊎ (status ≡ NoMemory)
+others_done words status input output err held form ran is unneeded safe = other_done form status input output err held (did words (Some form) status input output err held ran is) unneeded safe
 
 -- ---- What is told
 
@@ -288,7 +287,7 @@ cmp_told left right budget log NoMemory output err held h undone unfailed = h.1
 trial_told : (rules : ℕ) (status : Status) (output err : Change) (held : Option PairsParts) → TrialDoes rules status output err held → (status ≡ Done → ⊥) → (status ≡ WriteFault → ⊥) → Tells status err
 trial_told rules Done output err held h undone unfailed = absurd (undone refl)
 trial_told rules Usage output err held h undone unfailed = absurd h
-trial_told rules (SheetRefused fault) output err held h undone unfailed = h.2
+trial_told rules (SheetRefused fault) output err held h undone unfailed = absurd h
 trial_told rules (NoItem fault) output err held h undone unfailed = absurd h
 trial_told rules (DocRefused fault) output err held h undone unfailed = absurd h
 trial_told rules (LogRefused fault) output err held h undone unfailed = absurd h

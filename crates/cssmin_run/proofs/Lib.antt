@@ -3,6 +3,7 @@ mod Faults
 mod Forms
 mod Outcomes
 mod Reading
+mod Remaining
 mod Staying
 mod Told
 mod Wrote

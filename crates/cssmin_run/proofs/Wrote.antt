@@ -1,14 +1,9 @@
 -- What a command did that writes a text which it made.
-use Rattle.std.proofs.Common.{Bool, ◌≡◌, ◌⊎◌, inl, inr, ℕ, List, [], Option, None, sym, subst}
-use Rattle.css_model.specs.declared.fault.SheetFault.{SheetFault}
+use Rattle.std.proofs.Common.{Bool, ℕ, List, [], Option}
 use Rattle.overlap.specs.PairsParts.{PairsParts}
-use Rattle.trial_gen.specs.Made.{made_sheet}
 use Rattle.cssmin_run.specs.Change.{Change}
 use Rattle.cssmin_run.specs.Commands.Cmp.{CmpDoes, IsAnswer}
 use Rattle.cssmin_run.specs.Commands.Trial.{TrialDoes, Tries}
-use Rattle.cssmin_run.specs.SheetFaults.{HasFault}
-use Rattle.cssmin_run.specs.Status.{IsRefusal}
-use Rattle.cssmin_run.specs.Telling.{Tells}
 use Rattle.cssmin_run.specs.Writing.{Writes, WritesSome}
 use Rattle.cssmin_run.specs.declared.status.Status.{Status}
 use Rattle.cssmin_run.specs.declared.status.Status.TheVariants.{Done, Usage, SheetRefused, NoItem, DocRefused, LogRefused, NoSplit, SecondRefused, ReadFault, WriteFault, NoMemory}
@@ -52,11 +47,3 @@ wrote_trial rules held text (SecondRefused fault) output err is wrote = absurd w
 wrote_trial rules held text ReadFault output err is wrote = absurd wrote
 wrote_trial rules held text WriteFault output err is wrote = (text, is, wrote)
 wrote_trial rules held text NoMemory output err is wrote = absurd wrote
-
--- a made sheet was refused
-pub refused_trial : (rules : ℕ) (fault : SheetFault) (status : Status) (output err : Change) (held : Option PairsParts) → HasFault (made_sheet rules) fault → held ≡ None
-    → (status ≡ SheetRefused fault) ⊎ (IsRefusal (SheetRefused fault) × (status ≡ NoMemory)) → Tells status err → TrialDoes rules status output err held
-refused_trial rules fault status output err held has none (inl same) told =
-    subst (λ (s : Status). TrialDoes rules s output err held) (sym same) (has, none, subst (λ (s : Status). Tells s err) same told)
-refused_trial rules fault status output err held has none (inr (refused, short)) told =
-    subst (λ (s : Status). TrialDoes rules s output err held) (sym short) (none, subst (λ (s : Status). Tells s err) short told)

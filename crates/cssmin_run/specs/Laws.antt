@@ -6,23 +6,23 @@ use Rattle.css_model.specs.Sheets.Limits.{max_bytes}
 use Rattle.cnf.specs.declared.lit.Lit.{Lit}
 use Rattle.css_model.specs.Documents.SelectorParts.{SelectorParts}
 use Rattle.overlap.specs.declared.answer.Answer.TheVariants.{Spent}
-use Rattle.overlap.specs.Remembered.{IsAnswered}
+use Rattle.overlap.specs.Remembered.{IsAnswered, IsTrueList}
 use Rattle.command_words.specs.Forms.{Form, Min, Style, Dead, Cmp, Check, Why, Same, Trial, form_of}
 use Rattle.overlap.specs.PairsParts.{PairsParts}
 use Rattle.cssmin_run.specs.Change.{Change, HasFailed}
 use Rattle.cssmin_run.specs.Commands.Check.{CheckDoes, CheckRefuses}
-use Rattle.cssmin_run.specs.Commands.Cmp.{CmpDoes}
+use Rattle.cssmin_run.specs.Commands.Cmp.{CmpDoes, unasked}
 use Rattle.cssmin_run.specs.Commands.Dead.{DeadDoes}
 use Rattle.cssmin_run.specs.Commands.Min.{Merges, MinDoes, MinRefuses}
 use Rattle.cssmin_run.specs.Commands.Same.{SameDoes, SameRefuses}
 use Rattle.cssmin_run.specs.Commands.Style.{StyleDoes, StyleRefuses}
 use Rattle.cssmin_run.specs.Commands.Trial.{TrialDoes}
 use Rattle.cssmin_run.specs.Commands.Why.{WhyDoes, WhyRefuses}
-use Rattle.cssmin_run.specs.Run.{Ran, needs_input}
+use Rattle.cssmin_run.specs.Remaining.{LeavesOnlyBlocked}
+use Rattle.cssmin_run.specs.Run.{Ran, named_budget, needs_input}
 use Rattle.cssmin_run.specs.SheetFaults.{HasFault, HasNoFault}
 use Rattle.cssmin_run.specs.Tasks.{Began, Did, IsRefused}
 use Rattle.cssmin_run.specs.Telling.{Tells}
-use Rattle.trial_gen.specs.Made.{made_sheet}
 use Rattle.cssmin_run.specs.declared.status.Status.{Status}
 use Rattle.cssmin_run.specs.declared.status.Status.TheVariants.{Done, Usage, SheetRefused, ReadFault, WriteFault, NoMemory}
 
@@ -72,17 +72,33 @@ abbrev pub StatusIsTold : Type 0
 StatusIsTold =
     (words : List (List ℕ)) (status : Status) (input output err : Change) (held : Option PairsParts) → Ran words status input output err held → (status ≡ Done → ⊥) → (status ≡ WriteFault → ⊥) → Tells status err
 
+-- ---- The answers that are held, after any command
+
+-- the answers that are held are true, for the budget that the words name (own)
+abbrev pub HeldIsTrue : Type 0
+HeldIsTrue =
+    (words : List (List ℕ)) (status : Status) (input output err : Change) (held : Option PairsParts) (pairs : PairsParts) → Ran words status input output err held
+    → held ≡ Some pairs → (pairs.budget ≡ (unasked (named_budget (form_of words))).budget) × ∥ IsTrueList pairs ∥₁
+
+-- if the words name no budget, no answer that is held is `Spent` (own)
+abbrev pub NoBudgetIsSpent : Type 0
+NoBudgetIsSpent =
+    (words : List (List ℕ)) (status : Status) (input output err : Change) (held : Option PairsParts) (pairs : PairsParts) (x y : SelectorParts) (ledger : List (List Lit)) → Ran words status input output err held
+    → named_budget (form_of words) ≡ None → held ≡ Some pairs → IsAnswered pairs.answers x y (Spent ledger) → ⊥
+
 -- ---- `min`, by its status
 
 -- the text that was written is that of the sheet that was read, all that was left, merged by the answers that are held
 abbrev pub DoneIsMerged : Type 0
 DoneIsMerged = (words : List (List ℕ)) (budget : Option ℕ) (asked : Bool) (status : Status) (input output err : Change) (held : Option PairsParts) → Ran words status input output err held → form_of words ≡ Some (Min budget asked) → status ≡ Done → Did (Merges budget asked) input output err held
 
--- where the words name no budget, no pair is answered so that the budget was spent
-abbrev pub NoBudgetIsSpent : Type 0
-NoBudgetIsSpent =
-    (words : List (List ℕ)) (asked : Bool) (status : Status) (input output err : Change) (held : Option PairsParts) (pairs : PairsParts) (x y : SelectorParts) (ledger : List (List Lit)) → Ran words status input output err held
-    → form_of words ≡ Some (Min None asked) → held ≡ Some pairs → IsAnswered pairs.answers x y (Spent ledger) → ⊥
+-- After `Done`, each step that would still save bytes in the text that was written is blocked (own). It reverses a pair and a kept
+-- item, or two pairs: a legal document shows an element that the selectors of both match, or they are outside of what is decided, or
+-- the budget was spent on them.
+abbrev pub RemainingIsBlocked : Type 0
+RemainingIsBlocked =
+    (words : List (List ℕ)) (budget : Option ℕ) (asked : Bool) (status : Status) (input output err : Change) (held : Option PairsParts) → Ran words status input output err held
+    → form_of words ≡ Some (Min budget asked) → status ≡ Done → Did (λ read text report held. LeavesOnlyBlocked budget text held) input output err held
 
 -- a sheet is refused only for a fault that it has
 abbrev pub RefusedHasTheFault : Type 0
@@ -146,11 +162,11 @@ SheetsAreCompared =
     (words : List (List ℕ)) (split : ℕ) (budget : Option ℕ) (status : Status) (input output err : Change) (held : Option PairsParts) → Ran words status input output err held
     → form_of words ≡ Some (Same split budget) → IsSomeAnd input.old (λ read. (other : Status) → SameRefuses split other read → ⊥) → (HasFailed input → ⊥) → (HasFailed output → ⊥) → (status ≡ Done) ⊎ (status ≡ NoMemory)
 
--- what needs no input is done, where a made sheet has no fault, no write failed and the memory sufficed
+-- what needs no input is done, where no write failed and the memory sufficed
 abbrev pub OthersAreDone : Type 0
 OthersAreDone =
     (words : List (List ℕ)) (status : Status) (input output err : Change) (held : Option PairsParts) (form : Form) → Ran words status input output err held
-    → form_of words ≡ Some form → needs_input (Some form) ≡ false → ((rules : ℕ) → form ≡ Trial rules → HasNoFault (made_sheet rules)) → (HasFailed output → ⊥) → (status ≡ Done) ⊎ (status ≡ NoMemory)
+    → form_of words ≡ Some form → needs_input (Some form) ≡ false → (HasFailed output → ⊥) → (status ≡ Done) ⊎ (status ≡ NoMemory)
 
 -- over a source whose count of faults stays, below its last value, no read fault is answered
 abbrev pub ConstantCountHasNoReadFault : Type 0

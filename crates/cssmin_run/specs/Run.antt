@@ -39,6 +39,20 @@ abbrev pub Answers : Option Form → Status → (input output err : Change) → 
 Answers None status input output err held = (status ≡ Usage) × (held ≡ None) × Tells Usage err
 Answers (Some form) status input output err held = Outcome form status input output err held
 
+-- the budget that the words name, if they name one (own)
+abbrev pub named_budget : Option Form → Option ℕ
+named_budget None = None
+named_budget (Some (Min budget report)) = budget
+named_budget (Some (Dead budget)) = budget
+named_budget (Some Style) = None
+named_budget (Some (Cmp left right budget log)) = budget
+named_budget (Some Check) = None
+named_budget (Some (Why from to budget)) = budget
+named_budget (Some (Same split budget)) = budget
+named_budget (Some (Trial rules)) = None
+named_budget (Some (Help about)) = None
+named_budget (Some Version) = None
+
 -- whether the input is needed
 abbrev pub needs_input : Option Form → Bool
 needs_input None = false

@@ -81,7 +81,7 @@ fn obey<S: Source, O: Sink, E: Sink>(
         Some(Command::Same { split, budget }) => {
             perform(alloc, words, &Same { split, budget }, input, out, err, held)
         }
-        Some(Command::Trial { rules }) => trial(alloc, words, rules.number(), out, err, held),
+        Some(Command::Trial { rules }) => trial(alloc, rules.number(), out, err, held),
         Some(Command::Help(about)) => help(alloc, about, out, err),
         Some(Command::Version) => version(alloc, out, err),
         None => tell(alloc, words, Status::Usage, err),

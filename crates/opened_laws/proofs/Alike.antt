@@ -1,3 +1,4 @@
 pub mod Bodies
 pub mod Items
 pub mod Sheets
+pub mod Texts

@@ -1,3 +1,4 @@
 pub mod Again
 pub mod Block
 pub mod Media
+pub mod Texts

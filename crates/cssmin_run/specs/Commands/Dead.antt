@@ -4,15 +4,17 @@ use Rattle.css_model.specs.Sheets.Limits.{max_bytes}
 use Rattle.css_model.specs.Sheets.Sheet.{sheet_of}
 use Rattle.dead_text.specs.DeadTexts.{AsksOf, TellsOf}
 use Rattle.overlap.specs.PairsParts.{PairsParts}
+use Rattle.overlap.specs.Remembered.{IsTrueList}
 use Rattle.cssmin_run.specs.Change.{Change}
 use Rattle.cssmin_run.specs.Commands.Cmp.{unasked}
 use Rattle.cssmin_run.specs.Commands.Min.{MinRefuses}
 use Rattle.cssmin_run.specs.Tasks.{Does, Silent}
 use Rattle.cssmin_run.specs.declared.status.Status.{Status}
 
--- What the run asked for is held, only for the selectors of the sheet, and the text tells each one's life by it.
+-- The answers that the run asked for are held, only for the selectors of the sheet, and they are true. The text tells each one's life
+-- by them.
 abbrev pub TellsLives : (budget : Option ℕ) → (read text : List ℕ) (held : Option PairsParts) → Type 0
-TellsLives budget read text held = (pairs : PairsParts) × (held ≡ Some pairs) × AsksOf (sheet_of read) (unasked budget) pairs × TellsOf pairs read text
+TellsLives budget read text held = (pairs : PairsParts) × (held ≡ Some pairs) × AsksOf (sheet_of read) (unasked budget) pairs × ∥ IsTrueList pairs ∥₁ × TellsOf pairs read text
 
 -- A sheet is refused as `min` refuses it.
 abbrev pub DeadDoes : (budget : Option ℕ) → Status → (input output err : Change) → (held : Option PairsParts) → Type 0

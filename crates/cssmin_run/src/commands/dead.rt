@@ -42,11 +42,14 @@ impl Task for Dead {
     fn answer(&self, alloc: Global, bytes: &[u8]) -> Result<Answer, Status> {
         let mut pairs = unasked(alloc, self.budget);
         match dead_lines(alloc, &mut pairs, bytes) {
-            Ok(text) => Ok(Answer {
-                text,
-                report: Vec::new(alloc),
-                held: Some(pairs),
-            }),
+            Ok(text) => {
+                pairs.are_true();
+                Ok(Answer {
+                    text,
+                    report: Vec::new(alloc),
+                    held: Some(pairs),
+                })
+            }
             Err(SheetError::Fault(fault)) => Err(Status::SheetRefused(fault)),
             Err(SheetError::NoMemory) => Err(Status::NoMemory),
         }

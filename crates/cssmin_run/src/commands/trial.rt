@@ -9,9 +9,10 @@ ghost use Rattle.trial_gen.specs.Made.{made_sheet};
 
 use crate::commands::min::merged;
 use crate::status::Status;
-use crate::telling::{tell, tell_no_memory};
+use crate::telling::tell_no_memory;
 use crate::writing::write_text;
 use css_io::Sink;
+use made_laws::made_sheets_have_no_fault;
 use merge_report::merge_summary;
 use overlap::Pairs;
 use sheet_read::SheetError;
@@ -32,11 +33,10 @@ fn tried(alloc: Global, rules: u32) -> Result<(Pairs, Vec<u8>), SheetError>
 }
 
 /// Merges a made sheet of so many rules, and writes to `out` how many items and bytes it had and has, and how many
-/// steps were taken. Nothing is written before the whole text is made. `held` is afterwards the answers that were asked
-/// for, and none where nothing was written.
+/// steps were taken. Nothing is written before the whole text is made. A made sheet has no fault, so none is refused.
+/// `held` is afterwards the answers that were asked for, and none if nothing was written.
 pub(crate) fn trial<O: Sink, E: Sink>(
     alloc: Global,
-    words: &Vec<String>,
     rules: u32,
     out: &mut O,
     err: &mut E,
@@ -57,14 +57,14 @@ pub(crate) fn trial<O: Sink, E: Sink>(
             *held = Some(pairs);
             write_text(text.as_slice(), &[], out, err)
         }
-        Err(SheetError::Fault(fault)) => {
-            *held = None;
-            tell(alloc, words, Status::SheetRefused(fault), err)
-        }
         Err(SheetError::NoMemory) => {
             *held = None;
             tell_no_memory(err);
             Status::NoMemory
+        }
+        Err(SheetError::Fault(_)) => {
+            made_sheets_have_no_fault();
+            unreachable!()
         }
     }
 }

@@ -22,11 +22,11 @@ use Rattle.media_groups.specs.Opened.{body_of, is_comment_sign, is_top_item, pla
 use Rattle.print_laws.proofs.ForCallers.{Ground, IsItemOf, open_behind, shown_parts, tokens-shown}
 use Rattle.sheet_laws.proofs.ForCallers.{AreClosable, IsInner, IsLike, Shown, inner, item_like, last_of_item, shown, sign_like}
 use Rattle.opened_laws.proofs.Alike.Items.{ArePrinted}
-use Rattle.opened_laws.proofs.Alike.Sheets.{IsReadAlike, IsSpotless, sheet_alike, signs_printed, tops_alike}
+use Rattle.opened_laws.proofs.Alike.Sheets.{IsPrintRead, IsReadAlike, IsSpotless, sheet_alike, sheet_back, signs_printed, tops_alike}
 use Rattle.opened_laws.proofs.Pieces.Alone.{IsAlone, all_raised, alone, lie_before, printed_raised, printed_shown, raised_shown}
 use Rattle.opened_laws.proofs.Pieces.Blocks.{HasBlock, has_block}
 use Rattle.opened_laws.proofs.Pieces.Cuts.{behind_front, cut_last}
-use Rattle.opened_laws.proofs.Pieces.Marks.{mark_behind, mark_stays}
+use Rattle.opened_laws.proofs.Pieces.Marks.{mark_back, mark_behind, mark_stays}
 
 -- ---- the parts of two items whose tokens are alike
 
@@ -119,79 +119,148 @@ inside_alone : (text : List ℕ) (place stop : ℕ) (ys : List Lexeme) (i : IsIn
 inside_alone text place stop ys i closed unmarked =
     alone (text_at text (record { start = place; «end» = stop })) i.parts i.stands i.lexed (subst IsUtf8 (sym i.stands) i.utf8) unmarked (closed_inside text place stop (close_curly ∷ []) ys i closed)
 
+-- what stands inside a block
+abbrev body_in : (text : List ℕ) (xs : List Lexeme) → HasBlock text xs → List ℕ
+body_in text xs b = text_at text (record { start = b.open_.span.«end»; «end» = b.close.span.start })
+
+alone_in : (text : List ℕ) (xs : List Lexeme) (b : HasBlock text xs) → starts_with nat_eq (body_in text xs b) byte_order_mark ≡ false → IsAlone (body_in text xs b) b.between.inside.parts
+alone_in text xs b unmarked = inside_alone text b.open_.span.«end» b.close.span.start b.inner b.between.inside b.closed unmarked
+
+spotless_in : (text : List ℕ) (xs : List Lexeme) (b : HasBlock text xs) → length text ≤ MAX_BYTES → IsAlone (body_in text xs b) b.between.inside.parts → IsSpotless (body_in text xs b)
+spotless_in text xs b short a = record {
+  ground = a.ground;
+  short = (let size = b.between.inside.size in let fits = b.between.inside.short in let n : length (body_in text xs b) ≡ length (text_of b.between.inside.parts) = ap length b.between.inside.stands in omega (arith, size, fits, short, n));
+  utf8 = a.utf8;
+  clean = a.clean;
+  no_unclosed = a.no_unclosed;
+}
+
+-- what stands inside two such blocks: by its parts, and by its tokens
+parts_alike : (new old : List ℕ) (ys xs : List Lexeme) (b' : HasBlock new ys) (b : HasBlock old xs) → AreAlikeBlocks new old ys xs b' b →
+    shown_parts [] b'.between.inside.parts ≡ map printed_shown (shown_parts [] b.between.inside.parts)
+parts_alike new old ys xs b' b like =
+    inside_shown new _ _ b'.inner b'.between.inside ∙ ap all_raised (inner_shown new old b'.inner b.inner like.inside) ∙ printed_raised (map (shown old) b.inner)
+    ∙ ap (map printed_shown) (sym (inside_shown old _ _ b.inner b.between.inside))
+
+tokens_alike : (new old : List ℕ) (ys xs : List Lexeme) (b' : HasBlock new ys) (b : HasBlock old xs) → AreAlikeBlocks new old ys xs b' b →
+    IsAlone (body_in new ys b') b'.between.inside.parts → IsAlone (body_in old xs b) b.between.inside.parts →
+    ArePrinted (body_in new ys b') (body_in old xs b) (lexemes_of (body_in new ys b')) (lexemes_of (body_in old xs b))
+tokens_alike new old ys xs b' b like a' a =
+    let body' = body_in new ys b' in
+    let body = body_in old xs b in
+    let i' = b'.between.inside in
+    let i = b.between.inside in
+    printed_map body' body (lexemes_of body') (lexemes_of body) a.ground.good.closable
+    (ap (map (shown body')) a'.tokens_are ∙ tokens-shown body' [] i'.parts false [] i'.stands ∙ parts_alike new old ys xs b' b like
+    ∙ ap (map printed_shown) (sym (tokens-shown body [] i.parts false [] i.stands) ∙ ap (map (shown body)) (sym a.tokens_are)))
+
 -- What stands inside a block that is printed as it stands is a sheet of its own only where it was one before.
 inside_alike : (new old : List ℕ) (ys xs : List Lexeme) (b' : HasBlock new ys) (b : HasBlock old xs) → AreAlikeBlocks new old ys xs b' b → length old ≤ MAX_BYTES → (its' : List Item) →
     sheet_of_body (text_at new (body_of ys)) ≡ Some its' → (its : List Item) × (sheet_of_body (text_at old (body_of xs)) ≡ Some its)
 inside_alike new old ys xs b' b like short its' e = (
   read.read,
-  ap (λ p. sheet_of_body (text_at old p)) b.body ∙ body_is_sheet body read.read (record {
+  ap (λ p. sheet_of_body (text_at old p)) b.body ∙ body_is_sheet (body_in old xs b) read.read (record {
     unmarked = unmarked;
-    unsigned = sym (signs_printed body' body (lexemes_of body') (lexemes_of body) printed) ∙ facts.unsigned;
+    unsigned = sym (signs_printed (body_in new ys b') (body_in old xs b) (lexemes_of (body_in new ys b')) (lexemes_of (body_in old xs b)) printed) ∙ facts.unsigned;
     reads = read.reads;
-    plain = sym (tops_alike body' body its' read.read read.alike) ∙ facts.plain;
+    plain = sym (tops_alike (body_in new ys b') (body_in old xs b) its' read.read read.alike) ∙ facts.plain;
   }),
 )
   where
-    i' : IsInside new b'.open_.span.«end» b'.close.span.start (close_curly ∷ []) b'.inner
-    i' = b'.between.inside
+    facts : IsSheetOfBody (body_in new ys b') its'
+    facts = body_facts (body_in new ys b') its' (ap (λ p. sheet_of_body (text_at new p)) (sym b'.body) ∙ e)
 
-    i : IsInside old b.open_.span.«end» b.close.span.start (close_curly ∷ []) b.inner
-    i = b.between.inside
-
-    body' : List ℕ
-    body' = text_at new (record { start = b'.open_.span.«end»; «end» = b'.close.span.start })
-
-    body : List ℕ
-    body = text_at old (record { start = b.open_.span.«end»; «end» = b.close.span.start })
-
-    facts : IsSheetOfBody body' its'
-    facts = body_facts body' its' (ap (λ p. sheet_of_body (text_at new p)) (sym b'.body) ∙ e)
-
-    same : shown_parts [] i'.parts ≡ map printed_shown (shown_parts [] i.parts)
-    same =
-        inside_shown new _ _ b'.inner i' ∙ ap all_raised (inner_shown new old b'.inner b.inner like.inside) ∙ printed_raised (map (shown old) b.inner)
-        ∙ ap (map printed_shown) (sym (inside_shown old _ _ b.inner i))
-
-    unmarked : starts_with nat_eq body byte_order_mark ≡ false
-    unmarked = which (starts_with nat_eq body byte_order_mark) refl
+    unmarked : starts_with nat_eq (body_in old xs b) byte_order_mark ≡ false
+    unmarked = which (starts_with nat_eq (body_in old xs b) byte_order_mark) refl
       where
-        which : (m : Bool) → starts_with nat_eq body byte_order_mark ≡ m → starts_with nat_eq body byte_order_mark ≡ false
+        which : (m : Bool) → starts_with nat_eq (body_in old xs b) byte_order_mark ≡ m → starts_with nat_eq (body_in old xs b) byte_order_mark ≡ false
         which false is = is
         which true is =
+            let i' = b'.between.inside in
+            let i = b.between.inside in
             let mark : starts_with nat_eq (text_of i.parts) byte_order_mark ≡ true = ap (λ t. starts_with nat_eq t byte_order_mark) (sym i.stands) ∙ is in
             let none : b'.open_.gap ≡ gap.Nothing = ap (λ (s : Shown). s.gap) like.open_ ∙ b.between.gap ∙ mark_behind i.parts i.next i.rest i.lexed i.utf8 mark in
-            let stays = mark_stays i'.parts i.parts i'.next i'.rest same i.lexed i.utf8 i'.sign (sym b'.between.gap ∙ none) mark in
+            let stays = mark_stays i'.parts i.parts i'.next i'.rest (parts_alike new old ys xs b' b like) i.lexed i.utf8 i'.sign (sym b'.between.gap ∙ none) mark in
             absurd (true≢false (sym stays ∙ ap (λ t. starts_with nat_eq t byte_order_mark) (sym i'.stands) ∙ facts.unmarked))
 
-    a' : IsAlone body' i'.parts
-    a' = inside_alone new _ _ b'.inner i' b'.closed facts.unmarked
+    a' : IsAlone (body_in new ys b') b'.between.inside.parts
+    a' = alone_in new ys b' facts.unmarked
 
-    a : IsAlone body i.parts
-    a = inside_alone old _ _ b.inner i b.closed unmarked
+    a : IsAlone (body_in old xs b) b.between.inside.parts
+    a = alone_in old xs b unmarked
 
-    printed : ArePrinted body' body (lexemes_of body') (lexemes_of body)
-    printed = printed_map body' body (lexemes_of body') (lexemes_of body) a.ground.good.closable
-        (ap (map (shown body')) a'.tokens_are ∙ tokens-shown body' [] i'.parts false [] i'.stands ∙ same
-        ∙ ap (map printed_shown) (sym (tokens-shown body [] i.parts false [] i.stands) ∙ ap (map (shown body)) (sym a.tokens_are)))
+    printed : ArePrinted (body_in new ys b') (body_in old xs b) (lexemes_of (body_in new ys b')) (lexemes_of (body_in old xs b))
+    printed = tokens_alike new old ys xs b' b like a' a
 
-    spotless : IsSpotless body
-    spotless = record {
-      ground = a.ground;
-      short = (let size = i.size in let fits = i.short in let n : length body ≡ length (text_of i.parts) = ap length i.stands in omega (arith, size, fits, short, n));
-      utf8 = a.utf8;
-      clean = a.clean;
-      no_unclosed = a.no_unclosed;
-    }
+    read : IsReadAlike (body_in new ys b') (body_in old xs b) its'
+    read = sheet_alike (body_in new ys b') (body_in old xs b) a'.ground (spotless_in old xs b short a) printed its' facts.reads
 
-    read : IsReadAlike body' body its'
-    read = sheet_alike body' body a'.ground spotless printed its' facts.reads
+-- And where it was one it is one.
+inside_back : (new old : List ℕ) (ys xs : List Lexeme) (b' : HasBlock new ys) (b : HasBlock old xs) → AreAlikeBlocks new old ys xs b' b → length new ≤ MAX_BYTES → (its : List Item) →
+    sheet_of_body (text_at old (body_of xs)) ≡ Some its → (its' : List Item) × (sheet_of_body (text_at new (body_of ys)) ≡ Some its')
+inside_back new old ys xs b' b like short its e = (
+  read.read,
+  ap (λ p. sheet_of_body (text_at new p)) b'.body ∙ body_is_sheet (body_in new ys b') read.read (record {
+    unmarked = unmarked;
+    unsigned = signs_printed (body_in new ys b') (body_in old xs b) (lexemes_of (body_in new ys b')) (lexemes_of (body_in old xs b)) printed ∙ facts.unsigned;
+    reads = read.reads;
+    plain = tops_alike (body_in new ys b') (body_in old xs b) read.read its read.alike ∙ facts.plain;
+  }),
+)
+  where
+    facts : IsSheetOfBody (body_in old xs b) its
+    facts = body_facts (body_in old xs b) its (ap (λ p. sheet_of_body (text_at old p)) (sym b.body) ∙ e)
+
+    unmarked : starts_with nat_eq (body_in new ys b') byte_order_mark ≡ false
+    unmarked = which (starts_with nat_eq (body_in new ys b') byte_order_mark) refl
+      where
+        which : (m : Bool) → starts_with nat_eq (body_in new ys b') byte_order_mark ≡ m → starts_with nat_eq (body_in new ys b') byte_order_mark ≡ false
+        which false is = is
+        which true is =
+            let i' = b'.between.inside in
+            let i = b.between.inside in
+            let mark : starts_with nat_eq (text_of i'.parts) byte_order_mark ≡ true = ap (λ t. starts_with nat_eq t byte_order_mark) (sym i'.stands) ∙ is in
+            let none : b.open_.gap ≡ gap.Nothing = sym (ap (λ (s : Shown). s.gap) like.open_) ∙ b'.between.gap ∙ mark_behind i'.parts i'.next i'.rest i'.lexed i'.utf8 mark in
+            let back = mark_back i'.parts i.parts i.next i.rest (parts_alike new old ys xs b' b like) i'.lexed i'.utf8 i.sign (sym b.between.gap ∙ none) mark in
+            absurd (true≢false (sym back ∙ ap (λ t. starts_with nat_eq t byte_order_mark) (sym i.stands) ∙ facts.unmarked))
+
+    a' : IsAlone (body_in new ys b') b'.between.inside.parts
+    a' = alone_in new ys b' unmarked
+
+    a : IsAlone (body_in old xs b) b.between.inside.parts
+    a = alone_in old xs b facts.unmarked
+
+    printed : ArePrinted (body_in new ys b') (body_in old xs b) (lexemes_of (body_in new ys b')) (lexemes_of (body_in old xs b))
+    printed = tokens_alike new old ys xs b' b like a' a
+
+    read : IsPrintRead (body_in new ys b') (body_in old xs b) its
+    read = sheet_back (body_in new ys b') (body_in old xs b) (spotless_in new ys b' short a') a.ground printed its facts.reads
+
+-- two items of which the one is the print of the other, with their blocks
+record AreAlikeItemBlocks (new old : List ℕ) (ys xs : List Lexeme) : Type 0 where
+  there : HasBlock new ys
+  here : HasBlock old xs
+  alike : AreAlikeBlocks new old ys xs there here
+
+item_blocks : (new old : List ℕ) → Ground new → Ground old → (ys xs : List Lexeme) → IsItemOf (lexemes_of new) ys → IsItemOf (lexemes_of old) xs →
+    AllLast (IsInner new old) (IsLastOfItem new old) ys xs → AreClosable old xs → list_any opens_block xs ≡ true → AreAlikeItemBlocks new old ys xs
+item_blocks new old g' g ys xs item' item z closable some =
+    let like = item_like new old ys xs z closable in
+    let some' : list_any opens_block ys ≡ true = zip_any (IsLike new old) opens_block opens_block (sign_like new old open_curly 0) ys xs like ∙ some in
+    let b' = has_block new g' ys item' some' in
+    let b = has_block old g xs item some in
+    record { there = b'; here = b; alike = blocks_alike new old ys xs b' b z closable }
 
 pub bodies_alike : (new old : List ℕ) → Ground new → Ground old → length old ≤ MAX_BYTES → (ys xs : List Lexeme) → IsItemOf (lexemes_of new) ys → IsItemOf (lexemes_of old) xs →
     AllLast (IsInner new old) (IsLastOfItem new old) ys xs → AreClosable old xs → list_any opens_block xs ≡ true → (its' : List Item) → sheet_of_body (text_at new (body_of ys)) ≡ Some its' →
     (its : List Item) × (sheet_of_body (text_at old (body_of xs)) ≡ Some its)
 bodies_alike new old g' g short ys xs item' item z closable some its' e =
-    let like = item_like new old ys xs z closable in
-    let some' : list_any opens_block ys ≡ true = zip_any (IsLike new old) opens_block opens_block (sign_like new old open_curly 0) ys xs like ∙ some in
-    let b' = has_block new g' ys item' some' in
-    let b = has_block old g xs item some in
-    inside_alike new old ys xs b' b (blocks_alike new old ys xs b' b z closable) short its' e
+    let b = item_blocks new old g' g ys xs item' item z closable some in
+    inside_alike new old ys xs b.there b.here b.alike short its' e
+
+pub bodies_back : (new old : List ℕ) → Ground new → Ground old → length new ≤ MAX_BYTES → (ys xs : List Lexeme) → IsItemOf (lexemes_of new) ys → IsItemOf (lexemes_of old) xs →
+    AllLast (IsInner new old) (IsLastOfItem new old) ys xs → AreClosable old xs → list_any opens_block xs ≡ true → (its : List Item) → sheet_of_body (text_at old (body_of xs)) ≡ Some its →
+    (its' : List Item) × (sheet_of_body (text_at new (body_of ys)) ≡ Some its')
+bodies_back new old g' g short ys xs item' item z closable some its e =
+    let b = item_blocks new old g' g ys xs item' item z closable some in
+    inside_back new old ys xs b.there b.here b.alike short its e

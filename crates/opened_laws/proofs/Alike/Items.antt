@@ -62,6 +62,19 @@ zip_find R p q agree (y ∷ ys) (x ∷ xs) z none = which (p y) (q x) (agree y x
     which true false e none later = absurd (true≢false e)
     which false true e none later = absurd (false≢true e)
 
+-- and back
+pub find_back : {A B : Type 0} (R : A → B → Type 0) (p : A → Bool) (q : B → Bool) → Agree R p q → (ys : List A) (xs : List B) → AllZip R ys xs → find q xs ≡ None → find p ys ≡ None
+find_back R p q agree [] [] z none = refl
+find_back R p q agree [] (x ∷ xs) z none = absurd z
+find_back R p q agree (y ∷ ys) [] z none = absurd z
+find_back R p q agree (y ∷ ys) (x ∷ xs) z none = which (p y) (q x) (agree y x z.0) none (find_back R p q agree ys xs z.1)
+  where
+    which : (b c : Bool) → b ≡ c → (if c then Some x else find q xs) ≡ None → (find q xs ≡ None → find p ys ≡ None) → (if b then Some y else find p ys) ≡ None
+    which true true e none later = absurd (some_not_none x none)
+    which false false e none later = later none
+    which true false e none later = absurd (true≢false e)
+    which false true e none later = absurd (false≢true e)
+
 pub whole_printed : (new old : List ℕ) → Agree (ArePrinted new old) is_whole is_whole
 whole_printed new old ys xs z = whole_like new old ys xs (like_of new old ys xs z)
 

@@ -66,7 +66,7 @@ behind_longer text = which (starts_with nat_eq text byte_order_mark)
     which false = omega arith
 
 -- a source that is read is not too long
-source_short : (source : List ℕ) (old : List Item) → sheet_of source ≡ Ok old → length source ≤ MAX_BYTES
+pub source_short : (source : List ℕ) (old : List Item) → sheet_of source ≡ Ok old → length source ≤ MAX_BYTES
 source_short source old e = which (nat_lt MAX_BYTES (length source)) refl e
   where
     which : (long : Bool) → nat_lt MAX_BYTES (length source) ≡ long → cond long (Err (record { kind = TooLong; at = MAX_BYTES }))

@@ -87,29 +87,43 @@ block_cut text ys head o inside c e = from cut.lower cut.whole cut.is_behind
 
 -- ---- a text with the tokens of a block
 
--- a name of `media` does not begin as a byte order mark does
-unmarked : (bytes rest : List ℕ) → is_named (codes "media") (drop 1 bytes) ≡ true → starts_with nat_eq (bytes ++ rest) byte_order_mark ≡ false
-unmarked [] rest named = absurd (false≢true named)
-unmarked (a ∷ []) rest named = absurd (false≢true named)
-unmarked (a ∷ b ∷ bytes) rest named = which (starts_with nat_eq (a ∷ b ∷ bytes ++ rest) byte_order_mark) refl
+-- a name that does not begin as the second byte of a byte order mark
+pub record IsNoMark (word : List ℕ) : Type 0 where
+  pub some : is_named word [] ≡ false
+  pub other : (bytes : List ℕ) → is_named word (0xBB ∷ bytes) ≡ false
+
+unmarked : (word : List ℕ) → IsNoMark word → (bytes rest : List ℕ) → is_named word (drop 1 bytes) ≡ true → starts_with nat_eq (bytes ++ rest) byte_order_mark ≡ false
+unmarked word w [] rest named = absurd (false≢true (sym w.some ∙ named))
+unmarked word w (a ∷ []) rest named = absurd (false≢true (sym w.some ∙ named))
+unmarked word w (a ∷ b ∷ bytes) rest named = which (starts_with nat_eq (a ∷ b ∷ bytes ++ rest) byte_order_mark) refl
   where
     which : (m : Bool) → starts_with nat_eq (a ∷ b ∷ bytes ++ rest) byte_order_mark ≡ m → starts_with nat_eq (a ∷ b ∷ bytes ++ rest) byte_order_mark ≡ false
     which false none = none
     which true mark =
         let second : 0xBB ≡ b = eqb-true 0xBB b (and_parts (nat_eq 0xBB b) _ (and_parts (nat_eq 0xEF a) _ mark).1).0 in
-        absurd (false≢true (ap (λ (n : ℕ). is_named (codes "media") (n ∷ bytes)) second ∙ named))
+        absurd (false≢true (sym (w.other bytes) ∙ ap (λ (n : ℕ). is_named word (n ∷ bytes)) second ∙ named))
 
-pub media_first : (source : List ℕ) (xs : List Lexeme) (more : List ℕ) → is_at_rule_named (codes "media") source xs ≡ true → starts_with nat_eq (kept (map (solid source) xs) ++ more) byte_order_mark ≡ false
-media_first source [] more media = absurd (false≢true media)
-media_first source (x ∷ []) more media =
+-- an at-rule of this name does not begin as a byte order mark does
+pub rule_first : (word : List ℕ) → IsNoMark word → (source : List ℕ) (xs : List Lexeme) (more : List ℕ) → is_at_rule_named word source xs ≡ true → starts_with nat_eq (kept (map (solid source) xs) ++ more) byte_order_mark ≡ false
+rule_first word w source [] more named = absurd (false≢true named)
+rule_first word w source (x ∷ []) more named =
     let s = solid source x in
     ap (λ (cs : List ℕ). starts_with nat_eq cs byte_order_mark) (append_assoc s.bytes (behind_last s) more)
-    ∙ unmarked s.bytes (behind_last s ++ more) (and_parts (is_at_rule (x ∷ [])) (is_named (codes "media") (drop 1 s.bytes)) media).1
-media_first source (x ∷ y ∷ xs) more media =
+    ∙ unmarked word w s.bytes (behind_last s ++ more) (and_parts (is_at_rule (x ∷ [])) (is_named word (drop 1 s.bytes)) named).1
+rule_first word w source (x ∷ y ∷ xs) more named =
     let s = solid source x in
     let rest = kept (map (solid source) (y ∷ xs)) in
     ap (λ (cs : List ℕ). starts_with nat_eq cs byte_order_mark) (append_assoc (s.bytes ++ between s) rest more ∙ append_assoc s.bytes (between s) (rest ++ more))
-    ∙ unmarked s.bytes (between s ++ (rest ++ more)) (and_parts (is_at_rule (x ∷ y ∷ xs)) (is_named (codes "media") (drop 1 s.bytes)) media).1
+    ∙ unmarked word w s.bytes (between s ++ (rest ++ more)) (and_parts (is_at_rule (x ∷ y ∷ xs)) (is_named word (drop 1 s.bytes)) named).1
+
+pub media_word : IsNoMark (codes "media")
+media_word = record { some = refl; other = λ bytes. refl }
+
+pub import_word : IsNoMark (codes "import")
+import_word = record { some = refl; other = λ bytes. refl }
+
+pub media_first : (source : List ℕ) (xs : List Lexeme) (more : List ℕ) → is_at_rule_named (codes "media") source xs ≡ true → starts_with nat_eq (kept (map (solid source) xs) ++ more) byte_order_mark ≡ false
+media_first source xs more media = rule_first (codes "media") media_word source xs more media
 
 -- a text that is printed for a block
 pub record IsBlockText (text : List ℕ) (head : List Shown) (o : Shown) (inside : List Shown) (c : Shown) : Type 0 where

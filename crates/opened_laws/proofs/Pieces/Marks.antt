@@ -168,6 +168,44 @@ mark_stays ps' ps z more same lexed utf8 sign none mark = which (token_first ps'
         ∙ ap (λ bytes. starts_with nat_eq (bytes ++ text_of first.rest) byte_order_mark) (sym s'.3 ∙ ap (λ (t : Shown). t.bytes) is)
         ∙ marked_print s (text_of first.rest) m
 
+-- a token whose print begins with the mark does so itself
+spaced_mark : (bytes : List ℕ) → starts_with nat_eq (bytes ++ space ∷ []) byte_order_mark ≡ true → IsMarked bytes
+spaced_mark [] mark = absurd (false≢true mark)
+spaced_mark (a ∷ []) mark = absurd (false≢true (and_parts (nat_eq 0xEF a) _ mark).1)
+spaced_mark (a ∷ b ∷ []) mark = absurd (false≢true (and_parts (nat_eq 0xBB b) _ (and_parts (nat_eq 0xEF a) _ mark).1).1)
+spaced_mark (a ∷ b ∷ c ∷ rest) mark = mark_of (a ∷ b ∷ c ∷ rest) mark
+
+print_marked : (s : Shown) → IsMarked (printed_shown s).bytes → IsMarked s.bytes
+print_marked s m = which (is_white_gap s.gap && not (is_lone s.kind)) (is_open s.bytes) m
+  where
+    text_marked : (bytes : List ℕ) → IsMarked bytes → starts_with nat_eq bytes byte_order_mark ≡ true
+    text_marked bytes m = rw m.are refl
+
+    which : (b o : Bool) → IsMarked (if b then (if o then s.bytes ++ space ∷ [] else s.bytes) else s.bytes) → IsMarked s.bytes
+    which true true m = spaced_mark s.bytes (text_marked (s.bytes ++ space ∷ []) m)
+    which true false m = m
+    which false o m = m
+
+-- Where parts begin with the mark, so do those that they are the print of, behind a token that nothing stands behind.
+pub mark_back : (ps' ps : List Part) (z : Part) (more : List Part) → shown_parts [] ps' ≡ map printed_shown (shown_parts [] ps) → IsLexed ps' → IsUtf8 (text_of ps') →
+    z.kind ≡ Some (kind.Sign close_curly) → gap_behind false (ps ++ z ∷ more) ≡ gap.Nothing → starts_with nat_eq (text_of ps') byte_order_mark ≡ true → starts_with nat_eq (text_of ps) byte_order_mark ≡ true
+mark_back ps' ps z more same lexed utf8 sign none mark = which (token_first ps z more sign none)
+  where
+    f : MarkedFirst ps'
+    f = marked_first ps' lexed (lexed_whole ps' lexed utf8) mark
+
+    which : (ps ≡ []) ⊎ BeginWithToken ps → starts_with nat_eq (text_of ps) byte_order_mark ≡ true
+    which (inl empty) =
+        let s' = first_shown ps' f.first in
+        absurd (cons_not_empty s'.0 s'.1 (sym s'.2 ∙ same ∙ ap (λ qs. map printed_shown (shown_parts [] qs)) empty))
+    which (inr first) =
+        let s' = first_shown ps' f.first in
+        let s = first_shown ps first in
+        let is : s'.0 ≡ printed_shown s.0 = cons_head s'.0 (printed_shown s.0) s'.1 (map printed_shown s.1) (sym s'.2 ∙ same ∙ ap (map printed_shown) s.2) in
+        let printed : IsMarked s'.0.bytes = record { rest = f.marked.rest; are = s'.3 ∙ f.marked.are } in
+        let marked : IsMarked s.0.bytes = print_marked s.0 (subst (λ (t : Shown). IsMarked t.bytes) is printed) in
+        ap (λ qs. starts_with nat_eq (text_of qs) byte_order_mark) first.are ∙ marked_is first.part.bytes (text_of first.rest) (subst IsMarked s.3 marked)
+
 -- The gap behind a token before parts that begin with the mark.
 pub mark_behind : (ps : List Part) (z : Part) (more : List Part) → IsLexed ps → IsUtf8 (text_of ps) → starts_with nat_eq (text_of ps) byte_order_mark ≡ true → gap_behind false (ps ++ z ∷ more) ≡ gap.Nothing
 mark_behind ps z more lexed utf8 mark =

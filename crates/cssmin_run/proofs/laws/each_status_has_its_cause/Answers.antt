@@ -1,12 +1,12 @@
 use Rattle.cssmin_run.proofs.Forms.{done_is, front_is, read_fault_is, refused_is, told_is, write_fault_is}
-use Rattle.cssmin_run.proofs.Budgets.{none_spent}
+use Rattle.cssmin_run.proofs.Remaining.{remaining}
 use Rattle.cssmin_run.proofs.laws.each_status_has_its_cause.Goals as goal
 
 pub returns-clause-done : goal.returns-clause-done
 returns-clause-done c = done_is
 
-pub returns-clause-unspent : goal.returns-clause-unspent
-returns-clause-unspent c = none_spent
+pub returns-clause-remaining : goal.returns-clause-remaining
+returns-clause-remaining c = remaining c.remaining_steps_are_blocked.ensures
 
 pub returns-clause-refused : goal.returns-clause-refused
 returns-clause-refused c = refused_is
