@@ -23,10 +23,7 @@ use std::alloc::{AllocError, Global};
 use step_laws::Step;
 
 /// Returns what was found of a step, with the block whose body has it.
-fn told_of(
-    block: Option<u32>,
-    found: &(Step, BlockCause),
-) -> (Option<u32>, Step, BlockCause)
+fn told_of(block: Option<u32>, found: &(Step, BlockCause)) -> (Option<u32>, Step, BlockCause)
     ensures { result ≡ told_in block found.now }
 {
     (block, found.0, found.1)

@@ -1,7 +1,7 @@
 //! What sheets become, worked by hand; and that the plan by turns that lead is the plan by a look at each step.
 
-use cnf::NO_LIMIT;
 use crate::sheets::{DOWN, PAGE, UP, sheet};
+use cnf::NO_LIMIT;
 use merge_plan::plan;
 use merge_steps::Step;
 use merge_text::merge_text;
