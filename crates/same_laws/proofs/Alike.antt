@@ -1,7 +1,7 @@
 -- Kept items of two sheets in which nothing is found: what they are, and what stands in their opened bodies.
-use Rattle.std.proofs.Common.{◌≡◌, ◌==◌, ℕ, suc, Bool, true, false, List, [], ◌∷◌, drop, Option, Some, None, refl, sym, ap, ◌∙◌, subst}
-use Rattle.std.specs.Prelude.{if◌then◌else◌}
-use Rattle.std.proofs.lemmas.Bool.{false≢true}
+use Rattle.std.proofs.Common.{◌≡◌, ◌==◌, ℕ, suc, Bool, true, false, List, [], ◌∷◌, drop, map, Option, Some, None, refl, sym, ap, ap₂, ◌∙◌, subst}
+use Rattle.std.specs.Prelude.{if◌then◌else◌, is_some}
+use Rattle.std.proofs.lemmas.Bool.{false≢true, true≢false}
 use Rattle.css_model.specs.declared.sheet.Decl.{Decl}
 use Rattle.css_model.specs.declared.sheet.Item.{Item}
 use Rattle.css_model.specs.declared.sheet.Item.TheVariants.{Rule, KeptRule, KeptBlock}
@@ -12,7 +12,7 @@ use Rattle.css_model.specs.Sheets.RuleParts.{RuleParts}
 use Rattle.css_model.specs.Text.Source.{text_at}
 use Rattle.media_groups.specs.declared.media.Media.{Media}
 use Rattle.media_groups.specs.Printed.{blocks_at}
-use Rattle.opened_laws.specs.Media.Scenes.{block_at}
+use Rattle.opened_laws.specs.Media.Scenes.{block_at, kept_blocks}
 use Rattle.order_laws.specs.Keeping.{KeepingIsMutual}
 use Rattle.overlap.specs.PairsParts.{PairsParts}
 use Rattle.overlap.specs.Remembered.{IsTrueList}
@@ -20,7 +20,7 @@ use Rattle.same_laws.specs.Same.{SamePartsKeep}
 use Rattle.sheet_same.specs.declared.compared.Compared.{Compared}
 use Rattle.sheet_same.specs.declared.compared.Difference.{Difference}
 use Rattle.sheet_same.specs.Compared.{IsFound, Told, BodiesTell, nothing}
-use Rattle.sheet_same.specs.Kept.{block_of, blocks_behind, same_kept, same_item, unlike}
+use Rattle.sheet_same.specs.Kept.{block_of, blocks_behind, same_kept, same_item}
 use Rattle.same_laws.proofs.KeptAlike.{kept_rule_parts, ArePlacesAlike}
 
 -- ---- Bodies
@@ -83,6 +83,10 @@ block_is : (media : List Media) (piece : Piece) → block_of media (KeptBlock pi
 block_is [] piece = refl
 block_is (m ∷ media) piece = refl
 
+both_at : (media : List Media) (piece : Piece) (media' : List Media) (piece' : Piece) → is_some (block_of media (KeptBlock piece)) ≡ is_some (block_of media' (KeptBlock piece')) →
+    is_some (block_at media piece) ≡ is_some (block_at media' piece')
+both_at media piece media' piece' h = ap (λ (o : Option Media). is_some o) (sym (block_is media piece)) ∙ h ∙ ap (λ (o : Option Media). is_some o) (block_is media' piece')
+
 -- what blocks in one place are, and those behind them
 abbrev BlocksStep : List ℕ → List Media → Piece → List ℕ → List Media → Piece → Type 0
 BlocksStep source media piece other media' piece' =
@@ -90,28 +94,28 @@ BlocksStep source media piece other media' piece' =
     × BodiesKeep source (drop (blocks_at media (KeptBlock piece)) media) other (drop (blocks_at media' (KeptBlock piece')) media')
 
 blocks_step : (source : List ℕ) (media : List Media) (piece : Piece) (other : List ℕ) (media' : List Media) (piece' : Piece) → BodiesKeep source media other media' →
-    unlike None 0 (block_at media piece) (block_at media' piece') ≡ None → BlocksStep source media piece other media' piece'
+    is_some (block_at media piece) ≡ is_some (block_at media' piece') → BlocksStep source media piece other media' piece'
 blocks_step source [] piece other [] piece' keeps like = (tt, tt)
 blocks_step source [] piece other (m' ∷ media') piece' keeps like = which (piece'.start == m'.head.start) like
   where
-    which : (b : Bool) → unlike None 0 None (if b then Some m' else None) ≡ None →
+    which : (b : Bool) → false ≡ is_some {T = Media} (if b then Some m' else None) →
         AreBlocksAlike source None other (if b then Some m' else None) × BodiesKeep source [] other (drop (if b then 1 else 0) (m' ∷ media'))
-    which true h = absurd (let e : Some 0 ≡ None = h in cc)
+    which true h = absurd (false≢true h)
     which false h = (tt, tt)
 blocks_step source (m ∷ media) piece other [] piece' keeps like = which (piece.start == m.head.start) like
   where
-    which : (b : Bool) → unlike None 0 (if b then Some m else None) None ≡ None →
+    which : (b : Bool) → is_some {T = Media} (if b then Some m else None) ≡ false →
         AreBlocksAlike source (if b then Some m else None) other None × BodiesKeep source (drop (if b then 1 else 0) (m ∷ media)) other []
-    which true h = absurd (let e : Some 0 ≡ None = h in cc)
+    which true h = absurd (true≢false h)
     which false h = (tt, tt)
 blocks_step source (m ∷ media) piece other (m' ∷ media') piece' keeps like = which (piece.start == m.head.start) (piece'.start == m'.head.start) like
   where
-    which : (b b' : Bool) → unlike None 0 (if b then Some m else None) (if b' then Some m' else None) ≡ None →
+    which : (b b' : Bool) → is_some {T = Media} (if b then Some m else None) ≡ is_some {T = Media} (if b' then Some m' else None) →
         AreBlocksAlike source (if b then Some m else None) other (if b' then Some m' else None)
         × BodiesKeep source (drop (if b then 1 else 0) (m ∷ media)) other (drop (if b' then 1 else 0) (m' ∷ media'))
     which true true h = keeps
-    which true false h = absurd (let e : Some 0 ≡ None = h in cc)
-    which false true h = absurd (let e : Some 0 ≡ None = h in cc)
+    which true false h = absurd (true≢false h)
+    which false true h = absurd (false≢true h)
     which false false h = (tt, keeps)
 
 module _ (source other : List ℕ) where
@@ -147,11 +151,32 @@ module _ (source other : List ℕ) where
   items_alike media (KeptBlock piece ∷ xs) media' (KeptRule k' ∷ ys) keeps h =
       absurd (false≢true (same_without' (block_of media (KeptBlock piece)) (block_of media' (KeptRule k')) (KeptBlock piece) (KeptRule k') (no_block_kept media' k') h.0))
   items_alike media (KeptBlock piece ∷ xs) media' (KeptBlock piece' ∷ ys) keeps h =
-      let like : unlike None 0 (block_at media piece) (block_at media' piece') ≡ None =
-      subst (λ (o : Option Media). unlike None 0 o (block_at media' piece') ≡ None) (block_is media piece)
-      (subst (λ (o : Option Media). unlike None 0 (block_of media (KeptBlock piece)) o ≡ None) (block_is media' piece') h.1) in
-      let step : BlocksStep source media piece other media' piece' = blocks_step source media piece other media' piece' keeps like in
+      let step : BlocksStep source media piece other media' piece' = blocks_step source media piece other media' piece' keeps (both_at media piece media' piece' h.1) in
       (step.0, items_alike (drop (blocks_at media (KeptBlock piece)) media) xs (drop (blocks_at media' (KeptBlock piece')) media') ys step.1 h.2)
+
+  -- the same of them are opened blocks
+  pub opened_alike : (media : List Media) (xs : List Item) (media' : List Media) (ys : List Item) → ArePlacesAlike source media xs other media' ys → map is_some (kept_blocks media xs) ≡ map is_some (kept_blocks media' ys)
+  opened_alike media [] media' [] h = refl
+  opened_alike media [] media' (y ∷ ys) h = absurd h
+  opened_alike media (Rule r ∷ xs) media' [] h = absurd h
+  opened_alike media (KeptRule k ∷ xs) media' [] h = absurd h
+  opened_alike media (KeptBlock piece ∷ xs) media' [] h = absurd h
+  opened_alike media (Rule r ∷ xs) media' (y ∷ ys) h = absurd (false≢true (same_without (block_of media (Rule r)) (block_of media' y) (Rule r) y (no_block_rule media r) h.0))
+  opened_alike media (KeptRule k ∷ xs) media' (Rule r' ∷ ys) h =
+      absurd (false≢true (same_without (block_of media (KeptRule k)) (block_of media' (Rule r')) (KeptRule k) (Rule r') (no_block_kept media k) h.0))
+  opened_alike media (KeptRule k ∷ xs) media' (KeptBlock piece' ∷ ys) h =
+      absurd (false≢true (same_without (block_of media (KeptRule k)) (block_of media' (KeptBlock piece')) (KeptRule k) (KeptBlock piece') (no_block_kept media k) h.0))
+  opened_alike media (KeptRule k ∷ xs) media' (KeptRule k' ∷ ys) h =
+      ap (λ (bs : List Bool). false ∷ bs) (opened_alike media xs media' ys
+      (subst (λ (ms : List Media). ArePlacesAlike source ms xs other media' ys) (behind_kept media k)
+      (subst (λ (ms : List Media). ArePlacesAlike source (blocks_behind media (KeptRule k)) xs other ms ys) (behind_kept media' k') h.2)))
+  opened_alike media (KeptBlock piece ∷ xs) media' (Rule r' ∷ ys) h =
+      absurd (false≢true (same_without' (block_of media (KeptBlock piece)) (block_of media' (Rule r')) (KeptBlock piece) (Rule r') (no_block_rule media' r') h.0))
+  opened_alike media (KeptBlock piece ∷ xs) media' (KeptRule k' ∷ ys) h =
+      absurd (false≢true (same_without' (block_of media (KeptBlock piece)) (block_of media' (KeptRule k')) (KeptBlock piece) (KeptRule k') (no_block_kept media' k') h.0))
+  opened_alike media (KeptBlock piece ∷ xs) media' (KeptBlock piece' ∷ ys) h =
+      ap₂ (λ (b : Bool) (bs : List Bool). b ∷ bs) (both_at media piece media' piece' h.1)
+      (opened_alike (drop (blocks_at media (KeptBlock piece)) media) xs (drop (blocks_at media' (KeptBlock piece')) media') ys h.2)
 
 -- ---- The other way round
 

@@ -1,6 +1,6 @@
 -- Kept items that say the same, place by place.
 use Rattle.std.proofs.Common.{◌≡◌, ℕ, suc, Bool, true, false, List, [], ◌∷◌, map, Option, Some, None, Decides, refl, ap, ap₂, ◌∙◌}
-use Rattle.std.specs.Prelude.{◌&&◌, ◌==◌, if◌then◌else◌}
+use Rattle.std.specs.Prelude.{◌&&◌, ◌==◌, if◌then◌else◌, is_some}
 use Rattle.std.specs.Cmp.Lexicographic.{pointwise, pointwise_decides, bytes_decides}
 use Rattle.std.proofs.lemmas.Bool.{false≢true, and_parts}
 use Rattle.std.proofs.lemmas.Bool.Decides.{Decides-eqb}
@@ -13,11 +13,11 @@ use Rattle.css_model.specs.Sheets.KeptRuleParts.{KeptRuleParts}
 use Rattle.css_model.specs.Sheets.Spelling.{Content, Kept, Block, content, kept_text}
 use Rattle.media_groups.specs.declared.media.Media.{Media}
 use Rattle.order_laws.specs.Members.{same_decl}
-use Rattle.sheet_same.specs.Kept.{same_text, same_parts, same_rule, same_kept, block_of, blocks_behind, same_item, unlike, differing_from}
+use Rattle.sheet_same.specs.Kept.{same_text, same_parts, same_rule, same_kept, block_of, blocks_behind, same_item, differing_from}
 
 -- ---- One item
 
-text_is : (source : List ℕ) (piece : Piece) (other : List ℕ) (piece' : Piece) → same_text source piece other piece' ≡ true → kept_text source piece ≡ kept_text other piece'
+pub text_is : (source : List ℕ) (piece : Piece) (other : List ℕ) (piece' : Piece) → same_text source piece other piece' ≡ true → kept_text source piece ≡ kept_text other piece'
 text_is source piece other piece' h = (bytes_decides (kept_text source piece) (kept_text other piece')).0 h
 
 -- kept rules that say the same have the same declarations, for the same reason
@@ -45,47 +45,43 @@ item_is source (KeptBlock piece) other (KeptBlock piece') h = ap (λ (text : Lis
 
 -- ---- All items
 
--- each two kept items in one place say the same, and both are opened blocks or none is
+-- each two kept items in one place say the same
+abbrev pub SayTheSame : List ℕ → List Media → List Item → List ℕ → List Media → List Item → Type 0
+SayTheSame source media [] other media' [] = Unit {0}
+SayTheSame source media [] other media' (y ∷ ys) = ⊥
+SayTheSame source media (x ∷ xs) other media' [] = ⊥
+SayTheSame source media (x ∷ xs) other media' (y ∷ ys) =
+    (same_item source (block_of media x) x other (block_of media' y) y ≡ true) × SayTheSame source (blocks_behind media x) xs other (blocks_behind media' y) ys
+
+-- each two kept items in one place say the same, and both are opened blocks or neither is
 abbrev pub ArePlacesAlike : List ℕ → List Media → List Item → List ℕ → List Media → List Item → Type 0
 ArePlacesAlike source media [] other media' [] = Unit {0}
 ArePlacesAlike source media [] other media' (y ∷ ys) = ⊥
 ArePlacesAlike source media (x ∷ xs) other media' [] = ⊥
 ArePlacesAlike source media (x ∷ xs) other media' (y ∷ ys) =
     (same_item source (block_of media x) x other (block_of media' y) y ≡ true)
-    × (unlike None 0 (block_of media x) (block_of media' y) ≡ None)
+    × (is_some (block_of media x) ≡ is_some (block_of media' y))
     × ArePlacesAlike source (blocks_behind media x) xs other (blocks_behind media' y) ys
 
-none_unlike : (one : Option ℕ) (n : ℕ) (o o' : Option Media) → unlike one n o o' ≡ None → (one ≡ None) × (unlike None 0 o o' ≡ None)
-none_unlike (Some earlier) n o o' h = absurd (let e : Some earlier ≡ None = h in cc)
-none_unlike None n (Some m) (Some m') h = (refl, refl)
-none_unlike None n (Some m) None h = absurd (let e : Some n ≡ None = h in cc)
-none_unlike None n None (Some m') h = absurd (let e : Some n ≡ None = h in cc)
-none_unlike None n None None h = (refl, refl)
-
-pub places_alike : (one : Option ℕ) (n : ℕ) (source : List ℕ) (media : List Media) (xs : List Item) (other : List ℕ) (media' : List Media) (ys : List Item) →
-    differing_from one n source media xs other media' ys ≡ None → (one ≡ None) × ArePlacesAlike source media xs other media' ys
-places_alike one n source media [] other media' [] h = (h, tt)
-places_alike one n source media [] other media' (y ∷ ys) h = absurd (let e : Some n ≡ None = h in cc)
-places_alike one n source media (x ∷ xs) other media' [] h = absurd (let e : Some n ≡ None = h in cc)
-places_alike one n source media (x ∷ xs) other media' (y ∷ ys) h =
-    which (same_item source (block_of media x) x other (block_of media' y) y) refl h
-    (λ g. places_alike (unlike one n (block_of media x) (block_of media' y)) (suc n) source (blocks_behind media x) xs other (blocks_behind media' y) ys g)
+pub say_the_same : (n : ℕ) (source : List ℕ) (media : List Media) (xs : List Item) (other : List ℕ) (media' : List Media) (ys : List Item) →
+    differing_from n source media xs other media' ys ≡ None → SayTheSame source media xs other media' ys
+say_the_same n source media [] other media' [] h = tt
+say_the_same n source media [] other media' (y ∷ ys) h = absurd (let e : Some n ≡ None = h in cc)
+say_the_same n source media (x ∷ xs) other media' [] h = absurd (let e : Some n ≡ None = h in cc)
+say_the_same n source media (x ∷ xs) other media' (y ∷ ys) h =
+    which (same_item source (block_of media x) x other (block_of media' y) y) refl h (λ g. say_the_same (suc n) source (blocks_behind media x) xs other (blocks_behind media' y) ys g)
   where
     rest : Option ℕ
-    rest = differing_from (unlike one n (block_of media x) (block_of media' y)) (suc n) source (blocks_behind media x) xs other (blocks_behind media' y) ys
+    rest = differing_from (suc n) source (blocks_behind media x) xs other (blocks_behind media' y) ys
 
     which : (b : Bool) → same_item source (block_of media x) x other (block_of media' y) y ≡ b → (if b then rest else Some n) ≡ None →
-        (rest ≡ None → (unlike one n (block_of media x) (block_of media' y) ≡ None) × ArePlacesAlike source (blocks_behind media x) xs other (blocks_behind media' y) ys) →
-        (one ≡ None) × ArePlacesAlike source media (x ∷ xs) other media' (y ∷ ys)
-    which true same g behind =
-        let b : (unlike one n (block_of media x) (block_of media' y) ≡ None) × ArePlacesAlike source (blocks_behind media x) xs other (blocks_behind media' y) ys = behind g in
-        let u : (one ≡ None) × (unlike None 0 (block_of media x) (block_of media' y) ≡ None) = none_unlike one n (block_of media x) (block_of media' y) b.0 in
-        (u.0, (same, u.1, b.1))
+        (rest ≡ None → SayTheSame source (blocks_behind media x) xs other (blocks_behind media' y) ys) → SayTheSame source media (x ∷ xs) other media' (y ∷ ys)
+    which true same g behind = (same, behind g)
     which false same g behind = absurd (let e : Some n ≡ None = g in cc)
 
 -- where no block is opened, they have the same contents
-pub contents_are : (source : List ℕ) (xs : List Item) (other : List ℕ) (ys : List Item) → ArePlacesAlike source [] xs other [] ys → map (content source) xs ≡ map (content other) ys
+pub contents_are : (source : List ℕ) (xs : List Item) (other : List ℕ) (ys : List Item) → SayTheSame source [] xs other [] ys → map (content source) xs ≡ map (content other) ys
 contents_are source [] other [] h = refl
 contents_are source [] other (y ∷ ys) h = absurd h
 contents_are source (x ∷ xs) other [] h = absurd h
-contents_are source (x ∷ xs) other (y ∷ ys) h = ap₂ (λ (c : Content) (cs : List Content). c ∷ cs) (item_is source x other y h.0) (contents_are source xs other ys h.2)
+contents_are source (x ∷ xs) other (y ∷ ys) h = ap₂ (λ (c : Content) (cs : List Content). c ∷ cs) (item_is source x other y h.0) (contents_are source xs other ys h.1)

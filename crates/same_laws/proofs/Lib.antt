@@ -5,5 +5,6 @@ pub mod ForCallers
 mod Keeping
 mod KeptAlike
 mod NeverSame
+mod OpenedAlone
 mod Scenes
 mod Winning

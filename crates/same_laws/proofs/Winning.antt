@@ -8,6 +8,7 @@ use Rattle.css_model.specs.Sheets.KeptItems.{kept_items}
 use Rattle.media_groups.specs.declared.media.Media.{Media}
 use Rattle.media_groups.specs.Opened.{opened_of}
 use Rattle.opened_laws.specs.Media.Scenes.{KeptScene, IsSceneOf, kept_blocks, meanings_of, ScenesGiveMeanings, BlocksWinAlike, MergedSheetsWinAlike}
+use Rattle.opened_laws.specs.Texts.{SameTextsAreOpenedAlike}
 use Rattle.order_laws.specs.Comparing.{OrderIsDecided, WeighingIsDecided}
 use Rattle.order_laws.specs.Keeping.{AreRelated, KeepingIsMutual, KeepingKeepsWinners}
 use Rattle.order_laws.specs.Places.{ListedStandsLast}
@@ -22,8 +23,9 @@ use Rattle.sheet_same.specs.Compared.{IsFound, Told, BodiesTell, nothing}
 use Rattle.same_laws.proofs.Alike.{BodiesKeep, bodies_keep, AreItemsAlike, items_alike, items_back}
 use Rattle.same_laws.proofs.Blanked.{blanked, blanked_keeps, blanked_meanings, blanked_winner}
 use Rattle.same_laws.proofs.Keeping.{IsOrderKept, IsNothing, nothing_found}
-use Rattle.same_laws.proofs.KeptAlike.{ArePlacesAlike, places_alike, contents_are}
+use Rattle.same_laws.proofs.KeptAlike.{ArePlacesAlike, contents_are, say_the_same}
 use Rattle.same_laws.proofs.NeverSame.{never_found}
+use Rattle.same_laws.proofs.OpenedAlone.{places_opened}
 use Rattle.same_laws.proofs.Scenes.{scene_in, scene_out, blocks_in, scene_to, blocks_win}
 
 -- ---- Where no block is opened
@@ -33,7 +35,7 @@ parts_keep listed order weighing law pairs true_list source s other t found =
     let n : IsNothing source [] s other [] t = nothing_found listed order weighing law pairs true_list source [] s other [] t found in
     record {
       pairs = n.parts.pairs;
-      kept = contents_are source (kept_items s) other (kept_items t) (places_alike None 0 source [] (kept_items s) other [] (kept_items t) n.kept).1;
+      kept = contents_are source (kept_items s) other (kept_items t) (say_the_same 0 source [] (kept_items s) other [] (kept_items t) n.kept);
       order = n.parts.order;
       kept_order = n.parts.kept_order;
     }
@@ -45,7 +47,7 @@ record AreAlike (source : List ℕ) (s : List Item) (other : List ℕ) (t : List
   parts : IsOrderKept s t
   items : AreItemsAlike source (opened_of s source) (kept_items s) other (opened_of t other) (kept_items t)
 
-module _ (keep : SamePartsKeep) (listed : ListedStandsLast) (order : OrderIsDecided) (weighing : WeighingIsDecided) (law : ApartSelectorsDoNotMeet) where
+module _ (texts : SameTextsAreOpenedAlike) (keep : SamePartsKeep) (listed : ListedStandsLast) (order : OrderIsDecided) (weighing : WeighingIsDecided) (law : ApartSelectorsDoNotMeet) where
   are_alike : (source : List ℕ) (s : List Item) (other : List ℕ) (t : List Item) → AreSame source s other t → AreAlike source s other t
   are_alike source s other t same = which same.compared.0 same.compared.1 same.compared.2
     where
@@ -64,7 +66,8 @@ module _ (keep : SamePartsKeep) (listed : ListedStandsLast) (order : OrderIsDeci
           absurd (never_found same.pairs.answers source media s other media' t (subst (λ (x : Compared). IsFound same.pairs.answers source media s other media' t (Some x)) (sym is) found))
       which None found told =
           let n : IsNothing source media s other media' t = nothing_found listed order weighing law same.pairs same.true_list source media s other media' t found in
-          let places : ArePlacesAlike source media (kept_items s) other media' (kept_items t) = (places_alike None 0 source media (kept_items s) other media' (kept_items t) n.kept).1 in
+          let places : ArePlacesAlike source media (kept_items s) other media' (kept_items t) =
+          places_opened texts source s other t same.first_read same.second_read (say_the_same 0 source media (kept_items s) other media' (kept_items t) n.kept) in
           let bodies : BodiesKeep source media other media' = bodies_keep keep same.pairs same.true_list 0 source media other media' told in
           record { parts = n.parts; items = items_alike source other media (kept_items s) media' (kept_items t) bodies places }
 

@@ -1,9 +1,10 @@
 -- What it means that nothing is found in two sheets.
-use Rattle.std.specs.Prelude.{◌≡◌, ◌↔◌, ℕ, List, [], Option, None}
+use Rattle.std.specs.Prelude.{◌≡◌, ◌↔◌, ℕ, List, [], Option, None, Ok}
 use Rattle.css_model.specs.declared.sheet.Item.{Item}
 use Rattle.css_model.specs.Cascade.Order.{Keeps}
 use Rattle.css_model.specs.Cascade.Winner.{Understood, winner}
 use Rattle.css_model.specs.Documents.Document.{Document, Target, IsLegal}
+use Rattle.css_model.specs.Sheets.Sheet.{sheet_of}
 use Rattle.media_groups.specs.declared.media.Media.{Media}
 use Rattle.media_groups.specs.Opened.{opened_of}
 use Rattle.opened_laws.specs.Media.Scenes.{KeptScene, IsSceneOf, kept_blocks, meanings_of}
@@ -21,8 +22,10 @@ SamePartsKeep = (pairs : PairsParts) → ∥ IsTrueList pairs ∥₁ → (source
 
 -- ---- Where blocks are opened
 
--- Nothing is found in two sheets by five tests, by true answers.
+-- Two sheets are read, and nothing is found in them by five tests, by true answers.
 pub record AreSame (source : List ℕ) (s : List Item) (other : List ℕ) (t : List Item) : Type 0 where
+  pub first_read : sheet_of source ≡ Ok s
+  pub second_read : sheet_of other ≡ Ok t
   pub pairs : PairsParts
   pub true_list : ∥ IsTrueList pairs ∥₁
   pub compared : IsDifference pairs.answers source s other t nothing

@@ -66,7 +66,13 @@ told_same source s other t c None text word h = is_same source s other t c text 
 told_same source s other t c (Some number) text word (m, m', blocks, h) = is_same (text_at source m.body) m.sheet.items (text_at other m'.body) m'.sheet.items c text word h
 
 pub texts_win_alike : SameTextsWinAlike
-texts_win_alike source other pairs text compared word = record { pairs = pairs; true_list = compared.all_true; compared = subst (λ (d : Difference). IsDifference pairs.answers source compared.first other compared.second d) none compared.is_difference }
+texts_win_alike source other pairs text compared word = record {
+  first_read = compared.first_read;
+  second_read = compared.second_read;
+  pairs = pairs;
+  true_list = compared.all_true;
+  compared = subst (λ (d : Difference). IsDifference pairs.answers source compared.first other compared.second d) none compared.is_difference;
+}
   where
     same : compared.difference.compared ≡ Same
     same = told_same source compared.first other compared.second compared.difference.compared compared.difference.body text word compared.told

@@ -24,7 +24,7 @@ use Rattle.overlap.specs.PairsParts.{Answered}
 use Rattle.sheet_same.specs.declared.compared.Compared.{Compared}
 use Rattle.sheet_same.specs.Compared.{found_in_parts, FoundBehind, IsFound}
 use Rattle.sheet_same.specs.Judging.{IsJudged}
-use Rattle.sheet_same.specs.Kept.{same_item, block_of, blocks_behind, unlike, differing_from, first_differing}
+use Rattle.sheet_same.specs.Kept.{same_item, block_of, blocks_behind, differing_from, first_differing}
 use Rattle.sheet_same.specs.Lacking.{lacking, first_lacking}
 use Rattle.sheet_same.specs.Members.{Member, Paired, KeptAt, kept_member, members}
 use Rattle.sheet_same.specs.Standing.{Standing, spot_of, spot_in, kept_at, standing_of, is_later, spots_differ, are_turned, couples_with, couples_of}
@@ -414,15 +414,15 @@ module _ (listed : ListedStandsLast) (order : OrderIsDecided) (weighing : Weighi
 
 -- ---- The members of sheets with the same parts
 
-as_many : (one : Option ℕ) (n : ℕ) (source : List ℕ) (media : List Media) (xs : List Item) (other : List ℕ) (media' : List Media) (ys : List Item) → differing_from one n source media xs other media' ys ≡ None → length xs ≡ length ys
-as_many one n source media [] other media' [] h = refl
-as_many one n source media [] other media' (y ∷ ys) h = absurd (let e : Some n ≡ None = h in cc)
-as_many one n source media (x ∷ xs) other media' [] h = absurd (let e : Some n ≡ None = h in cc)
-as_many one n source media (x ∷ xs) other media' (y ∷ ys) h = which (same_item source (block_of media x) x other (block_of media' y) y) h
-    (λ g. as_many (unlike one n (block_of media x) (block_of media' y)) (suc n) source (blocks_behind media x) xs other (blocks_behind media' y) ys g)
+as_many : (n : ℕ) (source : List ℕ) (media : List Media) (xs : List Item) (other : List ℕ) (media' : List Media) (ys : List Item) → differing_from n source media xs other media' ys ≡ None → length xs ≡ length ys
+as_many n source media [] other media' [] h = refl
+as_many n source media [] other media' (y ∷ ys) h = absurd (let e : Some n ≡ None = h in cc)
+as_many n source media (x ∷ xs) other media' [] h = absurd (let e : Some n ≡ None = h in cc)
+as_many n source media (x ∷ xs) other media' (y ∷ ys) h =
+    which (same_item source (block_of media x) x other (block_of media' y) y) h (λ g. as_many (suc n) source (blocks_behind media x) xs other (blocks_behind media' y) ys g)
   where
     rest : Option ℕ
-    rest = differing_from (unlike one n (block_of media x) (block_of media' y)) (suc n) source (blocks_behind media x) xs other (blocks_behind media' y) ys
+    rest = differing_from (suc n) source (blocks_behind media x) xs other (blocks_behind media' y) ys
 
     which : (b : Bool) → (if b then rest else Some n) ≡ None → (rest ≡ None → length xs ≡ length ys) → suc (length xs) ≡ suc (length ys)
     which true g ih = ap suc (ih g)
@@ -479,7 +479,7 @@ couples_turned listed order weighing source media s other media' t none =
     parts = all_none (first_lacking (last_pairs t) (members s)) (first_lacking (last_pairs s) (members t)) (first_differing source media s other media' t) none
 
     many : length (kept_items s) ≡ length (kept_items t)
-    many = as_many None 0 source media (kept_items s) other media' (kept_items t) parts.third
+    many = as_many 0 source media (kept_items s) other media' (kept_items t) parts.third
 
     both : (m : Member) → IsOf s m → lacking (last_pairs t) m ≡ None → StandsThere s t m
     both (Paired x) of there = (of, not_lacking (last_pairs t) x there)

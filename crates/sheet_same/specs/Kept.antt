@@ -51,32 +51,24 @@ same_item source (Some m) item other (Some m') item' = same_text source m.head o
 same_item source (Some m) item other None item' = same_kept source item other item'
 same_item source None item other o' item' = same_kept source item other item'
 
--- the earlier number, or this one where one of two items alone is an opened block
-abbrev pub unlike : Option ℕ → ℕ → Option Media → Option Media → Option ℕ
-unlike (Some earlier) n o o' = Some earlier
-unlike None n (Some m) (Some m') = None
-unlike None n (Some m) None = Some n
-unlike None n None (Some m') = Some n
-unlike None n None None = None
-
 -- ---- The first place
 
 -- The number, counted from this one, of the first place at which two lists of kept items differ, among which these blocks are
--- opened (own); and where none does, this number of a place at which one of them alone is an opened block.
-abbrev pub differing_from : Option ℕ → ℕ → List ℕ → List Media → List Item → List ℕ → List Media → List Item → Option ℕ
-differing_from one n source media [] other media' [] = one
-differing_from one n source media [] other media' (y ∷ ys) = Some n
-differing_from one n source media (x ∷ xs) other media' [] = Some n
-differing_from one n source media (x ∷ xs) other media' (y ∷ ys) =
+-- opened (own).
+abbrev pub differing_from : ℕ → List ℕ → List Media → List Item → List ℕ → List Media → List Item → Option ℕ
+differing_from n source media [] other media' [] = None
+differing_from n source media [] other media' (y ∷ ys) = Some n
+differing_from n source media (x ∷ xs) other media' [] = Some n
+differing_from n source media (x ∷ xs) other media' (y ∷ ys) =
     if same_item source (block_of media x) x other (block_of media' y) y
-    then differing_from (unlike one n (block_of media x) (block_of media' y)) (suc n) source (blocks_behind media x) xs other (blocks_behind media' y) ys
+    then differing_from (suc n) source (blocks_behind media x) xs other (blocks_behind media' y) ys
     else Some n
 
 -- Of all kept items of two sheets, among which these blocks are opened (own): the number of the first place at which they differ.
--- Where none does, it is that of the first one at which one item alone is an opened block; what says the same is opened in
--- both sheets or in none, but no proof here says so.
+-- No place differs because only one of its two items is opened: in sheets that are read, what says the same is opened in both or
+-- in neither, by the law `NoneIsOpenedAlone` of `same_laws`.
 abbrev pub first_differing : List ℕ → List Media → List Item → List ℕ → List Media → List Item → Option ℕ
-first_differing source media items other media' items' = differing_from None 0 source media (kept_items items) other media' (kept_items items')
+first_differing source media items other media' items' = differing_from 0 source media (kept_items items) other media' (kept_items items')
 
 -- the first kept one of some items with the items behind it, where there is one
 abbrev pub NextKept : List Item → Option (Bor Item × Bor (List Item)) → Type 0

@@ -136,25 +136,8 @@ fn same_item(
     same_kept(alloc, reading, item, there, other)
 }
 
-/// The earlier number, or this one, if one of two items alone is an opened block.
-fn unlike(
-    earlier: Option<u32>,
-    number: u32,
-    block: Option<&Media>,
-    twin: Option<&Media>,
-) -> Option<u32>
-    ensures { result ≡ spec.unlike earlier number (option_copied block.entry) (option_copied twin.entry) }
-{
-    match (earlier, block, twin) {
-        (Some(place), _, _) => Some(place),
-        (None, Some(_), None) => Some(number),
-        (None, None, Some(_)) => Some(number),
-        (None, _, _) => None,
-    }
-}
-
 /// The number of the first place at which the kept ones of two lists of items differ. These blocks among them are
-/// opened. Where no place differs, it is the first one at which one item alone is an opened block.
+/// opened.
 pub(crate) fn first_differing(
     alloc: Global,
     reading: &Reading<'_>,
@@ -168,7 +151,6 @@ pub(crate) fn first_differing(
     ensures { IfOk result (λ place. place ≡ spec.first_differing reading.now.source.now media.now items.now there.now.source.now twins.now others.now) }
 {
     let mut number = 0;
-    let mut one = None;
     let mut blocks = media;
     let mut left = items;
     let mut more = twins;
@@ -182,7 +164,6 @@ pub(crate) fn first_differing(
         if !same_item(alloc, reading, block, item, there, twin, other)? {
             return Ok(Some(number));
         }
-        one = unlike(one, number, block, twin);
         number += 1;
         blocks = blocks_behind;
         left = behind;
@@ -191,6 +172,6 @@ pub(crate) fn first_differing(
     }
     match next_kept(right) {
         Some(_) => Ok(Some(number)),
-        None => Ok(one),
+        None => Ok(None),
     }
 }
