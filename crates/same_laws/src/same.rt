@@ -2,9 +2,7 @@
 
 ghost use Rattle.same_laws.specs.Same.{SamePartsKeep, SameSheetsHaveOneScene, SameSheetsWinAlike};
 
-use opened_laws::{
-    bodies_count_by_winners, same_texts_are_opened_alike, scenes_give_meanings,
-};
+use opened_laws::{bodies_count_by_winners, same_texts_are_opened_alike, scenes_give_meanings};
 use order_laws::{
     keeping_is_mutual, keeping_keeps_winners, listed_stands_last, order_is_decided,
     weighing_is_decided,
