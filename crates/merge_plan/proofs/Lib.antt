@@ -1,5 +1,5 @@
 mod Answering
 mod Blocking
-pub mod ForCallers
 mod Never
-mod Planned
+mod Plannable
+pub mod ForCallers

@@ -2,7 +2,9 @@
 #![tactic(auto)]
 
 mod blocked;
+mod planned;
 mod planning;
 
 pub use blocked::blocked_steps;
-pub use planning::{Plan, plan};
+pub use planned::Plan;
+pub use planning::plan;

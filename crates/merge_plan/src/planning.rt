@@ -8,26 +8,14 @@ ghost use Rattle.step_laws.specs.Free.{AreAmong};
 ghost use Rattle.step_laws.specs.Leading.{IsDone, Leads};
 
 use crate::blocked::blocked_steps;
+use crate::planned::Plan;
 use css_model::Sheet;
 use lead_merge::{Merged, merge};
 use merge_laws::leading_makes_of;
 use overlap::Pairs;
-use sheet_order::BlockCause;
 use std::alloc::{AllocError, Global};
 use std::mem;
-use step_laws::Step;
 use step_obstacles::PairObstacles;
-
-/// A planned sheet.
-#[derive(Debug, Drop)]
-pub struct Plan {
-    /// The sheet after the last step.
-    pub sheet: Sheet,
-    /// How many steps led to it.
-    pub taken: u32,
-    /// Each step of this sheet that saves bytes, in the order of steps, with what blocks it.
-    pub blocked: Vec<(Step, BlockCause)>,
-}
 
 /// Returns what a copy of a sheet merges to. It asks for the answers that are missing.
 fn merged_sheet(

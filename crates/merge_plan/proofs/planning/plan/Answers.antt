@@ -2,7 +2,7 @@ use Rattle.std.proofs.Common.{List, map, ap, sym, subst}
 use Rattle.css_model.specs.declared.sheet.Item.{Item}
 use Rattle.css_model.specs.Sheets.SheetParts.{SheetParts}
 use Rattle.merge_plan.proofs.Answering.{done_more, stays_among}
-use Rattle.merge_plan.proofs.Planned.{still_plannable}
+use Rattle.merge_plan.proofs.Plannable.{still_plannable}
 use Rattle.merge_plan.proofs.planning.plan.Goals as goal
 use Rattle.plan_laws.proofs.ForCallers.{leads_more}
 use Rattle.plan_laws.specs.Plannable.{IsPlannable}
