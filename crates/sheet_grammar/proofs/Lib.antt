@@ -1,0 +1,5 @@
+mod EntryProofs
+mod ItemLemmas
+mod ItemProofs
+mod SheetProofs
+mod StackProofs

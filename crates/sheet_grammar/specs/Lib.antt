@@ -1,0 +1,5 @@
+pub mod Entries
+pub mod Items
+pub mod Laws
+pub mod Sheet
+pub mod Values
