@@ -1,4 +1,5 @@
 mod EntryProofs
+mod FaultProofs
 mod ItemLemmas
 mod ItemProofs
 mod SheetProofs

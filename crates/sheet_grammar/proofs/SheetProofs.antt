@@ -1,5 +1,5 @@
 -- A source is read as a sheet exactly if it is that by the grammar.
-use Rattle.std.proofs.Common.{ℕ, zero, suc, ◌+◌, ◌≤◌, ◌≡◌, Bool, true, false, cond, ltb, ◌&&◌, ◌||◌, ◌==◌, List, [], ◌∷◌, ◌++◌, Result, Ok, Err, Option, Some, None, length, refl, sym, ap, ◌∙◌, subst, arith}
+use Rattle.std.proofs.Common.{ℕ, zero, suc, ◌+◌, ◌≤◌, ◌≡◌, Bool, true, false, cond, ltb, ◌||◌, List, [], ◌∷◌, ◌++◌, Result, Ok, Err, Option, Some, None, length, refl, sym, ap, ◌∙◌, subst, arith}
 use Rattle.std.specs.Prelude.{fold, slice_get}
 use Rattle.std.specs.List.{after_first, before_first, cons_option, filter, filter_map, find, list_any, slice_split}
 use Rattle.std.specs.Option.{option_map}
@@ -20,11 +20,11 @@ use Rattle.css_model.specs.Lists.{all_of}
 use Rattle.css_model.specs.Sheets.Declarations.{declaration, declarations, is_nested}
 use Rattle.css_model.specs.Sheets.Fault.{fault_of, unless}
 use Rattle.css_model.specs.Sheets.Items.{block as block_of, closes_block, entries, is_at_rule, is_whole, items, opens_block, selector_parts}
-use Rattle.css_model.specs.Sheets.Limits.{max_bytes, max_depth, max_items, max_pairs}
+use Rattle.css_model.specs.Sheets.Limits.{max_bytes, max_items, max_pairs}
 use Rattle.css_model.specs.Sheets.Selectors.{selector_item, selectors}
 use Rattle.css_model.specs.Sheets.Sheet.{is_import, is_namespace, item_of, namespace_at, pairs_of, read_items, rule_of, rule_or_block, sheet_of, sheet_of_stream, sheet_of_tokens, start_of, too_deep, too_many_items, too_many_pairs, unclosed}
 use Rattle.css_model.specs.Text.Characters.{close_curly, comma, open_curly, semicolon}
-use Rattle.css_model.specs.Text.Lexemes.{is_sign_at, lexemes, opens, piece_of}
+use Rattle.css_model.specs.Text.Lexemes.{is_sign_at, lexemes, piece_of}
 use Rattle.css_model.specs.Text.Tokens.{Stream, tokens}
 use Rattle.css_tokens.proofs.ForCallers.{whole_is_utf8}
 use Rattle.list_facts.proofs.Cuts.{after_at, before_at}
@@ -35,13 +35,14 @@ use Rattle.sheet_grammar.specs.Items.AreItems.{at_end as no_items, skipped, at_r
 use Rattle.sheet_grammar.specs.Items.IsAtRule.{with_block, with_semicolon, at_end as ends_sheet}
 use Rattle.sheet_grammar.specs.Items.IsBlock.{block as a_block}
 use Rattle.sheet_grammar.specs.Laws.{SheetsAreThoseOfTheGrammar}
-use Rattle.sheet_grammar.specs.Sheet.{AreRead, IsRead, IsSheet}
+use Rattle.sheet_grammar.specs.Sheet.{AreRead, IsRead, IsSheet, is_deep}
 use Rattle.sheet_grammar.specs.Sheet.AreRead.{at_end, kept, dropped}
 use Rattle.sheet_grammar.specs.Sheet.IsRead.{before_import, at_rule, nested, rule}
+use Rattle.sheet_grammar.specs.Values.AreOpened.{all_closed}
 use Rattle.sheet_grammar.proofs.EntryProofs.{decls_are, decls_read, is_nested_from, nested_is, parts_are, parts_read}
 use Rattle.sheet_grammar.proofs.ItemLemmas.{flag_front, none_closes, none_of_any, sign_at}
 use Rattle.sheet_grammar.proofs.ItemProofs.{items_are_those_of_the_grammar, no_block}
-use Rattle.sheet_grammar.proofs.StackProofs.{brackets_match}
+use Rattle.sheet_grammar.proofs.StackProofs.{brackets_match, opened_values}
 
 -- ---- what is read of an item
 
@@ -173,7 +174,7 @@ qualified_is source item prelude inside later q = by (list_any (is_import source
 
 -- ---- what is read of items
 
-items_read_as : (source : List ℕ) (found : List (List Lexeme)) (sheet : List Item) → AreRead source found sheet → read_items source found ≡ sheet
+pub items_read_as : (source : List ℕ) (found : List (List Lexeme)) (sheet : List Item) → AreRead source found sheet → read_items source found ≡ sheet
 items_read_as source found sheet at_end = refl
 items_read_as source found sheet (kept item later x xs is more) =
     ap (λ (o : Option Item). cons_option o (read_items source later)) (read_is source item later (Some x) is) ∙ ap (λ (t : List Item). x ∷ t) (items_read_as source later xs more)
@@ -191,7 +192,7 @@ at_rule_flag item rest (with_block prelude text inside joined flag p (a_block x 
 at_rule_flag item rest (with_semicolon prelude y joined flag p is) = ap is_at_rule joined ∙ (flag_front prelude y [] semicolon (sign_at semicolon 0 y is) ∙ flag)
 at_rule_flag item rest (ends_sheet flag p end) = flag
 
-items_are_read : (source : List ℕ) (xs : List Lexeme) (found : List (List Lexeme)) → AreItems xs found → AreRead source found (read_items source found)
+pub items_are_read : (source : List ℕ) (xs : List Lexeme) (found : List (List Lexeme)) → AreItems xs found → AreRead source found (read_items source found)
 items_are_read source xs found no_items = at_end
 items_are_read source xs found (skipped x rest others is later) = items_are_read source rest others later
 items_are_read source xs found (item_at_rule item rest others is later) =
@@ -202,13 +203,13 @@ items_are_read source xs found (prelude_dropped prelude some flag p) = at_end
 
 -- ---- limits
 
-find_none : {A : Type 0} (p : A → Bool) (xs : List A) → list_any p xs ≡ false → find p xs ≡ None
+pub find_none : {A : Type 0} (p : A → Bool) (xs : List A) → list_any p xs ≡ false → find p xs ≡ None
 find_none p [] none = refl
 find_none p (x ∷ xs) none =
     let two = or_parts (p x) (list_any p xs) none in
     ap (λ (b : Bool). cond b (Some x) (find p xs)) two.0 ∙ find_none p xs two.1
 
-none_found : {A : Type 0} (p : A → Bool) (xs : List A) → find p xs ≡ None → list_any p xs ≡ false
+pub none_found : {A : Type 0} (p : A → Bool) (xs : List A) → find p xs ≡ None → list_any p xs ≡ false
 none_found p [] e = refl
 none_found p (x ∷ xs) e = by (p x) refl (λ (e : find p xs ≡ None). none_found p xs e)
   where
@@ -216,34 +217,34 @@ none_found p (x ∷ xs) e = by (p x) refl (λ (e : find p xs ≡ None). none_fou
     by true is later = let wrong = sym (ap (λ (b : Bool). cond b (Some x) (find p xs)) is) ∙ e in absurd (cc (wrong))
     by false is later = or_from (p x) (list_any p xs) is (later (sym (ap (λ (b : Bool). cond b (Some x) (find p xs)) is) ∙ e))
 
-map_none : {A B : Type 0} (f : A → B) (o : Option A) → option_map f o ≡ None → o ≡ None
+pub map_none : {A B : Type 0} (f : A → B) (o : Option A) → option_map f o ≡ None → o ≡ None
 map_none f None e = refl
 map_none f (Some x) e = absurd (cc (e))
 
-get_past : {A : Type 0} (xs : List A) (n : ℕ) → length xs ≤ n → slice_get xs n ≡ None
+pub get_past : {A : Type 0} (xs : List A) (n : ℕ) → length xs ≤ n → slice_get xs n ≡ None
 get_past [] n le = refl
 get_past (x ∷ xs) zero le = absurd (omega (arith, le))
 get_past (x ∷ xs) (suc n) le = get_past xs n (omega (arith, le))
 
-past_get : {A : Type 0} (xs : List A) (n : ℕ) → slice_get xs n ≡ None → length xs ≤ n
+pub past_get : {A : Type 0} (xs : List A) (n : ℕ) → slice_get xs n ≡ None → length xs ≤ n
 past_get [] n e = omega arith
 past_get (x ∷ xs) zero e = absurd (cc (e))
 past_get (x ∷ xs) (suc n) e = omega (arith, past_get xs n e)
 
-abbrev pairs_from : ℕ → List Item → ℕ
+abbrev pub pairs_from : ℕ → List Item → ℕ
 pairs_from n xs = fold (λ a x. a + pairs_of x) n xs
 
-pairs_more : (n : ℕ) (xs : List Item) → n ≤ pairs_from n xs
+pub pairs_more : (n : ℕ) (xs : List Item) → n ≤ pairs_from n xs
 pairs_more n [] = omega arith
 pairs_more n (x ∷ xs) = omega (arith, pairs_more (n + pairs_of x) xs)
 
-few_pairs : (n : ℕ) (xs : List Item) → pairs_from n xs ≤ max_pairs → too_many_pairs n xs ≡ None
+pub few_pairs : (n : ℕ) (xs : List Item) → pairs_from n xs ≤ max_pairs → too_many_pairs n xs ≡ None
 few_pairs n [] le = refl
 few_pairs n (x ∷ xs) le =
     let test : ltb max_pairs (n + pairs_of x) ≡ false = le-ltb max_pairs (n + pairs_of x) (omega (arith, le, pairs_more (n + pairs_of x) xs)) in
     ap (λ (b : Bool). cond b (Some (start_of x)) (too_many_pairs (n + pairs_of x) xs)) test ∙ few_pairs (n + pairs_of x) xs le
 
-pairs_few : (n : ℕ) (xs : List Item) → n ≤ max_pairs → too_many_pairs n xs ≡ None → pairs_from n xs ≤ max_pairs
+pub pairs_few : (n : ℕ) (xs : List Item) → n ≤ max_pairs → too_many_pairs n xs ≡ None → pairs_from n xs ≤ max_pairs
 pairs_few n [] le e = le
 pairs_few n (x ∷ xs) le e = by (ltb max_pairs (n + pairs_of x)) refl (λ (le : n + pairs_of x ≤ max_pairs) (e : too_many_pairs (n + pairs_of x) xs ≡ None). pairs_few (n + pairs_of x) xs le e)
   where
@@ -253,7 +254,7 @@ pairs_few n (x ∷ xs) le e = by (ltb max_pairs (n + pairs_of x)) refl (λ (le :
     by false is later = later (ltb-false max_pairs (n + pairs_of x) is) (sym (ap (λ (b : Bool). cond b (Some (start_of x)) (too_many_pairs (n + pairs_of x) xs)) is) ∙ e)
 
 -- the faults in their order
-abbrev judged : Option ℕ → Option ℕ → Option ℕ → Option ℕ → Option ℕ → List Item → Result (List Item) SheetFault
+abbrev pub judged : Option ℕ → Option ℕ → Option ℕ → Option ℕ → Option ℕ → List Item → Result (List Item) SheetFault
 judged a b c d e read =
     unless
     (fault_of fault_kind.TooDeep a
@@ -288,21 +289,18 @@ none_judged None None None (Some x) e read sheet h = absurd (cc (h))
 none_judged None None None None (Some x) read sheet h = absurd (cc (h))
 none_judged None None None None None read sheet h = let same : read ≡ sheet = cc (h) in record { no_a = refl; no_b = refl; no_c = refl; no_d = refl; no_e = refl; same = same }
 
-abbrev is_deep : Lexeme → Bool
-is_deep x = opens x.kind && x.level == max_depth
-
 -- ---- sheets
 
-short_or : (source : List ℕ) (x y : Result (List Item) SheetFault) → length source ≤ max_bytes → cond (ltb max_bytes (length source)) x y ≡ y
+pub short_or : (source : List ℕ) (x y : Result (List Item) SheetFault) → length source ≤ max_bytes → cond (ltb max_bytes (length source)) x y ≡ y
 short_or source x y le = ap (λ (b : Bool). cond b x y) (le-ltb max_bytes (length source) le)
 
-utf8_or : (source : List ℕ) (x y : Result (List Item) SheetFault) → IsUtf8 source → cond (ltb (utf8_valid_len source) (length source)) x y ≡ y
+pub utf8_or : (source : List ℕ) (x y : Result (List Item) SheetFault) → IsUtf8 source → cond (ltb (utf8_valid_len source) (length source)) x y ≡ y
 utf8_or source x y is = ap (λ (b : Bool). cond b x y) (le-ltb (utf8_valid_len source) (length source) (omega (arith, utf8_valid_len-IsUtf8 source is)))
 
 sheet_read : (source : List ℕ) (sheet : List Item) → IsSheet source sheet → sheet_of source ≡ Ok sheet
 sheet_read source sheet s =
     let stream : tokens source true ≡ record { tokens = s.tokens; fault = None } = (tokens_are_those_of_the_grammar source true s.tokens None).0 s.are_tokens in
-    let two = (brackets_match s.tokens s.lexemes).0 (s.are_lexemes, s.balanced) in
+    let two = (brackets_match s.tokens s.lexemes None).0 (s.are_lexemes, all_closed None 0 s.lexemes s.balanced) in
     let raw : filter is_whole (items (lexemes s.tokens)) ≡ s.items =
     ap (λ (t : List Lexeme). filter is_whole (items t)) two.0 ∙ (items_are_those_of_the_grammar s.lexemes s.items s.balanced).0 s.are_items in
     let read : read_items source (filter is_whole (items (lexemes s.tokens))) ≡ sheet = ap (read_items source) raw ∙ items_read_as source s.items sheet s.are_read in
@@ -349,8 +347,9 @@ sheet_is source sheet h = of (by_tests source sheet h)
         found : NoFault (too_deep (lexemes ts)) (unclosed ts) (namespace_at source (filter is_whole (items (lexemes ts)))) (too_many_items (read_items source (filter is_whole (items (lexemes ts)))))
             (too_many_pairs 0 (read_items source (filter is_whole (items (lexemes ts))))) (read_items source (filter is_whole (items (lexemes ts)))) sheet → IsSheet source sheet
         found n =
-            let both = (brackets_match ts (lexemes ts)).1 (refl, n.no_b) in
-            let are_items = (items_are_those_of_the_grammar (lexemes ts) (filter is_whole (items (lexemes ts))) both.1).1 refl in
+            let opened = (brackets_match ts (lexemes ts) None).1 (refl, n.no_b) in
+            let values = opened_values None 0 None (lexemes ts) opened.1 refl in
+            let are_items = (items_are_those_of_the_grammar (lexemes ts) (filter is_whole (items (lexemes ts))) values).1 refl in
             record {
               tokens = ts;
               lexemes = lexemes ts;
@@ -358,8 +357,8 @@ sheet_is source sheet h = of (by_tests source sheet h)
               short = short;
               utf8 = utf8;
               are_tokens = (tokens_are_those_of_the_grammar source true ts None).1 stream;
-              are_lexemes = both.0;
-              balanced = both.1;
+              are_lexemes = opened.0;
+              balanced = values;
               shallow = none_found is_deep (lexemes ts) (map_none (λ (x : Lexeme). x.span.start) (find is_deep (lexemes ts)) n.no_a);
               are_items = are_items;
               no_namespace = none_found (is_namespace source) (filter is_whole (items (lexemes ts)))

@@ -15,8 +15,9 @@ use Rattle.css_model.specs.declared.token.TokenKind.TheVariants as kind
 use Rattle.css_model.specs.Sheets.Sheet.{unclosed}
 use Rattle.css_model.specs.Text.Lexemes.{after, after_all, closer_of, closes, gap_of, is_sign_of, is_white_kind, lexeme, lexemes, lexemes_in, opened, opens}
 use Rattle.sheet_grammar.specs.Laws.{BracketsMatch}
-use Rattle.sheet_grammar.specs.Values.{AreLexemes, AreValues, closes_around}
+use Rattle.sheet_grammar.specs.Values.{AreLexemes, AreOpened, AreValues, closes_around}
 use Rattle.sheet_grammar.specs.Values.AreLexemes.{nothing as no_lexemes, white, more as one_more}
+use Rattle.sheet_grammar.specs.Values.AreOpened.{all_closed, left_open}
 use Rattle.sheet_grammar.specs.Values.AreValues.{nothing, single, block}
 
 -- what closes the innermost of these brackets
@@ -59,74 +60,102 @@ after_white t bs is =
 
 -- ---- what is read are values
 
--- rows of values, each up to the closer of one of these brackets, and one behind the last
-data AreClosed : List Bracket → List Lexeme → Type 0 where
-  outermost : (xs : List Lexeme) → AreValues None 0 xs → AreClosed [] xs
-  inner : (b : Bracket) (bs : List Bracket) (inside rest : List Lexeme) (y : Lexeme) → AreValues (Some b.closer) (suc (length bs)) inside → is_sign_of b.closer y.kind ≡ true
-      → y.level ≡ suc (length bs) → AreClosed bs rest → AreClosed (b ∷ bs) (inside ++ y ∷ rest)
+-- these brackets are left open, and this is where the outermost opens
+abbrev IsOutermost : List Bracket → Option ℕ → Type 0
+IsOutermost bs left = option_map (λ (b : Bracket). b.at) (last_or None bs) ≡ left
 
-with_single : (bs : List Bracket) (x : Lexeme) (xs : List Lexeme) → AreClosed bs xs → opens x.kind ≡ false → closes_around (around_of bs) x.kind ≡ false → x.level ≡ length bs
-    → AreClosed bs (x ∷ xs)
-with_single bs x xs (outermost ys are) no_open no_close level = outermost (x ∷ ys) (single None 0 x ys no_open no_close level are)
-with_single bs x xs (inner b cs inside rest y are closing deep later) no_open no_close level =
-    inner b cs (x ∷ inside) rest y (single (Some b.closer) (suc (length cs)) x inside no_open no_close level are) closing deep later
+last_push : (o : Option Bracket) (bs : List Bracket) (b : Bracket) → last_or o (bs ++ b ∷ []) ≡ Some b
+last_push o [] b = refl
+last_push o (c ∷ cs) b = last_push (Some c) cs b
 
-with_block : (bs : List Bracket) (rest : List Lexeme) → AreClosed bs rest → (c : ℕ) (x y : Lexeme) (inside : List Lexeme) → closes_around (around_of bs) x.kind ≡ false
-    → closer_of x.kind ≡ Some c → x.level ≡ length bs → AreValues (Some c) (suc (length bs)) inside → is_sign_of c y.kind ≡ true → y.level ≡ suc (length bs)
-    → AreClosed bs (x ∷ (inside ++ y ∷ rest))
-with_block bs rest (outermost ys are) c x y inside no_close opening level values closing deep =
-    outermost (x ∷ (inside ++ y ∷ ys)) (block None 0 c x y inside ys no_close opening level values closing deep are)
-with_block bs rest (inner b cs before behind z are ends deeper later) c x y inside no_close opening level values closing deep =
-    subst (λ (t : List Lexeme). AreClosed (b ∷ cs) (x ∷ t)) (append_assoc inside (y ∷ before) (z ∷ behind))
-    (inner b cs (x ∷ (inside ++ y ∷ before)) behind z
-    (block (Some b.closer) (suc (length cs)) c x y inside before no_close opening level values closing deep are) ends deeper later)
+-- rows of values inside these brackets: each up to the closer of one of them, and one up to the end, where these are left
+data AreIn : List Bracket → List Lexeme → List Bracket → Type 0 where
+  at_end : (bs : List Bracket) (xs : List Lexeme) (ends inner : List Bracket) (left : Option ℕ) → AreOpened (around_of bs) (length bs) left xs → ends ≡ inner ++ bs
+      → IsOutermost inner left → AreIn bs xs ends
+  shuts : (b : Bracket) (bs : List Bracket) (inside rest : List Lexeme) (y : Lexeme) (ends : List Bracket) → AreValues (Some b.closer) (suc (length bs)) inside
+      → is_sign_of b.closer y.kind ≡ true → y.level ≡ suc (length bs) → AreIn bs rest ends → AreIn (b ∷ bs) (inside ++ y ∷ rest) ends
 
--- a bracket that is open, and what follows its closer
-open_block : (bs : List Bracket) (c at : ℕ) (xs : List Lexeme) → AreClosed (record { closer = c; at = at } ∷ bs) xs → (x : Lexeme) → closes_around (around_of bs) x.kind ≡ false
-    → closer_of x.kind ≡ Some c → x.level ≡ length bs → AreClosed bs (x ∷ xs)
-open_block bs c at xs (inner b cs inside rest y are closing deep later) x no_close opening level = with_block bs rest later c x y inside no_close opening level are closing deep
+opened_single : (around : Option ℕ) (depth : ℕ) (left : Option ℕ) (xs : List Lexeme) → AreOpened around depth left xs → (x : Lexeme) → opens x.kind ≡ false
+    → closes_around around x.kind ≡ false → x.level ≡ depth → AreOpened around depth left (x ∷ xs)
+opened_single around depth left xs (all_closed a d ys are) x no_open no_close level = all_closed a d (x ∷ ys) (single a d x ys no_open no_close level are)
+opened_single around depth left xs (left_open a d c more y before inside are apart opening deep later) x no_open no_close level =
+    left_open a d c more y (x ∷ before) inside (single a d x before no_open no_close level are) apart opening deep later
 
-values_in : (ts : List Token) (bs : List Bracket) → after_all bs ts ≡ [] → AreClosed bs (lexemes_in bs ts)
-values_in [] bs e = subst (λ (b : List Bracket). AreClosed b []) (sym e) (outermost [] (nothing None 0))
-values_in (t ∷ ts) bs e =
-    by (is_white_kind t.kind) refl (λ (bs : List Bracket) (e : after_all bs ts ≡ []). values_in ts bs e)
+opened_block : (around : Option ℕ) (depth : ℕ) (left : Option ℕ) (xs : List Lexeme) → AreOpened around depth left xs → (c : ℕ) (x y : Lexeme) (inside : List Lexeme)
+    → closes_around around x.kind ≡ false → closer_of x.kind ≡ Some c → x.level ≡ depth → AreValues (Some c) (suc depth) inside → is_sign_of c y.kind ≡ true → y.level ≡ suc depth
+    → AreOpened around depth left (x ∷ (inside ++ y ∷ xs))
+opened_block around depth left xs (all_closed a d ys are) c x y inside no_close opening level values shut deep =
+    all_closed a d (x ∷ (inside ++ y ∷ ys)) (block a d c x y inside ys no_close opening level values shut deep are)
+opened_block around depth left xs (left_open a d k more z before behind are apart opens_it deeper later) c x y inside no_close opening level values shut deep =
+    subst (λ (t : List Lexeme). AreOpened a d (Some z.span.start) (x ∷ t)) (append_assoc inside (y ∷ before) (z ∷ behind))
+    (left_open a d k more z (x ∷ (inside ++ y ∷ before)) behind (block a d c x y inside before no_close opening level values shut deep are) apart opens_it deeper later)
+
+with_single : (bs : List Bracket) (xs : List Lexeme) (ends : List Bracket) → AreIn bs xs ends → (x : Lexeme) → opens x.kind ≡ false → closes_around (around_of bs) x.kind ≡ false
+    → x.level ≡ length bs → AreIn bs (x ∷ xs) ends
+with_single bs xs ends (at_end cs ys es inner left are e outermost) x no_open no_close level =
+    at_end cs (x ∷ ys) es inner left (opened_single (around_of cs) (length cs) left ys are x no_open no_close level) e outermost
+with_single bs xs ends (shuts b cs inside rest y es are shut deep later) x no_open no_close level =
+    shuts b cs (x ∷ inside) rest y es (single (Some b.closer) (suc (length cs)) x inside no_open no_close level are) shut deep later
+
+with_block : (bs : List Bracket) (rest : List Lexeme) (ends : List Bracket) → AreIn bs rest ends → (c : ℕ) (x y : Lexeme) (inside : List Lexeme)
+    → closes_around (around_of bs) x.kind ≡ false → closer_of x.kind ≡ Some c → x.level ≡ length bs → AreValues (Some c) (suc (length bs)) inside → is_sign_of c y.kind ≡ true
+    → y.level ≡ suc (length bs) → AreIn bs (x ∷ (inside ++ y ∷ rest)) ends
+with_block bs rest ends (at_end cs ys es inner left are e outermost) c x y inside no_close opening level values shut deep =
+    at_end cs (x ∷ (inside ++ y ∷ ys)) es inner left (opened_block (around_of cs) (length cs) left ys are c x y inside no_close opening level values shut deep) e outermost
+with_block bs rest ends (shuts b cs before behind z es are closer deeper later) c x y inside no_close opening level values shut deep =
+    subst (λ (t : List Lexeme). AreIn (b ∷ cs) (x ∷ t) es) (append_assoc inside (y ∷ before) (z ∷ behind))
+    (shuts b cs (x ∷ (inside ++ y ∷ before)) behind z es
+    (block (Some b.closer) (suc (length cs)) c x y inside before no_close opening level values shut deep are) closer deeper later)
+
+-- a bracket that opens
+open_block : (bs : List Bracket) (c at : ℕ) (xs : List Lexeme) (ends : List Bracket) → AreIn (record { closer = c; at = at } ∷ bs) xs ends → (x : Lexeme)
+    → closes_around (around_of bs) x.kind ≡ false → closer_of x.kind ≡ Some c → x.level ≡ length bs → x.span.start ≡ at → AreIn bs (x ∷ xs) ends
+open_block bs c at xs ends (shuts b cs inside rest y es are shut deep later) x no_close opening level place = with_block bs rest es later c x y inside no_close opening level are shut deep
+open_block bs c at xs ends (at_end cs ys es inner left are e outermost) x no_close opening level place =
+    at_end bs (x ∷ ys) es (inner ++ record { closer = c; at = at } ∷ []) (Some x.span.start)
+    (left_open (around_of bs) (length bs) c left x [] ys (nothing (around_of bs) (length bs)) no_close opening level are)
+    (e ∙ sym (append_assoc inner (record { closer = c; at = at } ∷ []) bs))
+    (ap (option_map (λ (b : Bracket). b.at)) (last_push None inner (record { closer = c; at = at })) ∙ ap (λ (n : ℕ). Some n) (sym place))
+
+values_in : (ts : List Token) (bs : List Bracket) → AreIn bs (lexemes_in bs ts) (after_all bs ts)
+values_in [] bs = at_end bs [] bs [] None (all_closed (around_of bs) (length bs) [] (nothing (around_of bs) (length bs))) refl refl
+values_in (t ∷ ts) bs = by (is_white_kind t.kind) refl (λ (bs : List Bracket). values_in ts bs)
   where
     shown : (b : Bool) → is_white_kind t.kind ≡ b → lexemes_in bs (t ∷ ts) ≡ cond b (lexemes_in bs ts) (lexeme (length bs) t ts ∷ lexemes_in (after t bs) ts)
     shown b is = ap (λ (b : Bool). cond b (lexemes_in bs ts) (lexeme (length bs) t ts ∷ lexemes_in (after t bs) ts)) is
 
-    -- the first lexeme before what is left
-    first : (left : List Bracket) → after t bs ≡ left → ((bs : List Bracket) → after_all bs ts ≡ [] → AreClosed bs (lexemes_in bs ts)) → AreClosed left (lexemes_in (after t bs) ts)
-    first left is later =
-        subst (λ (b : List Bracket). AreClosed left (lexemes_in b ts)) (sym is) (later left (ap (λ (b : List Bracket). after_all b ts) (sym is) ∙ e))
+    -- what is left after the first lexeme
+    moved : (left : List Bracket) → after t bs ≡ left → AreIn left (lexemes_in left ts) (after_all left ts) → AreIn left (lexemes_in (after t bs) ts) (after_all (after t bs) ts)
+    moved left is later = subst (λ (b : List Bracket). AreIn left (lexemes_in b ts) (after_all b ts)) (sym is) later
 
-    opening : closes t.kind bs ≡ false → (o : Option ℕ) → closer_of t.kind ≡ o → ((bs : List Bracket) → after_all bs ts ≡ [] → AreClosed bs (lexemes_in bs ts))
-        → AreClosed bs (lexeme (length bs) t ts ∷ lexemes_in (after t bs) ts)
+    opening : closes t.kind bs ≡ false → (o : Option ℕ) → closer_of t.kind ≡ o → ((bs : List Bracket) → AreIn bs (lexemes_in bs ts) (after_all bs ts))
+        → AreIn bs (lexeme (length bs) t ts ∷ lexemes_in (after t bs) ts) (after_all (after t bs) ts)
     opening no_close None is later =
-        with_single bs (lexeme (length bs) t ts) (lexemes_in (after t bs) ts) (first bs (after_none t.kind t.span.start bs no_close is) later) (ap is_some is)
+        with_single bs (lexemes_in (after t bs) ts) (after_all (after t bs) ts) (moved bs (after_none t.kind t.span.start bs no_close is) (later bs)) (lexeme (length bs) t ts) (ap is_some is)
         (sym (closes_is t.kind bs) ∙ no_close) refl
     opening no_close (Some c) is later =
-        open_block bs c t.span.start (lexemes_in (after t bs) ts) (first (record { closer = c; at = t.span.start } ∷ bs) (after_some t.kind t.span.start c bs no_close is) later)
-        (lexeme (length bs) t ts) (sym (closes_is t.kind bs) ∙ no_close) is refl
+        let left : List Bracket = record { closer = c; at = t.span.start } ∷ bs in
+        open_block bs c t.span.start (lexemes_in (after t bs) ts) (after_all (after t bs) ts) (moved left (after_some t.kind t.span.start c bs no_close is) (later left)) (lexeme (length bs) t ts)
+        (sym (closes_is t.kind bs) ∙ no_close) is refl refl
 
-    closing : (cs : List Bracket) → bs ≡ cs → closes t.kind cs ≡ true → ((bs : List Bracket) → after_all bs ts ≡ [] → AreClosed bs (lexemes_in bs ts))
-        → AreClosed cs (lexeme (length cs) t ts ∷ lexemes_in (after t cs) ts)
-    closing [] same is later = absurd (false≢true is)
-    closing (b ∷ cs) same is later =
+    shutting : (cs : List Bracket) → bs ≡ cs → closes t.kind cs ≡ true → ((bs : List Bracket) → AreIn bs (lexemes_in bs ts) (after_all bs ts))
+        → AreIn cs (lexeme (length cs) t ts ∷ lexemes_in (after t cs) ts) (after_all (after t cs) ts)
+    shutting [] same is later = absurd (false≢true is)
+    shutting (b ∷ cs) same is later =
         let left : after t (b ∷ cs) ≡ cs = after_close t.kind t.span.start b cs is in
-        let ends : after_all cs ts ≡ [] = ap (λ (b : List Bracket). after_all b ts) (sym left) ∙ (ap (λ (b : List Bracket). after_all (after t b) ts) (sym same) ∙ e) in
-        subst (λ (d : List Bracket). AreClosed (b ∷ cs) (lexeme (length (b ∷ cs)) t ts ∷ lexemes_in d ts)) (sym left)
-        (inner b cs [] (lexemes_in cs ts) (lexeme (length (b ∷ cs)) t ts) (nothing (Some b.closer) (suc (length cs))) is refl (later cs ends))
+        subst (λ (d : List Bracket). AreIn (b ∷ cs) (lexeme (length (b ∷ cs)) t ts ∷ lexemes_in d ts) (after_all d ts)) (sym left)
+        (shuts b cs [] (lexemes_in cs ts) (lexeme (length (b ∷ cs)) t ts) (after_all cs ts) (nothing (Some b.closer) (suc (length cs))) is refl (later cs))
 
-    closed : (b : Bool) → closes t.kind bs ≡ b → ((bs : List Bracket) → after_all bs ts ≡ [] → AreClosed bs (lexemes_in bs ts))
-        → AreClosed bs (lexeme (length bs) t ts ∷ lexemes_in (after t bs) ts)
-    closed true is later = closing bs refl is later
-    closed false is later = opening is (closer_of t.kind) refl later
+    shut : (b : Bool) → closes t.kind bs ≡ b → ((bs : List Bracket) → AreIn bs (lexemes_in bs ts) (after_all bs ts))
+        → AreIn bs (lexeme (length bs) t ts ∷ lexemes_in (after t bs) ts) (after_all (after t bs) ts)
+    shut true is later = shutting bs refl is later
+    shut false is later = opening is (closer_of t.kind) refl later
 
-    by : (b : Bool) → is_white_kind t.kind ≡ b → ((bs : List Bracket) → after_all bs ts ≡ [] → AreClosed bs (lexemes_in bs ts)) → AreClosed bs (lexemes_in bs (t ∷ ts))
+    by : (b : Bool) → is_white_kind t.kind ≡ b → ((bs : List Bracket) → AreIn bs (lexemes_in bs ts) (after_all bs ts)) → AreIn bs (lexemes_in bs (t ∷ ts)) (after_all bs (t ∷ ts))
     by true is later =
         let same = after_white t bs is in
-        subst (AreClosed bs) (sym (shown true is)) (later bs (ap (λ (b : List Bracket). after_all b ts) (sym same) ∙ e))
-    by false is later = subst (AreClosed bs) (sym (shown false is)) (closed (closes t.kind bs) refl later)
+        subst (λ (xs : List Lexeme). AreIn bs xs (after_all (after t bs) ts)) (sym (shown true is)) (subst (λ (b : List Bracket). AreIn bs (lexemes_in bs ts) (after_all b ts)) (sym same) (later bs))
+    by false is later = subst (λ (xs : List Lexeme). AreIn bs xs (after_all (after t bs) ts)) (sym (shown false is)) (shut (closes t.kind bs) refl later)
 
 -- ---- values are what is read
 
@@ -266,28 +295,65 @@ nothing_left ts xs (white t us zs is later) e bs =
     (ap (λ (b : Bool). cond b (lexemes_in bs us) (lexeme (length bs) t us ∷ lexemes_in (after t bs) us)) is ∙ rest.0, ap (λ (b : List Bracket). after_all b us) same ∙ rest.1)
 nothing_left ts xs (one_more t x us zs is k s g w later) e bs = absurd (cc (e))
 
--- the outermost open bracket
-last_some : (b : Option Bracket) (bs : List Bracket) → option_map (λ (b : Bracket). b.at) (last_or b bs) ≡ None → bs ≡ []
-last_some b [] e = refl
-last_some b (c ∷ []) e = absurd (cc (e))
-last_some b (c ∷ d ∷ ds) e = let none = last_some (Some c) (d ∷ ds) e in absurd (cc (none))
+-- a row up to the end is read, and leaves its brackets open
+record IsReadUp (ts : List Token) (bs : List Bracket) (left : Option ℕ) (xs : List Lexeme) : Type 0 where
+  inner : List Bracket
+  reads : lexemes_in bs ts ≡ xs
+  ends : after_all bs ts ≡ inner ++ bs
+  outermost : IsOutermost inner left
+
+opened_read : (around : Option ℕ) (depth : ℕ) (left : Option ℕ) (xs : List Lexeme) → AreOpened around depth left xs → (bs : List Bracket) → around_of bs ≡ around → length bs ≡ depth
+    → (ts : List Token) → AreLexemes ts xs → IsReadUp ts bs left xs
+opened_read around depth left xs (all_closed a d ys values) bs same deep ts are =
+    let r = values_read a d ys values bs same deep ts [] (subst (AreLexemes ts) (sym (append-nil ys)) are) in
+    let rest = nothing_left r.left [] r.are refl bs in
+    record { inner = []; reads = r.reads ∙ (ap (λ (t : List Lexeme). ys ++ t) rest.0 ∙ append-nil ys); ends = r.ends ∙ rest.1; outermost = refl }
+opened_read around depth left xs (left_open a d c more x before inside values no_close opening level later) bs same deep ts are =
+    of (values_read a d before values bs same deep ts (x ∷ inside) are)
+    (λ (cs : List Bracket) (around_is : around_of cs ≡ Some c) (deep_is : length cs ≡ suc d) (ts : List Token) (are : AreLexemes ts inside). opened_read (Some c) (suc d) more inside later cs around_is deep_is ts are)
+  where
+    of : IsReadOf ts bs before (x ∷ inside) → ((cs : List Bracket) → around_of cs ≡ Some c → length cs ≡ suc d → (ts : List Token) → AreLexemes ts inside → IsReadUp ts cs more inside)
+        → IsReadUp ts bs (Some x.span.start) (before ++ x ∷ inside)
+    of r inside_read =
+        let f = first_of_lexemes r.left (x ∷ inside) r.are bs x inside refl in
+        let no_close_there : closes f.token.kind bs ≡ false =
+        closes_is f.token.kind bs ∙ (ap (λ (o : Option ℕ). closes_around o f.token.kind) same ∙ (ap (closes_around a) (sym f.same_kind) ∙ no_close)) in
+        let some : closer_of f.token.kind ≡ Some c = ap closer_of (sym f.same_kind) ∙ opening in
+        let b : Bracket = record { closer = c; at = f.token.span.start } in
+        let grows : after f.token bs ≡ b ∷ bs = after_some f.token.kind f.token.span.start c bs no_close_there some in
+        let u = inside_read (b ∷ bs) refl (ap suc deep) f.left f.are in
+        let place : f.token.span.start ≡ x.span.start = ap (λ (y : Lexeme). y.span.start) (sym f.is) in
+        let rest : lexemes_in bs r.left ≡ x ∷ inside =
+        f.reads
+        ∙ (ap (λ (t : List Bracket). lexeme (length bs) f.token f.left ∷ lexemes_in t f.left) grows
+        ∙ (ap (λ (z : Lexeme). z ∷ lexemes_in (b ∷ bs) f.left) (lexeme_at (length bs) d f.token f.left x f.is level deep) ∙ ap (λ (t : List Lexeme). x ∷ t) u.reads)) in
+        record {
+          inner = u.inner ++ b ∷ [];
+          reads = r.reads ∙ ap (λ (t : List Lexeme). before ++ t) rest;
+          ends = r.ends ∙ (f.ends ∙ (ap (λ (t : List Bracket). after_all t f.left) grows ∙ (u.ends ∙ sym (append_assoc u.inner (b ∷ []) bs))));
+          outermost = ap (option_map (λ (b : Bracket). b.at)) (last_push None u.inner b) ∙ ap (λ (n : ℕ). Some n) place;
+        }
 
 pub brackets_match : BracketsMatch
-brackets_match ts xs = (there, back)
+brackets_match ts xs left = (there, back)
   where
-    there : AreLexemes ts xs × AreValues None 0 xs → (lexemes ts ≡ xs) × (unclosed ts ≡ None)
+    there : AreLexemes ts xs × AreOpened None 0 left xs → (lexemes ts ≡ xs) × (unclosed ts ≡ left)
     there both =
-        let all = subst (AreLexemes ts) (sym (append-nil xs)) both.0 in
-        let r = values_read None 0 xs both.1 [] refl refl ts [] all in
-        let rest = nothing_left r.left [] r.are refl [] in (
-          r.reads ∙ (ap (λ (t : List Lexeme). xs ++ t) rest.0 ∙ append-nil xs),
-          ap (λ (b : List Bracket). option_map (λ (b : Bracket). b.at) (last_or None b)) (r.ends ∙ rest.1),
-        )
+        let u = opened_read None 0 left xs both.1 [] refl refl ts both.0 in
+        (u.reads, ap (λ (b : List Bracket). option_map (λ (b : Bracket). b.at) (last_or None b)) (u.ends ∙ append-nil u.inner) ∙ u.outermost)
 
-    outer : (xs : List Lexeme) → AreClosed [] xs → AreValues None 0 xs
-    outer xs (outermost ys are) = are
+    outer : (ys : List Lexeme) (ends : List Bracket) → AreIn [] ys ends → AreOpened None 0 (option_map (λ (b : Bracket). b.at) (last_or None ends)) ys
+    outer ys ends (at_end cs zs es inner found are e outermost) =
+        let same : option_map (λ (b : Bracket). b.at) (last_or None es) ≡ found = ap (λ (b : List Bracket). option_map (λ (b : Bracket). b.at) (last_or None b)) (e ∙ append-nil inner) ∙ outermost in
+        subst (λ (o : Option ℕ). AreOpened None 0 o zs) (sym same) are
 
-    back : (lexemes ts ≡ xs) × (unclosed ts ≡ None) → AreLexemes ts xs × AreValues None 0 xs
-    back both =
-        let closed = last_some None (after_all [] ts) both.1 in
-        (subst (AreLexemes ts) both.0 (are_lexemes ts []), subst (AreValues None 0) both.0 (outer (lexemes ts) (values_in ts [] closed)))
+    back : (lexemes ts ≡ xs) × (unclosed ts ≡ left) → AreLexemes ts xs × AreOpened None 0 left xs
+    back both = (
+      subst (AreLexemes ts) both.0 (are_lexemes ts []),
+      subst (λ (o : Option ℕ). AreOpened None 0 o xs) both.1 (subst (AreOpened None 0 (unclosed ts)) both.0 (outer (lexemes ts) (after_all [] ts) (values_in ts []))),
+    )
+
+-- tokens that leave no bracket open are values
+pub opened_values : (around : Option ℕ) (depth : ℕ) (left : Option ℕ) (xs : List Lexeme) → AreOpened around depth left xs → left ≡ None → AreValues around depth xs
+opened_values around depth left xs (all_closed a d ys are) e = are
+opened_values around depth left xs (left_open a d c more x before inside are no_close opening level later) e = absurd (cc (e))

@@ -1,5 +1,5 @@
 -- What it is for items to be the sheet of a source (CSS Syntax 3, sections 5.3.3 and 5.4.1, and this tool's profile).
-use Rattle.std.specs.Prelude.{ℕ, ◌≡◌, ◌≤◌, ◌==◌, ◌&&◌, true, false, List, [], ◌∷◌, ◌++◌, length, Option, Some, None}
+use Rattle.std.specs.Prelude.{ℕ, ◌≡◌, ◌≤◌, ◌==◌, ◌&&◌, Bool, true, false, List, [], ◌∷◌, ◌++◌, length, Option, Some, None}
 use Rattle.std.specs.List.{list_any, sum_by}
 use Rattle.std.specs.Str.{IsUtf8}
 use Rattle.css_model.specs.declared.sheet.DeclItem.{DeclItem}
@@ -39,6 +39,10 @@ pub data AreRead (source : List ℕ) : List (List Lexeme) → List Item → Type
       → AreRead source (item ∷ later) (x ∷ xs)
   dropped : (item : List Lexeme) (later : List (List Lexeme)) (xs : List Item) → IsRead source item later None → AreRead source later xs → AreRead source (item ∷ later) xs
 
+-- a bracket that opens where no more may
+abbrev pub is_deep : Lexeme → Bool
+is_deep x = opens x.kind && x.level == max_depth
+
 -- the sheet of a source: its tokens are values, its items are theirs, and it is within the limits of this tool
 pub record IsSheet (source : List ℕ) (sheet : List Item) : Type 0 where
   pub tokens : List Token
@@ -49,7 +53,7 @@ pub record IsSheet (source : List ℕ) (sheet : List Item) : Type 0 where
   pub are_tokens : AreTheTokensOf source true tokens None
   pub are_lexemes : AreLexemes tokens lexemes
   pub balanced : AreValues None 0 lexemes
-  pub shallow : list_any (λ x. opens x.kind && x.level == max_depth) lexemes ≡ false
+  pub shallow : list_any is_deep lexemes ≡ false
   pub are_items : AreItems lexemes items
   pub no_namespace : list_any (is_namespace source) items ≡ false
   pub are_read : AreRead source items sheet

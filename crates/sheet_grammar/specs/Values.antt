@@ -28,10 +28,10 @@ pub data AreValues : Option ℕ → ℕ → List Lexeme → Type 0 where
       → x.level ≡ depth → AreValues (Some c) (suc depth) inside → is_sign_of c y.kind ≡ true → y.level ≡ suc depth → AreValues around depth rest
       → AreValues around depth (x ∷ (inside ++ y ∷ rest))
 
--- A row that lacks the closer of an outermost bracket: values, and one that opens a bracket in which values follow up to
--- the end, or which lacks another closer.
-pub data IsUnclosed : Option ℕ → ℕ → Lexeme → List Lexeme → Type 0 where
-  open_ended : (around : Option ℕ) (depth c : ℕ) (x : Lexeme) (before inside : List Lexeme) → AreValues around depth before → closes_around around x.kind ≡ false
-      → closer_of x.kind ≡ Some c → x.level ≡ depth → AreValues (Some c) (suc depth) inside → IsUnclosed around depth x (before ++ x ∷ inside)
-  deeper : (around : Option ℕ) (depth c : ℕ) (x y : Lexeme) (before inside : List Lexeme) → AreValues around depth before → closes_around around x.kind ≡ false
-      → closer_of x.kind ≡ Some c → x.level ≡ depth → IsUnclosed (Some c) (suc depth) y inside → IsUnclosed around depth x (before ++ x ∷ inside)
+-- A row of values up to the end, of which the last may be a bracket that is left open. Then this is where it opens, and what
+-- follows it is such a row inside it.
+pub data AreOpened : Option ℕ → ℕ → Option ℕ → List Lexeme → Type 0 where
+  all_closed : (around : Option ℕ) (depth : ℕ) (xs : List Lexeme) → AreValues around depth xs → AreOpened around depth None xs
+  left_open : (around : Option ℕ) (depth c : ℕ) (left : Option ℕ) (x : Lexeme) (before inside : List Lexeme) → AreValues around depth before
+      → closes_around around x.kind ≡ false → closer_of x.kind ≡ Some c → x.level ≡ depth → AreOpened (Some c) (suc depth) left inside
+      → AreOpened around depth (Some x.span.start) (before ++ x ∷ inside)

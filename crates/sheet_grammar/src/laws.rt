@@ -1,8 +1,8 @@
 //! The laws. They do nothing when they run.
 
-ghost use Rattle.sheet_grammar.specs.Laws.{BracketsMatch, ItemsAreThoseOfTheGrammar, SheetsAreThoseOfTheGrammar};
+ghost use Rattle.sheet_grammar.specs.Laws.{BracketsMatch, FaultsAreThoseOfTheGrammar, ItemsAreThoseOfTheGrammar, SheetsAreThoseOfTheGrammar};
 
-/// Tokens with the depths of the brackets around them are those that are read, exactly where all brackets match.
+/// The depths of tokens are those of the grammar, and the bracket that is left open, if any, is the one that is found.
 pub fn brackets_match()
     ensures { BracketsMatch }
 {}
@@ -15,4 +15,9 @@ pub fn items_are_those_of_the_grammar()
 /// A source is read as a sheet exactly if it is that by the grammar of CSS Syntax 3 and within the limits of this tool.
 pub fn sheets_are_those_of_the_grammar()
     ensures { SheetsAreThoseOfTheGrammar }
+{}
+
+/// A source has a fault exactly if it has that by the grammar.
+pub fn faults_are_those_of_the_grammar()
+    ensures { FaultsAreThoseOfTheGrammar }
 {}

@@ -5,4 +5,7 @@
 
 mod laws;
 
-pub use laws::{brackets_match, items_are_those_of_the_grammar, sheets_are_those_of_the_grammar};
+pub use laws::{
+    brackets_match, faults_are_those_of_the_grammar, items_are_those_of_the_grammar,
+    sheets_are_those_of_the_grammar,
+};
