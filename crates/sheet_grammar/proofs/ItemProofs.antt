@@ -40,7 +40,7 @@ without_block prelude some flag p =
     let none : is_whole prelude ≡ false = or_from (is_at_rule prelude) (list_any opens_block prelude) flag (no_block (is_at_rule prelude) prelude p.apart) in
     ap (filter is_whole) step ∙ ap (λ (b : Bool). let t : List (List Lexeme) = cond b (prelude ∷ []) [] in t) none
 
-items_read : (xs : List Lexeme) (found : List (List Lexeme)) → AreItems xs found → filter is_whole (items xs) ≡ found
+pub items_read : (xs : List Lexeme) (found : List (List Lexeme)) → AreItems xs found → filter is_whole (items xs) ≡ found
 items_read xs found no_items = refl
 items_read xs found (skipped x rest others is later) = ap (filter is_whole) (between_step x rest is) ∙ items_read rest others later
 items_read xs found (at_rule item rest others is later) = with_item item rest others (at_rule_fact item rest is) (items_read rest others later)

@@ -1,4 +1,5 @@
 mod EntryProofs
+mod Examples
 mod FaultProofs
 mod ItemLemmas
 mod ItemProofs
