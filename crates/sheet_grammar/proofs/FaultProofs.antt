@@ -20,6 +20,7 @@ use Rattle.css_model.specs.Sheets.Sheet.{is_namespace, namespace_at, pairs_of, r
 use Rattle.css_model.specs.Text.Lexemes.{lexemes, piece_of}
 use Rattle.css_model.specs.Text.Tokens.{Stream, tokens}
 use Rattle.css_tokens.proofs.ForCallers.{not_utf8_longer, whole_is_utf8}
+use Rattle.selector_laws.specs.Grammar.{SelectorsAreReadExactly}
 use Rattle.token_grammar.proofs.ForCallers.{tokens_are_those_of_the_grammar}
 use Rattle.sheet_grammar.specs.Faults.{IsFault, IsFaultOfTokens, IsFirst}
 use Rattle.sheet_grammar.specs.Faults.IsFault.{too_long, not_utf8, in_token, of_tokens}
@@ -130,7 +131,7 @@ judged_same a b c d e a' b' c' d' e' read p q r s t =
     ∙ (ap (λ (o : Option ℕ). judged a' b' o d e read) r
     ∙ (ap (λ (o : Option ℕ). judged a' b' c' o e read) s ∙ ap (λ (o : Option ℕ). judged a' b' c' d' o read) t)))
 
-module _ (source : List ℕ) (ts : List Token) where
+module _ (exact : SelectorsAreReadExactly) (source : List ℕ) (ts : List Token) where
   -- the tests of tokens
   abbrev judged_here : Result (List Item) SheetFault
   judged_here =
@@ -169,13 +170,13 @@ module _ (source : List ℕ) (ts : List Token) where
       ∙ ap (option_map (λ (item : List Lexeme). (piece_of item).start)) (found_first (is_namespace source) found item is)) refl refl
   tokens_judged xs left f same open_is opened (has_too_many_items found before after x none e are apart are_read size) =
       let read : read_items source (filter is_whole (items (lexemes ts))) ≡ before ++ x ∷ after =
-      ap (read_items source) (raw_is xs left found same opened e are) ∙ items_read_as source found (before ++ x ∷ after) are_read in
+      ap (read_items source) (raw_is xs left found same opened e are) ∙ items_read_as exact source found (before ++ x ∷ after) are_read in
       here_is None None None (Some (start_of x)) (too_many_pairs 0 (read_items source (filter is_whole (items (lexemes ts))))) (shallow_none xs same none) (open_is ∙ e)
       (ap (namespace_at source) (raw_is xs left found same opened e are) ∙ ap (option_map (λ (item : List Lexeme). (piece_of item).start)) (find_none (is_namespace source) found apart))
       (ap too_many_items read ∙ ap (option_map start_of) (get_at before after x max_items size)) refl
   tokens_judged xs left f same open_is opened (has_too_many_pairs found before after x none e are apart are_read short few many) =
       let read : read_items source (filter is_whole (items (lexemes ts))) ≡ before ++ x ∷ after =
-      ap (read_items source) (raw_is xs left found same opened e are) ∙ items_read_as source found (before ++ x ∷ after) are_read in
+      ap (read_items source) (raw_is xs left found same opened e are) ∙ items_read_as exact source found (before ++ x ∷ after) are_read in
       here_is None None None None (Some (start_of x)) (shallow_none xs same none) (open_is ∙ e)
       (ap (namespace_at source) (raw_is xs left found same opened e are) ∙ ap (option_map (λ (item : List Lexeme). (piece_of item).start)) (find_none (is_namespace source) found apart))
       (ap too_many_items read ∙ ap (option_map start_of) (get_past (before ++ x ∷ after) max_items short)) (ap (too_many_pairs 0) read ∙ many_pairs 0 before after x few many)
@@ -222,13 +223,13 @@ module _ (source : List ℕ) (ts : List Token) where
       let same : made fault_kind.TooManyItems n ≡ f = cc (h) in
       let m = map_some start_of (slice_get (read_items source (filter is_whole (items (lexemes ts)))) max_items) n s in
       let a = at_get (read_items source (filter is_whole (items (lexemes ts)))) max_items m.0 m.1 in
-      let read = subst (AreRead source (filter is_whole (items (lexemes ts)))) a.joined (items_are_read source (lexemes ts) (filter is_whole (items (lexemes ts))) (raw_items q)) in
+      let read = subst (AreRead source (filter is_whole (items (lexemes ts)))) a.joined (items_are_read exact source (lexemes ts) (filter is_whole (items (lexemes ts))) (raw_items q)) in
       placed fault_kind.TooManyItems (start_of m.0) n m.2
       (has_too_many_items (filter is_whole (items (lexemes ts))) a.before a.after m.0 (no_deep p) q (raw_items q) (no_namespace r) read a.size) f same
   judged_fault None None None None (Some n) p q r s t f h =
       let same : made fault_kind.TooManyPairs n ≡ f = cc (h) in
       let m = pairs_many 0 (read_items source (filter is_whole (items (lexemes ts)))) n (omega arith) t in
-      let read = subst (AreRead source (filter is_whole (items (lexemes ts)))) m.joined (items_are_read source (lexemes ts) (filter is_whole (items (lexemes ts))) (raw_items q)) in
+      let read = subst (AreRead source (filter is_whole (items (lexemes ts)))) m.joined (items_are_read exact source (lexemes ts) (filter is_whole (items (lexemes ts))) (raw_items q)) in
       let short = past_get (read_items source (filter is_whole (items (lexemes ts)))) max_items (map_none start_of (slice_get (read_items source (filter is_whole (items (lexemes ts)))) max_items) s) in
       placed fault_kind.TooManyPairs (start_of m.item) n m.place
       (has_too_many_pairs (filter is_whole (items (lexemes ts))) m.before m.after m.item (no_deep p) q (raw_items q) (no_namespace r) read
@@ -237,35 +238,35 @@ module _ (source : List ℕ) (ts : List Token) where
 
 -- ---- sources
 
-fault_read : (source : List ℕ) (f : SheetFault) → IsFault source f → sheet_of source ≡ Err f
-fault_read source f (too_long long) =
+fault_read : SelectorsAreReadExactly → (source : List ℕ) (f : SheetFault) → IsFault source f → sheet_of source ≡ Err f
+fault_read exact source f (too_long long) =
     ap
     (λ (b : Bool). cond b (Err (made fault_kind.TooLong max_bytes))
     (cond (ltb (utf8_valid_len source) (length source)) (Err (made fault_kind.NotUtf8 (utf8_valid_len source)))
     (sheet_of_stream source (tokens source true).fault (tokens source true).tokens)))
     (lt-ltb max_bytes (length source) long)
-fault_read source f (not_utf8 short invalid) =
+fault_read exact source f (not_utf8 short invalid) =
     short_or source _ _ short
     ∙ ap
     (λ (b : Bool). cond b (Err (made fault_kind.NotUtf8 (utf8_valid_len source))) (sheet_of_stream source (tokens source true).fault (tokens source true).tokens))
     (lt-ltb (utf8_valid_len source) (length source) (not_utf8_longer source invalid))
-fault_read source f (in_token ts g short utf8 are) =
+fault_read exact source f (in_token ts g short utf8 are) =
     short_or source _ _ short
     ∙ (utf8_or source _ _ utf8 ∙ ap (λ (t : Stream). sheet_of_stream source t.fault t.tokens) ((tokens_are_those_of_the_grammar source true ts (Some g)).0 are))
-fault_read source f (of_tokens ts xs left g short utf8 are lexed opened fault) =
+fault_read exact source f (of_tokens ts xs left g short utf8 are lexed opened fault) =
     let two = (brackets_match ts xs left).0 (lexed, opened) in
     short_or source _ _ short
     ∙ (utf8_or source _ _ utf8
-    ∙ (ap (λ (t : Stream). sheet_of_stream source t.fault t.tokens) ((tokens_are_those_of_the_grammar source true ts None).0 are) ∙ tokens_judged source ts xs left g two.0 two.1 opened fault))
+    ∙ (ap (λ (t : Stream). sheet_of_stream source t.fault t.tokens) ((tokens_are_those_of_the_grammar source true ts None).0 are) ∙ tokens_judged exact source ts xs left g two.0 two.1 opened fault))
 
-fault_is : (source : List ℕ) (f : SheetFault) → sheet_of source ≡ Err f → IsFault source f
-fault_is source f h = by (ltb max_bytes (length source)) refl (ltb (utf8_valid_len source) (length source)) refl h
+fault_is : SelectorsAreReadExactly → (source : List ℕ) (f : SheetFault) → sheet_of source ≡ Err f → IsFault source f
+fault_is exact source f h = by (ltb max_bytes (length source)) refl (ltb (utf8_valid_len source) (length source)) refl h
   where
     with_tokens : length source ≤ max_bytes → IsUtf8 source → (ts : List Token) → tokens source true ≡ record { tokens = ts; fault = None } → sheet_of_tokens source ts ≡ Err f → IsFault source f
     with_tokens short utf8 ts stream e =
         let both = (brackets_match ts (lexemes ts) (unclosed ts)).1 (refl, refl) in
         of_tokens ts (lexemes ts) (unclosed ts) f short utf8 ((tokens_are_those_of_the_grammar source true ts None).1 stream) both.0 both.1
-        (judged_fault source ts (too_deep (lexemes ts)) (unclosed ts) (namespace_at source (filter is_whole (items (lexemes ts))))
+        (judged_fault exact source ts (too_deep (lexemes ts)) (unclosed ts) (namespace_at source (filter is_whole (items (lexemes ts))))
         (too_many_items (read_items source (filter is_whole (items (lexemes ts))))) (too_many_pairs 0 (read_items source (filter is_whole (items (lexemes ts))))) refl refl refl refl refl f e)
 
     with_stream : length source ≤ max_bytes → IsUtf8 source → (g : Option TokenFault) → (tokens source true).fault ≡ g → sheet_of_stream source g (tokens source true).tokens ≡ Err f → IsFault source f
@@ -294,5 +295,5 @@ fault_is source f h = by (ltb max_bytes (length source)) refl (ltb (utf8_valid_l
         let size : utf8_valid_len source ≡ length source = omega (arith, ltb-false (utf8_valid_len source) (length source) is, utf8_valid_len_le source) in
         with_stream (ltb-false max_bytes (length source) a) (whole_is_utf8 source size) (tokens source true).fault refl h
 
-pub faults_are_those_of_the_grammar : FaultsAreThoseOfTheGrammar
-faults_are_those_of_the_grammar source f = (λ is. fault_read source f is, λ e. fault_is source f e)
+pub faults_are_those_of_the_grammar : SelectorsAreReadExactly → FaultsAreThoseOfTheGrammar
+faults_are_those_of_the_grammar exact source f = (λ is. fault_read exact source f is, λ e. fault_is exact source f e)
