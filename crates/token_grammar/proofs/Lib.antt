@@ -4,6 +4,7 @@ mod Comments
 mod Decided
 mod Examples
 mod FirstBytes
+pub mod ForCallers
 mod Hashes
 mod Idents
 mod NumberTexts
