@@ -1,4 +1,4 @@
-//! Prints a style sheet in as few bytes as its syntax needs.
+//! Prints a style sheet without the white space and the comments between its parts.
 #![tactic(auto)]
 
 mod notation;

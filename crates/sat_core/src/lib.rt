@@ -1,5 +1,5 @@
-//! A solver of formulas in conjunctive normal form that always decides. It learns a clause from each conflict, and
-//! keeps a ledger of what it learned.
+//! A solver of formulas in conjunctive normal form that decides each one, unless its budget runs out. It learns a clause
+//! from each conflict, and keeps a ledger of what it learned.
 #![tactic(auto)]
 
 mod analysis;

@@ -17,8 +17,7 @@ use sat_watch::{has_empty, propagate};
 use std::alloc::{AllocError, Global};
 
 /// Decides a formula by clause learning, with a budget of learned clauses. `NO_LIMIT` is a number above the length of
-/// every list. The budget is spent only where one more clause would have to be learned. `AllocError` where memory runs
-/// out.
+/// every list. If the budget is spent, the ledger has as many clauses as that. `AllocError` if memory runs out.
 pub fn solve(alloc: Global, f: &Formula, budget: u32) -> Result<Verdict, AllocError>
     ensures { IfOk result (λ v. IsAnswer f.now budget v) }
 {

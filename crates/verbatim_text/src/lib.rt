@@ -1,4 +1,4 @@
-//! The text between tokens that are printed as they are: as little as possible, so that they are read back.
+//! The text between tokens that are printed as they are: nothing, a space or a comment, so that they are read back.
 //! CSS Syntax 3, section 10, asks of a serialisation that it reads back. It takes no memory.
 #![tactic(auto)]
 
