@@ -5,7 +5,7 @@ complete -c cssmin -n __fish_use_subcommand -a cmp -d 'Tell whether one element 
 complete -c cssmin -n __fish_use_subcommand -a dead -d 'Tell which selectors of a style sheet match nothing on any legal page'
 complete -c cssmin -n __fish_use_subcommand -a style -d 'Tell which declarations win in a small page'
 complete -c cssmin -n __fish_use_subcommand -a why -d 'Tell why a rule may not be moved to another one'
-complete -c cssmin -n __fish_use_subcommand -a same -d 'Tell whether two style sheets style every legal page alike'
+complete -c cssmin -n __fish_use_subcommand -a same -d 'Compare which declarations win by two style sheets'
 complete -c cssmin -n __fish_use_subcommand -a check -d 'Check a log that refutes a formula'
 complete -c cssmin -n __fish_use_subcommand -a trial -d 'Make a sheet and merge it'
 complete -c cssmin -n __fish_use_subcommand -a help -d 'Tell how it is used'

@@ -38,7 +38,7 @@ const HELP: &[(&str, &[u8])] = &[
     ),
     (
         "cssmin same --help",
-        b"Tell whether two style sheets style every legal page alike\n",
+        b"Compare which declarations win by two style sheets\n",
     ),
     (
         "cssmin trial --help",

@@ -26,7 +26,7 @@ purpose topic.Dead = codes "Tell which selectors of a style sheet match nothing 
 purpose topic.Style = codes "Tell which declarations win for an element of a small page"
 purpose topic.Cmp = codes "Tell whether one element of a legal page can match two selectors"
 purpose topic.Why = codes "Tell why a rule of a style sheet may not be moved to another one"
-purpose topic.Same = codes "Tell whether two style sheets style every legal page alike"
+purpose topic.Same = codes "Compare which declarations win by two style sheets"
 purpose topic.Check = codes "Check a log that refutes a formula"
 purpose topic.Trial = codes "Make a sheet and merge it, and tell what came of it"
 

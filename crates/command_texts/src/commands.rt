@@ -100,7 +100,8 @@ Standard input has three parts: a small page as `cssmin cmp` writes it after
 `overlap`, an empty line, and a style sheet. The first line of the output says
 how many items of the sheet cssmin keeps as written; they do not count. Then
 each property that a rule gives to the element with the mark `*` has a line: the
-declaration that wins, and the specificity of its selector.
+declaration that wins, and the specificity of its selector. Every value counts
+as one that the browser understands.
 
     kept 0
     color:green!important 0,1,1
@@ -171,8 +172,8 @@ refute it, in lines of numbers. The output is one of these:
 
     yes         each step follows from what comes before it, and the last one is
                 empty: the formula has no model
-    no N        step N does not follow; if there is no step N, the last step is
-                not empty
+    no N        unit propagation does not give step N; without a step N, the last
+                step is not empty
 
 If it refuses the log, it writes nothing there, exits with status 8, and says
 why on standard error: `log refused: line N`, the first line that no log has, or
@@ -195,12 +196,13 @@ otherwise. The output is one of these:
     kept N      the rule may not pass item N, which stays as written
     blocked     the rule may not pass another one: two pairs of a selector and a
                 declaration follow, and a small legal page where their order
-                decides
+                decides, if a browser understands both and nothing else applies
     outside R   two selectors are not compared, for the reason with the number R
     spent       the budget ran out first
 
 A page is legal if each id occurs once, no link is both visited and unvisited,
-and nothing is both enabled and disabled.";
+and nothing is both enabled and disabled. The case of attribute values counts,
+even if HTML ignores it.";
 
 /// The command `why`.
 fn why_command<'a>(alloc: Global) -> Result<Command<'a>, AllocError> {
@@ -222,7 +224,8 @@ fn why_command<'a>(alloc: Global) -> Result<Command<'a>, AllocError> {
 const SAME_HELP: &str = "\
 Standard input has two style sheets, one after the other. The first one has N
 bytes. cssmin compares them, with the rules inside `@media` blocks, and writes
-the first difference that it finds:
+the first difference that it finds. After `same` the winners are equal. Any
+other answer leaves open whether they are:
 
     same           none: the same declarations win, on every legal page
     missing RULE   the second sheet lacks this pair of a selector and a
@@ -231,14 +234,16 @@ the first difference that it finds:
     kept N         the Nth item that stays as written differs, or has another
                    order with a rule
     reversed       two pairs that follow have another order; on the small page
-                   after them the other one wins
+                   after them the other one wins, if a browser understands both
+                   and nothing else applies
     unsure R       two selectors are not compared, for the reason with number R
     unsure spent   the budget ran out first
 
 A page is legal if each id occurs once, no link is both visited and unvisited,
-and nothing is both enabled and disabled. If cssmin refuses a sheet, it writes
-nothing: for the first one as `cssmin min` does, for the second one with status
-11 and `second refused: KIND at N`, N in bytes of that sheet.";
+and nothing is both enabled and disabled. The case of attribute values counts,
+even if HTML ignores it. If cssmin refuses a sheet, it writes nothing: for the
+first one as `cssmin min` does, for the second one with status 11 and
+`second refused: KIND at N`, N in bytes of that sheet.";
 
 /// The command `same`.
 fn same_command<'a>(alloc: Global) -> Result<Command<'a>, AllocError> {

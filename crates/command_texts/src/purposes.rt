@@ -18,7 +18,7 @@ pub(crate) fn purpose(about: Topic) -> &'static str
         Topic::Style => "Tell which declarations win for an element of a small page",
         Topic::Cmp => "Tell whether one element of a legal page can match two selectors",
         Topic::Why => "Tell why a rule of a style sheet may not be moved to another one",
-        Topic::Same => "Tell whether two style sheets style every legal page alike",
+        Topic::Same => "Compare which declarations win by two style sheets",
         Topic::Check => "Check a log that refutes a formula",
         Topic::Trial => "Make a sheet and merge it, and tell what came of it",
     }

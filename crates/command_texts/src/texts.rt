@@ -49,7 +49,7 @@ fn is_refusal(error: &Error) -> bool {
 }
 
 /// How the program, or a command of it, is used, as bytes: a line that says what it does, and more lines, in `clap`'s words.
-/// Tests compare what more it says. `AllocError` if memory runs out.
+/// Tests look at the first line and at the length of what comes after it. `AllocError` if memory runs out.
 pub fn help_text(alloc: Global, about: Topic) -> Result<Vec<u8>, AllocError>
     ensures { IfOk result (λ text. IsHelpOn about text.items) }
 {
@@ -78,8 +78,8 @@ pub fn version_text(alloc: Global) -> Result<Vec<u8>, AllocError>
     Ok(text)
 }
 
-/// Why words are refused, as bytes: `clap`'s text; where it has none, a line with the form of all words. The words are
-/// those after the program's name. The text ends with the end of a line; what it says is tested. `AllocError` where
+/// Why words are refused, as bytes: `clap`'s text, or a line with the form of all words if it has none. The words are
+/// those after the program's name. The text ends with the end of a line. Tests compare some of these texts. `AllocError` if
 /// memory runs out.
 pub fn refusal_text(alloc: Global, words: &Vec<String>) -> Result<Vec<u8>, AllocError>
     ensures { IfOk result (λ text. EndsLine text.items) }
