@@ -172,8 +172,8 @@ refute it, in lines of numbers. The output is one of these:
 
     yes         each step follows from what comes before it, and the last one is
                 empty: the formula has no model
-    no N        unit propagation does not give step N; without a step N, the last
-                step is not empty
+    no N        unit propagation does not give step N; or there is no step N,
+                and the last step is not empty
 
 If it refuses the log, it writes nothing there, exits with status 8, and says
 why on standard error: `log refused: line N`, the first line that no log has, or
