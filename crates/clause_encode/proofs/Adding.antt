@@ -1,18 +1,10 @@
--- Clauses that are added for each number below another one.
-use Rattle.std.proofs.Common.{List, [], ap, arith, suc, sym, ℕ, ◌++◌, ◌+◌, ◌∙◌, ◌∷◌, ◌≡◌}
+-- Clauses of the path that are added one part after the other.
+use Rattle.std.proofs.Common.{[], ap, arith, suc, ℕ, ◌+◌, ◌∙◌, ◌∷◌, ◌≡◌}
 use Rattle.cnf.specs.Cnf.{Cnf}
 use Rattle.cnf.specs.Gates.{with_clauses}
-use Rattle.cnf.specs.declared.lit.Lit.{Lit}
 use Rattle.formula_laws.specs.Path.{each_below, next_clauses, path_clauses, node_lit}
 use Rattle.grid_laws.specs.Grid.{together}
 use Rattle.sibling_clauses.proofs.ForCallers.{added_twice}
-
--- one number more
-pub each_more : (k : ℕ) (make : ℕ → List (List Lit)) → each_below (k + 1) make ≡ each_below k make ++ make k
-each_more k make = ap (λ (n : ℕ). each_below n make) (let e : k + 1 ≡ suc k = omega arith in e)
-
-pub added_each : (f g h : Cnf) (k : ℕ) (make : ℕ → List (List Lit)) → g ≡ with_clauses f (each_below k make) → h ≡ with_clauses g (make k) → h ≡ with_clauses f (each_below (k + 1) make)
-added_each f g h k make eg eh = eh ∙ ap (λ i. with_clauses i (make k)) eg ∙ added_twice f (each_below k make) (make k) ∙ ap (with_clauses f) (sym (each_more k make))
 
 -- the first node and all next ones
 pub path_added : (f g h : Cnf) (m n : ℕ) → g ≡ with_clauses f ((node_lit (suc n) together 0 0 ∷ []) ∷ []) → h ≡ with_clauses g (each_below (m + 1) (λ i. each_below (n + 1) (λ j. next_clauses m n i j))) → h ≡ with_clauses f (path_clauses m n)

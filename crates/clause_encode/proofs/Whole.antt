@@ -12,7 +12,8 @@ use Rattle.css_model.specs.Documents.SelectorParts.{SelectorParts}
 use Rattle.formula_laws.specs.Allowed.{Allowed, allowed_by, cell_clauses, node_fits, whole_clauses}
 use Rattle.formula_laws.specs.Counts.{Names}
 use Rattle.formula_laws.specs.Deciding.{FormulaIsSmall}
-use Rattle.formula_laws.specs.Formula.{first_vars, names_of, with_conditions, with_numbers, with_path, with_refusals, with_root, with_tests}
+use Rattle.formula_laws.specs.Formula.{first_vars, names_of, with_all, with_conditions, with_numbers, with_path, with_refusals, with_root, with_tests}
+use Rattle.hint_clauses.proofs.ForCallers.{hints_grow}
 use Rattle.formula_laws.specs.Path.{each_below, last_clauses, path_clauses}
 use Rattle.nth_positions.specs.Gaps.{bounds_of}
 use Rattle.selector_laws.specs.Limits.{KeepsLimits}
@@ -49,6 +50,13 @@ rooms x y allowed names f most room =
     let t = tests_grow x y names (with_root x y names (with_numbers x y names (with_path x y f))) in
     record { numbers = omega arith; tests = room; numbers_more = n; root_more = n; tests_more = omega arith }
 
+-- there is room for the conditions, and the hints find the first variables
+pub all_rooms : (x y : SelectorParts) (allowed : Allowed) (names : Names) (f : Cnf) (most : ℕ) → (with_all x y allowed names f).vars ≤ most → (with_conditions x y allowed names f).vars ≤ most
+all_rooms x y allowed names f most room = let h = hints_grow x y names (with_conditions x y allowed names f) in omega arith
+
+pub conditions_grow : (x y : SelectorParts) (allowed : Allowed) (names : Names) (f : Cnf) → f.vars ≤ (with_conditions x y allowed names f).vars
+conditions_grow x y allowed names f = (rooms x y allowed names f (with_conditions x y allowed names f).vars (omega arith)).tests_more
+
 -- the formula of two selectors is small
 pub pair_small : FormulaIsSmall → (x y : SelectorParts) (fits : List (Option FeatureParts)) → KeepsLimits x → KeepsLimits y → (bounds_of (pair_parts x y)).width ≤ 25 → IsSmallFormula (pair_formula x y fits)
 pair_small small x y fits kx ky wide =
@@ -59,10 +67,10 @@ pair_small small x y fits kx ky wide =
 -- what is made is the formula of the pair
 pub pair_made : (x y left right : SelectorParts) (fits found : List (Option FeatureParts)) (g : Numbering) (n : ℕ) (f : Cnf) → left ≡ x → right ≡ y → found ≡ fits → g ≡ numbering_of x y →
     n ≡ first_vars g.left g.right g.digits → f ≡ record { vars = n; clauses = [] } →
-    with_conditions left right (allowed_by (is_fit (length left.links) (length right.links) found) left right) (names_of g.left g.right g.digits) f ≡ pair_formula x y fits
+    with_all left right (allowed_by (is_fit (length left.links) (length right.links) found) left right) (names_of g.left g.right g.digits) f ≡ pair_formula x y fits
 pair_made x y left right fits found g n f el er es eg en ef =
     let made : (l r : SelectorParts) (s : List (Option FeatureParts)) (g : Numbering) (f : Cnf) → Cnf =
-    λ l r s g f. with_conditions l r (allowed_by (is_fit (length l.links) (length r.links) s) l r) (names_of g.left g.right g.digits) f
+    λ l r s g f. with_all l r (allowed_by (is_fit (length l.links) (length r.links) s) l r) (names_of g.left g.right g.digits) f
     in
     let start : ℕ → Cnf = λ n. record { vars = n; clauses = [] } in
     ap (λ f. made left right found g f) (ef ∙ ap start en)

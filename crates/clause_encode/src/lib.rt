@@ -8,4 +8,5 @@ mod pair;
 mod path;
 
 pub use laws::{limits_allow_plans, tables_are_ready};
+pub use nodes::is_pair_fit;
 pub use pair::{encode, numbering};

@@ -29,7 +29,7 @@ use sibling_clauses::{
 use std::alloc::AllocError;
 
 /// Adds that no node is true which the combinators, `:empty`, ids or features refuse.
-#[tactic(auto, using(crate::proofs::Adding::added_each))]
+#[tactic(auto, using(sibling_clauses::proofs::ForCallers::added_each))]
 pub(crate) fn add_nodes(
     f: &mut Formula,
     g: Numbering,
@@ -51,7 +51,7 @@ pub(crate) fn add_nodes(
 }
 
 /// Adds that no node of a row of cells is true which the combinators, `:empty`, ids or features refuse.
-#[tactic(auto, using(crate::proofs::Adding::added_each))]
+#[tactic(auto, using(sibling_clauses::proofs::ForCallers::added_each))]
 fn add_node_row(
     f: &mut Formula,
     g: Numbering,
@@ -185,9 +185,10 @@ fn together_fits(
                 && is_pair_fit(fits, links_of(left).len(), links_of(right).len(), i, j)))
 }
 
-/// Whether some element passes two compounds that are together.
+/// Returns whether some element passes compounds i and j of two selectors together, each counted from 0 from the target
+/// to the left. The fits are those of the selectors' table; `left` and `right` are the numbers of their last compounds.
 #[tactic(auto, using(crate::proofs::Noded::pair_fit_reads, crate::proofs::Cells::pairs_few))]
-fn is_pair_fit(fits: &[Option<Features>], left: usize, right: usize, i: usize, j: usize) -> bool
+pub fn is_pair_fit(fits: &[Option<Features>], left: usize, right: usize, i: usize, j: usize) -> bool
     requires left { left < 12 }
     requires right { right < 12 }
     requires row { i ≤ left }

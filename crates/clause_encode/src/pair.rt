@@ -9,6 +9,7 @@ ghost use Rattle.formula_laws.specs.Allowed.{allowed_by};
 ghost use Rattle.formula_laws.specs.Formula.{
   first_vars,
   names_of,
+  with_all,
   with_conditions,
   with_refusals,
 };
@@ -22,6 +23,7 @@ use cnf::Formula;
 use compound_fit::FitTable;
 use css_model::{Features, Selector};
 use formula_laws::formula_is_small;
+use hint_clauses::add_hints;
 use sibling_clauses::{Numbering, add_numbers, add_root, add_tests, links_of, numbers_asked};
 use slot_plan::PairPlan;
 use std::alloc::{AllocError, Global};
@@ -38,7 +40,7 @@ pub fn encode(alloc: Global, plan: &PairPlan<'_>, fits: &FitTable) -> Result<For
     formula_is_small();
     let g = numbering(plan);
     let mut f = Formula::new(alloc, g.first_vars());
-    add_conditions(alloc, &mut f, g, plan.left(), plan.right(), fits.fits())?;
+    add_all(alloc, &mut f, g, plan.left(), plan.right(), fits.fits())?;
     Ok(f)
 }
 
@@ -65,6 +67,29 @@ fn digits_for(width: u32, asked: bool) -> u32
     ensures { result ≡ (if asked then width else 0) }
 {
     if asked { width } else { 0 }
+}
+
+/// Adds all conditions, and their hints.
+fn add_all(
+    alloc: Global,
+    f: &mut Formula,
+    g: Numbering,
+    left: &Selector,
+    right: &Selector,
+    fits: &[Option<Features>],
+) -> Result<(), AllocError>
+    requires small { IsSmall g }
+    requires left { IsWhole left.now g.left }
+    requires right { IsWhole right.now g.right }
+    requires left_tests { AllByRecursion KeepsCompound left.now.chain }
+    requires right_tests { AllByRecursion KeepsCompound right.now.chain }
+    requires in_range { first_vars g.left g.right g.digits ≤ f.old.vars }
+    requires room { (with_all left.now right.now (allowed_by (is_fit (length left.now.links) (length right.now.links) fits.now) left.now right.now) (names_of g.left g.right g.digits) f.old).vars ≤ 2 ^ 30 }
+    ensures { OnOk result (f.new ≡ with_all left.now right.now (allowed_by (is_fit (length left.now.links) (length right.now.links) fits.now) left.now right.now) (names_of g.left g.right g.digits) f.old) }
+{
+    add_conditions(alloc, f, g, left, right, fits)?;
+    add_hints(alloc, f, g, left, right)?;
+    Ok(())
 }
 
 /// Adds all conditions.

@@ -34,7 +34,7 @@ pub(crate) fn add_path(alloc: Global, f: &mut Formula, g: Numbering) -> Result<(
 }
 
 /// Adds the next nodes of all cells.
-#[tactic(auto, using(crate::proofs::Adding::added_each))]
+#[tactic(auto, using(sibling_clauses::proofs::ForCallers::added_each))]
 fn add_rows(alloc: Global, f: &mut Formula, g: Numbering) -> Result<(), AllocError>
     requires small { IsSmall g }
     requires in_range { nodes_end g.left g.right ≤ f.old.vars }
@@ -48,7 +48,7 @@ fn add_rows(alloc: Global, f: &mut Formula, g: Numbering) -> Result<(), AllocErr
 }
 
 /// Adds the next nodes of a row of cells.
-#[tactic(auto, using(crate::proofs::Adding::added_each))]
+#[tactic(auto, using(sibling_clauses::proofs::ForCallers::added_each))]
 fn add_row(alloc: Global, f: &mut Formula, g: Numbering, i: u32) -> Result<(), AllocError>
     requires small { IsSmall g }
     requires row { i ≤ g.left }

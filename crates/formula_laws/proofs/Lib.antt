@@ -1,4 +1,6 @@
+mod Examples
 pub mod ForCallers
+mod Hints
 mod Items
 mod Numbers
 mod Paths

@@ -2,6 +2,7 @@
 use Rattle.std.specs.Prelude.{[], if◌then◌else◌, length, suc, ℕ, ◌*◌, ◌+◌, ◌==◌, ◌∷◌}
 use Rattle.formula_laws.specs.Allowed.{Allowed, node_clauses, node_fits, whole_clauses}
 use Rattle.formula_laws.specs.Counts.{Names, steps_below, when, with_counts}
+use Rattle.formula_laws.specs.Hinted.{with_hints}
 use Rattle.formula_laws.specs.Path.{last_clauses, node_lit, path_clauses}
 use Rattle.formula_laws.specs.Positions.{AreSmallTests, with_positions}
 use Rattle.formula_laws.specs.Relations.{literals}
@@ -49,6 +50,10 @@ abbrev pub with_conditions : SelectorParts → SelectorParts → Allowed → Nam
 with_conditions x y allowed names f =
     with_refusals x y allowed (with_tests x y names (with_root x y names (with_numbers x y names (with_path x y f))))
 
+-- all conditions, and the hints behind them
+abbrev pub with_all : SelectorParts → SelectorParts → Allowed → Names → Cnf → Cnf
+with_all x y allowed names f = with_hints x y names (with_conditions x y allowed names f)
+
 -- the first variables: nodes, root, child, rx, ry, one, and the numbers before and after each compound
 abbrev pub nodes_end : ℕ → ℕ → ℕ
 nodes_end m n = 3 * (suc m * suc n)
@@ -78,7 +83,7 @@ names_of m n w = record {
 -- the formula with numbers of w digits
 abbrev pub formula_with : ℕ → Allowed → SelectorParts → SelectorParts → Cnf
 formula_with w allowed x y =
-    with_conditions x y allowed (names_of (length x.links) (length y.links) w) (record { vars = first_vars (length x.links) (length y.links) w; clauses = [] })
+    with_all x y allowed (names_of (length x.links) (length y.links) w) (record { vars = first_vars (length x.links) (length y.links) w; clauses = [] })
 
 -- how many digits the numbers have: none where no test looks at them
 abbrev pub digits_for : ℕ → SelectorParts → SelectorParts → ℕ

@@ -1,8 +1,13 @@
 pub mod Allowed
+pub mod Asked
 pub mod Counts
 pub mod Deciding
+pub mod Distances
 pub mod Formula
+pub mod Hinted
+pub mod Hints
 pub mod Path
 pub mod Positions
+pub mod Refused
 pub mod Relations
 pub mod Root

@@ -116,7 +116,7 @@ impl Numbering {
 
     /// The literal for "the last left compound is in the root".
     #[tactic(auto, using(crate::proofs::InRange::first_in_range_by))]
-    pub(crate) fn left_root(self) -> Lit
+    pub fn left_root(self) -> Lit
         requires { IsSmall self }
         ensures value { result ≡ (names_of self.left self.right self.digits).rx }
         ensures in_range { (v : ℕ) → first_vars self.left self.right self.digits ≤ v → IsTrue (is_below v result) }
@@ -126,7 +126,7 @@ impl Numbering {
 
     /// The literal for "the last right compound is in the root".
     #[tactic(auto, using(crate::proofs::InRange::first_in_range_by))]
-    pub(crate) fn right_root(self) -> Lit
+    pub fn right_root(self) -> Lit
         requires { IsSmall self }
         ensures value { result ≡ (names_of self.left self.right self.digits).ry }
         ensures in_range { (v : ℕ) → first_vars self.left self.right self.digits ≤ v → IsTrue (is_below v result) }
@@ -144,9 +144,10 @@ impl Numbering {
         positive(self.nodes_end() + 4)
     }
 
-    /// The digits of the q-th number of siblings.
+    /// The digits of the q-th number of siblings, from the least on: those before and behind the left compounds in
+    /// turn, and then those of the right ones. `AllocError` where memory runs out.
     #[tactic(auto, using(crate::proofs::Cells::slots_few, crate::proofs::InRange::number_in_range, crate::proofs::InRange::number_length))]
-    pub(crate) fn number(self, alloc: Global, q: u32) -> Result<Bits, AllocError>
+    pub fn number(self, alloc: Global, q: u32) -> Result<Bits, AllocError>
         requires small { IsSmall self }
         requires slot { q < 2 * suc self.left + 2 * suc self.right }
         ensures value { IfOk result (λ b. b ≡ number_at self q) }

@@ -10,9 +10,10 @@ ghost use Rattle.formula_laws.specs.Relations.{same_digits, with_less, with_sum}
 use cnf::{Bits, Formula, Lit, adder, at_least};
 use std::alloc::{AllocError, Global};
 
-/// Adds that the digits of two numbers are the same. Digits that only the first one has are 0.
+/// Adds that the digits of two numbers are the same. Digits that only the first one has are 0. `AllocError` where memory
+/// runs out; then the formula is not to be used again.
 #[tactic(auto, using(crate::proofs::Adding::same_added, crate::proofs::InRange::digits_in_range))]
-pub(crate) fn add_same(f: &mut Formula, x: &[Lit], y: &[Lit]) -> Result<(), AllocError>
+pub fn add_same(f: &mut Formula, x: &[Lit], y: &[Lit]) -> Result<(), AllocError>
     requires x { IsTrue (are_below f.old.vars x.now) }
     requires y { IsTrue (are_below f.old.vars y.now) }
     ensures { OnOk result (f.new ≡ with_clauses f.old (same_digits x.now y.now)) }
@@ -31,9 +32,10 @@ pub(crate) fn add_same(f: &mut Formula, x: &[Lit], y: &[Lit]) -> Result<(), Allo
     }
 }
 
-/// Adds that the digits of two numbers are the same where a literal is true.
+/// Adds that the digits of two numbers are the same where a literal is true. `AllocError` where memory runs out; then
+/// the formula is not to be used again.
 #[tactic(auto, using(crate::proofs::Adding::same_added, crate::proofs::InRange::digits_in_range))]
-pub(crate) fn add_same_if(f: &mut Formula, lit: Lit, x: &[Lit], y: &[Lit]) -> Result<(), AllocError>
+pub fn add_same_if(f: &mut Formula, lit: Lit, x: &[Lit], y: &[Lit]) -> Result<(), AllocError>
     requires lit { IsTrue (is_below f.old.vars lit) }
     requires x { IsTrue (are_below f.old.vars x.now) }
     requires y { IsTrue (are_below f.old.vars y.now) }
@@ -94,9 +96,10 @@ pub(crate) fn add_equal_sums(
     add_same(f, &first.bits, &second.bits)
 }
 
-/// Adds x < y, or one of some literals.
+/// Adds x < y, or one of some literals, where x has at most 25 digits. `AllocError` where memory runs out; then the
+/// formula is not to be used again.
 #[tactic(auto, using(crate::proofs::InRange::later_in_range, crate::proofs::Growing::gates_grow))]
-pub(crate) fn add_less(
+pub fn add_less(
     alloc: Global,
     f: &mut Formula,
     unless: &[Lit],
@@ -118,16 +121,16 @@ pub(crate) fn add_less(
     f.add_clause(&clause)
 }
 
-/// The digits of a number, each negated.
-pub(crate) fn negations(alloc: Global, x: &Bits) -> Result<Bits, AllocError>
+/// The digits of a number, each negated. `AllocError` where memory runs out.
+pub fn negations(alloc: Global, x: &Bits) -> Result<Bits, AllocError>
     ensures { IfOk result (λ b. b ≡ map negation x.now) }
 {
     let bits = x.bits.iter().map(|lit| lit.negation()).collect(alloc)?;
     Ok(Bits { bits })
 }
 
-/// A literal in front of others.
-fn with_first(alloc: Global, first: Lit, others: &[Lit]) -> Result<Vec<Lit>, AllocError>
+/// A literal before others. `AllocError` where memory runs out.
+pub fn with_first(alloc: Global, first: Lit, others: &[Lit]) -> Result<Vec<Lit>, AllocError>
     ensures { IfOk result (λ v. v.items ≡ first ∷ others.now) }
 {
     let mut lits = Vec::new(alloc);

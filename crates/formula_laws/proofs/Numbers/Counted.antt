@@ -125,7 +125,7 @@ run_item base w (link ∷ links) b a one hb ha h1 =
 one_number : (vs : List Bool) (one : Lit) → value vs one ≡ true → number vs (one ∷ []) ≡ 1
 one_number vs one t = ap (λ b. bit b + 2 * 0) t
 
-run_means : (links : List Combinator) (b a : ℕ → List Lit) (one : Lit) (vs : List Bool) → value vs one ≡ true → RunSays links b a one vs → RunFits links (λ i. number vs (b i)) (λ i. number vs (a i))
+pub run_means : (links : List Combinator) (b a : ℕ → List Lit) (one : Lit) (vs : List Bool) → value vs one ≡ true → RunSays links b a one vs → RunFits links (λ i. number vs (b i)) (λ i. number vs (a i))
 run_means [] b a one vs t says = tt
 run_means (link ∷ links) b a one vs t says = (by link says.0, run_means links (λ i. b (suc i)) (λ i. a (suc i)) one vs t says.1)
   where

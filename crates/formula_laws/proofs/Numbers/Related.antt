@@ -124,7 +124,7 @@ sum_item base x y z hx hy hz len =
     up f low ls h = are_below-mono base f.vars low ls h
 
 -- the digits of the other kind make up the rest to 2^n - 1
-number_negations : (vs : List Bool) (x : List Lit) → suc (number vs x + number vs (map negation x)) ≡ 2 ^ length x
+pub number_negations : (vs : List Bool) (x : List Lit) → suc (number vs x + number vs (map negation x)) ≡ 2 ^ length x
 number_negations vs [] = omega arith
 number_negations vs (l ∷ ls) =
     let rest = number_negations vs ls in
@@ -155,12 +155,12 @@ abbrev pub compared : List Lit → List Lit → Cnf → Cnf × Lit
 compared x y f = let sum = with_adder f y (map negation x) in with_at_least sum.0 sum.1 (2 ^ length x)
 
 pub record ComparedFacts (f : Cnf) (x y : List Lit) (r : Cnf × Lit) : Type 0 where
-  extends : Extends f r.0
-  below : IsTrue (is_below r.0.vars r.1)
+  pub extends : Extends f r.0
+  pub below : IsTrue (is_below r.0.vars r.1)
   yes : (vs : List Bool) → IsTrue (all_hold vs r.0.clauses) → IsTrue (value vs r.1) → number vs x < number vs y
-  no' : (vs : List Bool) → IsTrue (all_hold vs r.0.clauses) → number vs x < number vs y → IsTrue (value vs r.1)
+  pub no' : (vs : List Bool) → IsTrue (all_hold vs r.0.clauses) → number vs x < number vs y → IsTrue (value vs r.1)
 
-compared-facts : (f : Cnf) (x y : List Lit) → IsTrue (is_in_range f) → IsTrue (are_below f.vars x) → IsTrue (are_below f.vars y) → ComparedFacts f x y (compared x y f)
+pub compared-facts : (f : Cnf) (x y : List Lit) → IsTrue (is_in_range f) → IsTrue (are_below f.vars x) → IsTrue (are_below f.vars y) → ComparedFacts f x y (compared x y f)
 compared-facts f x y r hx hy =
     let a = adder-facts f y (map negation x) r hy (are_below-negations f.vars x hx) in
     let sum = with_adder f y (map negation x) in

@@ -3,13 +3,14 @@ use Rattle.std.proofs.Common.{Bool, List, [], arith, false, length, not, suc, tr
 use Rattle.std.proofs.Math.Nat.{mul-le-mul_right}
 use Rattle.std.proofs.lemmas.List.{length-append}
 use Rattle.std.specs.Prelude.{if◌then◌else◌, nat_lt, ◌==◌}
-use Rattle.formula_laws.proofs.Sizes.Sizes.{Sized, below_size, both_size, clauses_size, digits_size, each_size, implied_size, less_size, more_size, run_size, when_size}
+use Rattle.formula_laws.proofs.Sizes.HintedSizes.{hints_size}
+use Rattle.formula_laws.proofs.Sizes.Sizes.{Sized, both_size, clauses_size, digits_size, implied_size, less_size, more_size, most_each, most_size, only_size, run_size, when_size}
 use Rattle.formula_laws.proofs.Sizes.TestSizes.{compound_size, product_at_most}
 use Rattle.formula_laws.proofs.Whole.Filling.{length_literals}
 use Rattle.formula_laws.specs.Allowed.{Allowed, node_clauses, node_fits, whole_clauses}
 use Rattle.formula_laws.specs.Counts.{Names, implied, steps_below, with_counts, with_equal, with_order_left, with_order_right, with_run}
-use Rattle.formula_laws.specs.Formula.{digits_for, first_vars, formula_of, formula_with, names_of, with_conditions, with_numbers, with_path, with_root, with_tests}
-use Rattle.formula_laws.specs.Path.{both_fit, each_below, last_clauses, next_clauses, node_lit, only_if, path_clauses, unless}
+use Rattle.formula_laws.specs.Formula.{digits_for, first_vars, formula_of, formula_with, names_of, with_all, with_conditions, with_numbers, with_path, with_root, with_tests}
+use Rattle.formula_laws.specs.Path.{both_fit, each_below, last_clauses, next_clauses, node_lit, path_clauses, unless}
 use Rattle.formula_laws.specs.Positions.{with_positions}
 use Rattle.formula_laws.specs.Relations.{literals, same_digits}
 use Rattle.formula_laws.specs.Root.{root_clauses, top_clauses}
@@ -21,16 +22,6 @@ use Rattle.css_model.specs.Documents.SelectorParts.{SelectorParts}
 use Rattle.css_model.specs.declared.selector.Combinator.{Combinator}
 use Rattle.grid_laws.specs.Grid.{Lays, goes_up_at, left_alone, right_alone, together}
 use Rattle.grid_laws.specs.Solved.{nth_compound, numbers_asked}
-
-most_size : (b n : ℕ) (step : ℕ → Cnf → Cnf) (v c : ℕ) → n ≤ b → ((k : ℕ) → k < n → Sized (step k) v c) → Sized (λ f. steps_below n step f) (b * v) (b * c)
-most_size b n step v c h each = more_size (λ f. steps_below n step f) (n * v) (n * c) (b * v) (b * c) (mul-le-mul_right v h) (mul-le-mul_right c h) (below_size n step v c each)
-
-most_each : (b n : ℕ) (make : ℕ → List (List Lit)) (c : ℕ) → n ≤ b → ((k : ℕ) → length (make k) ≤ c) → length (each_below n make) ≤ b * c
-most_each b n make c h each = let l = each_size n make c each in let m = mul-le-mul_right c h in omega arith
-
-only_size : (b : Bool) (cs : List (List Lit)) → length (only_if b cs) ≤ length cs
-only_size true cs = omega arith
-only_size false cs = omega arith
 
 unless_size : (b : Bool) (l : Lit) → length (unless b l) ≤ 1
 unless_size b l = only_size (not b) ((negation l ∷ []) ∷ [])
@@ -117,13 +108,23 @@ conditions_size x y allowed names h f =
       clauses_bound = let a = sp.clauses_bound in let d = sc.clauses_bound in let e = sr.clauses_bound in let g = st.clauses_bound in let k = sn.clauses_bound in omega arith;
     }
 
+-- with their hints
+all_size : (x y : SelectorParts) (allowed : Allowed) (names : Names) → Limits x y names → (f : Cnf) → GrowsBy f (with_all x y allowed names f) 8100000 121000000
+all_size x y allowed names h f =
+    let c = conditions_size x y allowed names h f in
+    let s = hints_size x y names h.left h.right h.bx h.ax h.by h.ay h.left_tests h.right_tests (with_conditions x y allowed names f) in
+    record {
+      vars_bound = let a = c.vars_bound in let b = s.vars_bound in omega arith;
+      clauses_bound = let a = c.clauses_bound in let b = s.clauses_bound in omega arith;
+    }
+
 with_size : (w : ℕ) (x y : SelectorParts) (allowed : Allowed) → w ≤ 25 → length x.links ≤ 11 → length y.links ≤ 11 → ((i : ℕ) → length (nth_compound x.chain i) ≤ 64) → ((j : ℕ) → length (nth_compound y.chain j) ≤ 64) →
     ((formula_with w allowed x y).vars < 2 ^ 24) × (length (formula_with w allowed x y).clauses < 2 ^ 32)
 with_size w x y allowed hw hx hy tx ty =
     let m = length x.links in
     let n = length y.links in
     let d : (v : ℕ) → length (literals v w) ≤ 25 = λ v. (let e = length_literals v w in omega arith) in
-    let s = conditions_size x y allowed (names_of m n w) (record { left = hx; right = hy; bx = λ i. d _; ax = λ i. d _; by = λ j. d _; ay = λ j. d _; left_tests = tx; right_tests = ty }) (record { vars = first_vars m n w; clauses = [] }) in
+    let s = all_size x y allowed (names_of m n w) (record { left = hx; right = hy; bx = λ i. d _; ax = λ i. d _; by = λ j. d _; ay = λ j. d _; left_tests = tx; right_tests = ty }) (record { vars = first_vars m n w; clauses = [] }) in
     let cells = product_at_most (suc m) (suc n) 12 12 (omega arith) (omega arith) in
     let bits = product_at_most (2 * suc m + 2 * suc n) w 48 25 (omega arith) hw in
     (let a = s.vars_bound in omega arith, let a = s.clauses_bound in omega arith)

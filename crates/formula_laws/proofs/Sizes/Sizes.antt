@@ -1,8 +1,9 @@
 -- How far the parts let a formula grow.
 use Rattle.std.proofs.Common.{Bool, List, [], ap, arith, false, length, map, max, refl, suc, true, zero, ℕ, ◌*◌, ◌+◌, ◌<◌, ◌^◌, ◌∷◌, ◌≡◌, ◌≤◌}
+use Rattle.std.proofs.Math.Nat.{mul-le-mul_right}
 use Rattle.std.proofs.lemmas.List.{length-append}
 use Rattle.formula_laws.specs.Counts.{implied, steps_below, when, with_equal_sums, with_link, with_run}
-use Rattle.formula_laws.specs.Path.{each_below}
+use Rattle.formula_laws.specs.Path.{each_below, only_if}
 use Rattle.formula_laws.specs.Relations.{same_digits, with_less, with_sum}
 use Rattle.cnf.proofs.ForCallers.{GrowsBy-more, GrowsBy-trans, adder-size, at_least-size, length-adder}
 use Rattle.cnf.specs.Cnf.{Cnf}
@@ -116,3 +117,14 @@ run_size w (link ∷ links) b a one hb ha f =
   where
     step : (f g h : Cnf) (n v c : ℕ) → GrowsBy f g v c → GrowsBy g h (n * v) (n * c) → GrowsBy f h (suc n * v) (suc n * c)
     step f g h n v c s t = record { vars_bound = let a = s.vars_bound in let b = t.vars_bound in omega arith; clauses_bound = let a = s.clauses_bound in let b = t.clauses_bound in omega arith }
+
+-- no more than so many parts
+pub most_size : (b n : ℕ) (step : ℕ → Cnf → Cnf) (v c : ℕ) → n ≤ b → ((k : ℕ) → k < n → Sized (step k) v c) → Sized (λ f. steps_below n step f) (b * v) (b * c)
+most_size b n step v c h each = more_size (λ f. steps_below n step f) (n * v) (n * c) (b * v) (b * c) (mul-le-mul_right v h) (mul-le-mul_right c h) (below_size n step v c each)
+
+pub most_each : (b n : ℕ) (make : ℕ → List (List Lit)) (c : ℕ) → n ≤ b → ((k : ℕ) → length (make k) ≤ c) → length (each_below n make) ≤ b * c
+most_each b n make c h each = let l = each_size n make c each in let m = mul-le-mul_right c h in omega arith
+
+pub only_size : (b : Bool) (cs : List (List Lit)) → length (only_if b cs) ≤ length cs
+only_size true cs = omega arith
+only_size false cs = omega arith

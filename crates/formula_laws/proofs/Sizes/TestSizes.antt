@@ -14,7 +14,7 @@ use Rattle.css_model.specs.declared.selector.Simple.{Simple}
 use Rattle.css_model.specs.declared.selector.Test.{Test}
 use Rattle.css_model.specs.declared.selector.Test.TheVariants.{Any, Attr, Empty, Id, Kind, Nth, NthLast, OnlyChild, Root, State}
 
-digits_at_most : (by : ℕ) → remainder_digits by ≤ 32
+pub digits_at_most : (by : ℕ) → remainder_digits by ≤ 32
 unfolding remainder_digits
 digits_at_most by = omega arith
 

@@ -3,16 +3,17 @@ use Rattle.std.proofs.Common.{Bool, IsTrue, List, [], ap, arith, false, get_or, 
 use Rattle.std.proofs.Math.Nat.{mul-le-mul_right}
 use Rattle.std.proofs.lemmas.Bool.{and_from, cond-false, cond-true, le-ltb, lt-ltb}
 use Rattle.std.specs.Prelude.{if◌then◌else◌, nat_lt}
+use Rattle.formula_laws.proofs.Hints.Hinted.{all_item}
 use Rattle.formula_laws.proofs.Items.Items.{Item}
 use Rattle.formula_laws.proofs.Items.Ranges.{node_less}
 use Rattle.formula_laws.proofs.Numbers.Counted.{NamesBelow, numbers}
 use Rattle.formula_laws.proofs.Numbers.Moving.{SameBelow, Trimmed, inner, moved, moved_joined}
 use Rattle.formula_laws.proofs.Numbers.Related.{number_read}
-use Rattle.formula_laws.proofs.Whole.Conditions.{AllowedMeans, Says, SolvedAt, conditions_item, says_solved, solved_says}
+use Rattle.formula_laws.proofs.Whole.Conditions.{AllowedMeans, Says, SolvedAt, says_solved, solved_says}
 use Rattle.formula_laws.proofs.Whole.Tables.{length-table, node_rule, node_rule_at, table, table_at}
 use Rattle.formula_laws.specs.Allowed.{Allowed}
 use Rattle.formula_laws.specs.Counts.{Names}
-use Rattle.formula_laws.specs.Formula.{SmallSteps, first_vars, formula_with, names_of, nodes_end, slot_at, with_conditions}
+use Rattle.formula_laws.specs.Formula.{SmallSteps, first_vars, formula_with, names_of, nodes_end, slot_at, with_all}
 use Rattle.formula_laws.specs.Path.{node, true_nodes}
 use Rattle.formula_laws.specs.Relations.{digits, literals}
 use Rattle.cnf.proofs.ForCallers.{is_below-positive, quotient_of, remainder_of}
@@ -128,7 +129,7 @@ pub formula_sound : (w : ℕ) (x y : SelectorParts) (allowed : Allowed) → leng
 formula_sound w x y allowed lx ly small allowed_means vs h =
     let m = length x.links in
     let n = length y.links in
-    let item = conditions_item (first_vars m n w) w x y allowed (names_of m n w) (names_below m n w) small in
+    let item = all_item (first_vars m n w) w x y allowed (names_of m n w) (names_below m n w) small in
     says_solved x y allowed (names_of m n w) vs lx ly allowed_means (item.sound (record { vars = first_vars m n w; clauses = [] }) vs (omega arith) refl h).1
 
 -- completeness: nodes and numbers that satisfy all conditions, with numbers of at most w digits, give values that satisfy the formula
@@ -147,8 +148,8 @@ formula_complete w x y allowed small allowed_means v bx ax by ay root child s fe
     names : Names
     names = names_of m n w
 
-    item : Item (first_vars m n w) (with_conditions x y allowed names) (Says x y allowed names)
-    item = conditions_item (first_vars m n w) w x y allowed names (names_below m n w) small
+    item : Item (first_vars m n w) (with_all x y allowed names) (Says x y allowed names)
+    item = all_item (first_vars m n w) w x y allowed names (names_below m n w) small
 
     v' : Nodes
     v' k i j = inner k i j && v k i j

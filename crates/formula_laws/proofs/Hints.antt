@@ -1,0 +1,16 @@
+pub mod Distancing
+pub mod Gaps
+pub mod Hint
+pub mod Hinted
+pub mod Joints
+pub mod Lists
+pub mod Needing
+pub mod Positions
+pub mod RefusedChains
+pub mod Refusing
+pub mod Remaining
+pub mod Rests
+pub mod Rises
+pub mod Rows
+pub mod Runs
+pub mod Shared

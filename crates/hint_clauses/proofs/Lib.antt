@@ -1,0 +1,17 @@
+pub mod Briefly
+pub mod Digits
+pub mod Distanced
+pub mod Divided
+pub mod Failing
+pub mod ForCallers
+pub mod Fronting
+pub mod Gapped
+pub mod Gathered
+pub mod Hinting
+pub mod Known
+pub mod Linked
+pub mod Refusing
+pub mod Rising
+pub mod Sharing
+pub mod Unmet
+pub mod Whole

@@ -1,0 +1,8 @@
+use Rattle.std.proofs.Common.{◌≡◌}
+use Rattle.cnf.specs.Gates.{with_clauses}
+use Rattle.formula_laws.specs.Hints.{cell_rests}
+use Rattle.formula_laws.specs.Path.{each_below}
+use Rattle.hint_clauses.proofs.shared.add_cell_row.Given as goal
+
+abbrev pub invariant-loop-j : goal.invariant-loop-j
+invariant-loop-j l = l.f ≡ with_clauses l.fn.f (each_below l.j (λ j. cell_rests l.runs.count l.left l.right l.runs.left l.runs.right l.remainder l.i j))

@@ -1,0 +1,4 @@
+pub mod Divisors
+pub mod Leaving
+pub mod Remainders
+pub mod Sizes
