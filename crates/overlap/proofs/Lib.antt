@@ -1,8 +1,8 @@
 mod Apartness
 mod Deciding
+mod Forced
 mod Keeping
 mod Limits
 mod Logging
 mod Named
-mod Targets
 mod TrueLists

@@ -1,23 +1,22 @@
 //! An answer for two selectors by the formula of the pair, where one has a combinator.
 
-ghost use Rattle.std.specs.Prelude.{◌≡◌, ◌↔◌, IfOk, IsTrue, None};
-ghost use Rattle.css_model.specs.Cascade.Order.{Meet as TheyMeet};
+ghost use Rattle.std.specs.Prelude.{IfOk, IsTrue};
 ghost use Rattle.css_model.specs.Selectors.Profile.{IsInProfile};
 ghost use Rattle.clause_encode.specs.Fits.{IsModel};
-ghost use Rattle.compound_fit.specs.Table.{AreFits, IsTable, groups};
+ghost use Rattle.compound_fit.specs.Table.{IsTable};
 ghost use Rattle.overlap.specs.Combined.{IsCombinedAnswer, IsCombinedLog, IsEvidence};
 
 use crate::answer::{Answer, Decision};
+use crate::clashing::compounds_clash;
 use clause_encode::encode;
 use compound_fit::FitTable;
-use css_model::{Example, Features};
+use css_model::Example;
 use example_doc::build;
 use pair_laws::{
     meeting_satisfies_the_formula, profile_has_names, profile_is_fittable, profile_keeps_the_limits,
 };
 use sat_core::{Verdict, solve};
 use shape_decode::decode_shape;
-use shape_laws::selectors_that_meet_have_a_shape;
 use slot_plan::PairPlan;
 use std::alloc::{AllocError, Global};
 
@@ -35,7 +34,8 @@ pub(crate) fn decide_combined(
     ensures answer { IfOk result (λ d. IsCombinedAnswer plan.now.left plan.now.right budget d.answer) }
     ensures log { IfOk result (λ d. IsTrue with_log → IsCombinedLog plan.now.left plan.now.right budget d.answer d.log) }
 {
-    if !with_log && targets_clash(table) {
+    profile_keeps_the_limits();
+    if !with_log && compounds_clash(plan, table) {
         return Ok(Decision {
             answer: Answer::Apart,
             log: None,
@@ -75,22 +75,6 @@ fn decide_by_formula(
             log: None,
         }),
     }
-}
-
-/// Whether no legal element passes both targets. Then the selectors do not meet, and the formula need not be made.
-fn targets_clash(table: &FitTable) -> bool
-    requires { AreFits table.now.fits (groups table.now.left.chain table.now.right.chain) }
-    ensures { IsTrue result → TheyMeet table.now.left table.now.right → ⊥ }
-{
-    selectors_that_meet_have_a_shape();
-    is_misfit(&table.fits()[0])
-}
-
-/// Whether there are no features.
-fn is_misfit(found: &Option<Features>) -> bool
-    ensures { IsTrue result ↔ (found.now ≡ None) }
-{
-    found.is_none()
 }
 
 /// The example of the shape of values that satisfy the formula of the pair.

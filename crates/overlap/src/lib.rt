@@ -3,6 +3,7 @@
 #![tactic(auto)]
 
 mod answer;
+mod clashing;
 mod decision;
 mod formula;
 mod laws;

@@ -6,3 +6,4 @@ mod Slots
 mod Visits
 pub mod ForCallers
 mod Document
+mod Forcing

@@ -1,3 +1,4 @@
 pub mod Meeting
 pub mod Shrinking
 pub mod Document
+pub mod Forced

@@ -3,9 +3,11 @@
 #![tactic(auto)]
 
 mod documents;
+mod forced;
 mod matching;
 mod shrinking;
 
 pub use documents::{shapes_are_short, shapes_show_meeting};
+pub use forced::forced_compounds_suit;
 pub use matching::selectors_that_meet_have_a_shape;
 pub use shrinking::shapes_shrink;
