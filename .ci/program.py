@@ -22,7 +22,7 @@ import tempfile
 
 MORE = b"\nFor more information, try '--help'.\n"
 NO_WORD = b"""error: 'cssmin' requires a subcommand but one was not provided
-  [subcommands: min, cmp, dead, style, why, same, check, trial, help]
+  [subcommands: min, cmp, dead, style, why, same, list, lint, check, trial, help]
 
 Usage: cssmin <COMMAND>
 """ + MORE
@@ -174,6 +174,12 @@ same 4294967296
 same 1 2
 same 1 --report
 same 1 --budget 20001
+list a
+list --report
+list --budget 1
+lint a
+lint --report
+lint --budget 20001
 help min
 --version --version
 """
@@ -201,7 +207,7 @@ def try_itself(tries):
     for word in ["--version", "-V"]:
         tries.check_read(word, [word], SHEET, 0, f"cssmin {version}\n".encode(), b"", 0)
     for words in [["--help"], ["-h"], ["help"], ["min", "--help"], ["min", "-h"], ["cmp", "--help"], ["cmp", "-h"],
-            ["check", "--help"], ["why", "--help"], ["same", "--help"], ["style", "--help"], ["dead", "--help"], ["trial", "--help"]]:
+            ["check", "--help"], ["why", "--help"], ["same", "--help"], ["list", "--help"], ["lint", "--help"], ["style", "--help"], ["dead", "--help"], ["trial", "--help"]]:
         ran = tries.run(words, SHEET)
         name = " ".join(words)
         tries.is_same(name, "the exit status", ran.returncode, 0)
@@ -352,6 +358,32 @@ def try_two_sheets(tries):
     tries.check_read("two sheets that are too long", ["same", "0"], long, 3, b"", told, 2 * MAX_BYTES + 1)
     told = b"second refused: TooLong at %d\n" % MAX_BYTES
     tries.check_read("a second sheet that is too long", ["same", "0"], long[:-2], 11, b"", told, 2 * MAX_BYTES)
+
+
+def try_items(tries):
+    sheet = "a , b{top:0}\r\n@media print{\n .é{top:0}.c{left:0}}".encode()
+    lines = "1 1:1 rule a,b\n2 2:1 media @media print\n2.1 3:2 rule .é\n2.2 3:11 rule .c\n".encode()
+    tries.check_read("the items of a sheet", ["list"], sheet, 0, lines, b"", len(sheet))
+    broken = b"a{}\n\xc3\xa9{b:'x"
+    tries.check_read("the items of a broken sheet", ["list"], broken, 3, b"", b"refused: EndInside at 9 (2:5)\n", len(broken))
+    long = b" " * (MAX_BYTES + 2)
+    tries.check_read("the items of a sheet that is too long", ["list"], long, 3, b"", b"refused: TooLong at %d\n" % MAX_BYTES, MAX_BYTES + 1)
+    # One line of as many bytes as a sheet may have, with the most items: its places are found without a walk from its start.
+    many = b"a{b:c}" * 16_384 + b" " * (MAX_BYTES - 6 * 16_384)
+    ran = tries.run(["list"], many)
+    tries.is_same("the items of a long line", "the last one", ran.stdout.splitlines()[-1], b"16384 1:%d rule a" % (6 * 16_383 + 1))
+
+
+def try_findings(tries):
+    sheet = ".é{top:0}#a #a{left:0}\r\n@media print{b{top:0;top:0}}.é{top:0}".encode()
+    lines = "1:4 repeated top:0 2:32\n1:10 dead #a #a\n2:16 repeated top:0 2:22\n".encode()
+    tries.check_read("what is found in a sheet", ["lint"], sheet, 1, lines, b"", len(sheet))
+    tries.check_read("a sheet in which nothing is found", ["lint"], SHEET, 0, b"", b"", len(SHEET))
+    broken = b"a{}\n\xc3\xa9{b:'x"
+    tries.check_read("findings of a broken sheet", ["lint"], broken, 3, b"", b"refused: EndInside at 9 (2:5)\n", len(broken))
+    many = b"a{b:c}" * 16_384
+    ran = tries.run(["lint"], many)
+    tries.is_same("the findings of many rules", "the lines", (ran.returncode, ran.stdout.count(b"\n")), (1, 16_383))
 
 
 def try_reports(tries):
@@ -513,6 +545,8 @@ def main():
     try_logs(tries)
     try_moves(tries)
     try_two_sheets(tries)
+    try_items(tries)
+    try_findings(tries)
     try_winners(tries)
     try_lives(tries)
     try_reports(tries)

@@ -2,13 +2,13 @@
 _cssmin() {
     local command=${COMP_WORDS[1]} words
     if [ "$COMP_CWORD" = 1 ]; then
-        words='min cmp dead style why same check trial help --help --version'
+        words='min cmp dead style why same list lint check trial help --help --version'
     else
         case $command in
-            style|check|trial) words='--help' ;;
+            style|list|check|trial) words='--help' ;;
             min) words='--budget --report --help' ;;
             cmp) words='--budget --log --help' ;;
-            dead|why|same) words='--budget --help' ;;
+            dead|why|same|lint) words='--budget --help' ;;
         esac
     fi
     COMPREPLY=($(compgen -W "$words" -- "${COMP_WORDS[COMP_CWORD]}"))

@@ -1,5 +1,7 @@
 pub mod Answers
 pub mod Cascade
+pub mod Linting
+pub mod Listing
 pub mod Meeting
 pub mod Order
 pub mod Solving

@@ -1,19 +1,26 @@
 -- What is asked of an element that two selectors share, and the documents that show it.
-use Rattle.std.proofs.Common.{◌≡◌, ℕ, [], ◌∷◌, Some, None, true, false, pos, refl, map}
+use Rattle.std.proofs.Common.{◌≡◌, ℕ, zero, suc, [], ◌∷◌, Some, None, inl, true, false, pos, refl, map, arith}
 use Rattle.std.specs.Prelude.{codes}
 use Rattle.body_examples.proofs.Values.{a_class, b_class, class, features, inside, plain}
 use Rattle.clause_encode.specs.Fits.{pair_formula}
 use Rattle.compound_fit.specs.Table.{groups}
-use Rattle.css_model.specs.declared.selector.Test.TheVariants.{Empty, Id, Kind, NthLast}
+use Rattle.css_model.specs.declared.selector.Combinator.TheVariants.{Child, Inside, Later, Next}
+use Rattle.css_model.specs.declared.selector.Test.TheVariants.{Empty, Id, Kind, Nth, NthLast}
 use Rattle.css_model.specs.Documents.SelectorParts.{SelectorParts}
 use Rattle.css_model.specs.Selectors.Compounds.{is_stepped_test}
 use Rattle.example_doc.specs.Lines.{line, top_lines}
 use Rattle.cnf.specs.Lits.{negation, positive}
+use Rattle.css_model.specs.declared.selector.Simple.{Simple}
 use Rattle.formula_laws.specs.Allowed.{empty_fits, own_ids_fit, share_id, whole_clauses}
+use Rattle.formula_laws.specs.Asked.{run_rests}
+use Rattle.formula_laws.specs.Hints.{is_later_at, rest_clauses, shared_rests}
 use Rattle.formula_laws.specs.Root.{top_clauses}
+use Rattle.formula_laws.specs.declared.count.Count.TheVariants.{Before, Behind}
 use Rattle.grid_laws.specs.Slots.{step_for}
 use Rattle.nth_positions.specs.Gaps.{reduced}
+use Rattle.remainders.specs.Remainders.{joint_rest}
 use Rattle.shape_laws.specs.Document.Trees.{example_of}
+use Rattle.shape_laws.specs.Forced.{AreOfOne, GoTogether, parents, siblings}
 use Rattle.sibling_counts.specs.Sides.{limit_of}
 use Rattle.single_examples.specs.Examples.{child_example}
 use Rattle.slot_plan.specs.declared.shape.SlotStep.TheVariants.{Further, NextTo, UpOne}
@@ -30,6 +37,28 @@ parent_is_not_empty = refl
 
 other_may_be_empty : empty_fits false (plain Empty ∷ []) ≡ true
 other_may_be_empty = refl
+
+-- ---- Compounds that have to hold of one element
+
+-- the siblings directly before one element are one
+next_siblings_are_one : AreOfOne (Next ∷ []) (Next ∷ []) 1 1 1
+next_siblings_are_one = (0, 0, (refl, refl), siblings refl refl refl refl)
+
+-- and so are the parents, here that of `.b` in `.a > .b + .c`, and that of `.c` in `.a > .c`
+parents_are_one : AreOfOne (Next ∷ Child ∷ []) (Child ∷ []) 1 2 1
+parents_are_one = (0, 0, (refl, refl), parents 1 0 (inl refl, refl) refl refl refl)
+
+-- earlier siblings may be two
+earlier_siblings_may_be_two : GoTogether (Later ∷ []) (Later ∷ []) 0 0 1 1 → ⊥
+earlier_siblings_may_be_two (siblings at at' e f) = absurd (let n : Some Later ≡ Some Next = at in cc)
+earlier_siblings_may_be_two (parents zero n up up' e f) = absurd (let n : Some Later ≡ Some Child = up in cc)
+earlier_siblings_may_be_two (parents (suc m) n up up' e f) = absurd (omega (arith, e))
+
+-- and so may ancestors
+ancestors_may_be_two : GoTogether (Inside ∷ []) (Inside ∷ []) 0 0 1 1 → ⊥
+ancestors_may_be_two (siblings at at' e f) = absurd (let n : Some Inside ≡ Some Next = at in cc)
+ancestors_may_be_two (parents zero n up up' e f) = absurd (let n : Some Inside ≡ Some Child = up in cc)
+ancestors_may_be_two (parents (suc m) n up up' e f) = absurd (omega (arith, e))
 
 -- ---- Ids
 
@@ -66,6 +95,44 @@ root_has_no_later_siblings : top_clauses (positive 0) true (positive 1 ∷ []) (
     ≡ (negation (positive 0) ∷ negation (positive 1) ∷ []) ∷ (negation (positive 0) ∷ negation (positive 2) ∷ []) ∷ []
 unfolding positive negation
 root_has_no_later_siblings = refl
+
+-- ---- Hints
+
+abbrev nth : ℕ → Simple
+nth step = plain (Nth (record { a = pos step; b = pos 0 }))
+
+abbrev nth_last : ℕ → Simple
+nth_last step = plain (NthLast (record { a = pos step; b = pos 0 }))
+
+-- By `:nth-child(3n)+:nth-child(3n)` the number before the second element leaves 2 when divided by 3. That before the
+-- first one leaves 2 too, so the second one's, which is one more, would leave 0.
+other_compound_asks_of_the_first : run_rests Before (Next ∷ []) ((nth 3 ∷ []) ∷ (nth 3 ∷ []) ∷ []) 0 ≡ record { step = 3; rest = 2 } ∷ record { step = 3; rest = 0 } ∷ []
+other_compound_asks_of_the_first = refl
+
+-- the number after it is one less
+other_asks_the_other_way_round : run_rests Behind (Next ∷ []) ((nth_last 3 ∷ []) ∷ (nth_last 3 ∷ []) ∷ []) 0 ≡ record { step = 3; rest = 2 } ∷ record { step = 3; rest = 1 } ∷ []
+other_asks_the_other_way_round = refl
+
+-- of `~` it is not known how far it is to the other element
+no_other_asks_beyond : run_rests Before (Later ∷ []) ((nth 3 ∷ []) ∷ (nth 3 ∷ []) ∷ []) 0 ≡ record { step = 3; rest = 2 } ∷ []
+no_other_asks_beyond = refl
+
+numbers_rise_along_later : is_later_at (Next ∷ Later ∷ []) 1 ≡ true
+numbers_rise_along_later = refl
+
+-- `:nth-child(2n)` and `:nth-child(4n)` agree: 3 is left, in two digits
+agreeing_are_not_refused : rest_clauses (positive 0 ∷ positive 1 ∷ []) (joint_rest (record { step = 2; rest = 1 } ∷ record { step = 4; rest = 3 } ∷ [])) ≡ (positive 0 ∷ []) ∷ (positive 1 ∷ []) ∷ []
+unfolding positive negation
+agreeing_are_not_refused = refl
+
+-- `:nth-child(2n)` and `:nth-child(4n+1)` do not
+clashing_are_refused : rest_clauses (positive 0 ∷ positive 1 ∷ []) (joint_rest (record { step = 2; rest = 1 } ∷ record { step = 4; rest = 0 } ∷ [])) ≡ [] ∷ []
+clashing_are_refused = refl
+
+-- Where a compound of the left run that is one to the left of its first one shares a slot with the right run's first
+-- one, the right run's number is one less.
+shared_slot_moves : shared_rests Before [] (record { step = 5; rest = 1 } ∷ []) 1 0 ≡ record { step = 5; rest = 2 } ∷ []
+shared_slot_moves = refl
 
 -- ---- Shapes and their documents
 

@@ -18,7 +18,7 @@ use Rattle.media_groups.specs.Opened.{opened_of}
 use Rattle.media_groups.specs.Printed.{printed_opened}
 
 -- what is made of a sheet without a fault
-abbrev of_sheet : (List Item → List ℕ) → Result (List Item) SheetFault → List ℕ
+abbrev pub of_sheet : (List Item → List ℕ) → Result (List Item) SheetFault → List ℕ
 of_sheet f (Ok items) = f items
 of_sheet f (Err fault) = []
 

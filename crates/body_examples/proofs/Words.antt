@@ -3,9 +3,10 @@ use Rattle.std.proofs.Common.{◌≡◌, ℕ, [], ◌∷◌, Some, None, true, f
 use Rattle.std.specs.Fmt.{digits}
 use Rattle.std.specs.Prelude.{codes}
 use Rattle.command_words.specs.declared.command.Topic.TheVariants as topic
-use Rattle.command_words.specs.Forms.{Check, Cmp, Help, Min, Same, Trial, Why, command_named, form_of, number_up_to}
-use Rattle.cssmin_run.specs.declared.status.Status.TheVariants.{Done, NoItem, NoMemory, ReadFault, Usage, WriteFault}
+use Rattle.command_words.specs.Forms.{Check, Cmp, Help, Lint, Listing, Min, Same, Trial, Why, command_named, form_of, number_up_to}
+use Rattle.cssmin_run.specs.declared.status.Status.TheVariants.{Done, Found, NoItem, NoMemory, ReadFault, Usage, WriteFault}
 use Rattle.cssmin_run.specs.Status.{number_of}
+use Rattle.cssmin_run.specs.Tasks.{is_filled, with_found}
 
 -- ---- Words
 
@@ -47,6 +48,14 @@ check_alone_checks : form_of (codes "check" ∷ []) ≡ Some Check
 unfolding command_named number_up_to
 check_alone_checks = refl
 
+list_alone_lists : form_of (codes "list" ∷ []) ≡ Some Listing
+unfolding command_named number_up_to
+list_alone_lists = refl
+
+lint_has_its_budget : form_of (codes "lint" ∷ codes "--budget" ∷ codes "7" ∷ []) ≡ Some (Lint (Some 7))
+unfolding command_named digits number_up_to
+lint_has_its_budget = refl
+
 help_is_of_the_command : form_of (codes "trial" ∷ codes "-h" ∷ []) ≡ Some (Help topic.Trial)
 unfolding command_named number_up_to
 help_is_of_the_command = refl
@@ -59,6 +68,9 @@ trial_has_its_rules = refl
 
 done_ends_with_0 : number_of Done ≡ 0
 done_ends_with_0 = refl
+
+found_ends_with_1 : number_of Found ≡ 1
+found_ends_with_1 = refl
 
 usage_ends_with_2 : number_of Usage ≡ 2
 usage_ends_with_2 = refl
@@ -74,3 +86,14 @@ no_memory_ends_with_6 = refl
 
 no_item_ends_with_7 : (number : ℕ) → number_of (NoItem number) ≡ 7
 no_item_ends_with_7 number = refl
+
+-- ---- Where something was found
+
+no_text_finds_nothing : with_found (is_filled []) Done ≡ Done
+no_text_finds_nothing = refl
+
+text_is_found : with_found (is_filled (codes "a\n")) Done ≡ Found
+text_is_found = refl
+
+failed_write_stays_one : with_found true WriteFault ≡ WriteFault
+failed_write_stays_one = refl

@@ -37,7 +37,7 @@ const ROWS: &[Row] = &[
     ),
     (
         "cssmin dead --budget 0",
-        b".a:first-child .b:last-child~.c{top:0}",
+        b".b~.b~.b~.b:nth-child(-n+3){top:0}",
         Status::Done,
         "1.1 spent\n",
         "",

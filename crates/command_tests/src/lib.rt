@@ -8,6 +8,10 @@ mod dead;
 #[cfg(test)]
 mod faults;
 #[cfg(test)]
+mod linting;
+#[cfg(test)]
+mod listing;
+#[cfg(test)]
 mod minifying;
 #[cfg(test)]
 mod runs;

@@ -90,9 +90,9 @@ const ROWS: &[Row] = &[
         "",
     ),
     (
-        "cssmin same --budget 0 49",
-        b".a:first-child .b{top:0}.b:last-child~.c{top:1px}\
-        .b:last-child~.c{top:1px}.a:first-child .b{top:0}",
+        "cssmin same --budget 0 42",
+        b"a~a~:nth-child(-n+4){top:0}b~b~.c{top:1px}\
+        b~b~.c{top:1px}a~a~:nth-child(-n+4){top:0}",
         Status::Done,
         "unsure spent\n",
         "",

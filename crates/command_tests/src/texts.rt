@@ -41,6 +41,14 @@ const HELP: &[(&str, &[u8])] = &[
         b"Compare which declarations win by two style sheets\n",
     ),
     (
+        "cssmin list --help",
+        b"List the items of a style sheet, each with its number and its place\n",
+    ),
+    (
+        "cssmin lint --help",
+        b"Tell which selectors match nothing and which declarations come again\n",
+    ),
+    (
         "cssmin trial --help",
         b"Make a sheet and merge it, and tell what came of it\n",
     ),
@@ -53,7 +61,7 @@ const REFUSED: &[(&str, &[u8])] = &[
     (
         "cssmin",
         b"error: 'cssmin' requires a subcommand but one was not provided
-  [subcommands: min, cmp, dead, style, why, same, check, trial, help]
+  [subcommands: min, cmp, dead, style, why, same, list, lint, check, trial, help]
 
 Usage: cssmin <COMMAND>
 

@@ -8,20 +8,18 @@ use std::alloc::{AllocError, Global};
 const PROGRAM_HELP: &str = "\
 Exit status:
   0  done                            6  not enough memory
-  2  wrong words                     7  no item of this number
-  3  the sheet is refused            8  the log is refused
-  4  the input cannot be read        9  the page is refused
-  5  the output cannot be written   10  the input is shorter than N bytes
-                                    11  the second sheet is refused
+  1  done, and lint found something  7  no item of this number
+  2  wrong words                     8  the log is refused
+  3  the sheet is refused            9  the page is refused
+  4  the input cannot be read       10  the input is shorter than N bytes
+  5  the output cannot be written   11  the second sheet is refused
 
     cssmin min <sheet.css >sheet.min.css
     cssmin cmp 'a:hover' '.menu > a'
     { cat page.txt; echo; cat sheet.css; } | cssmin style
-    cat sheet.css sheet.min.css | cssmin same $(wc -c <sheet.css)
 
-cssmin takes no file names. Name the sheet with `<` and the target with `>`. The
-target must be another file. `cssmin min --help` says more of `min`; each
-command has such a page.
+cssmin takes no file names. Name the sheet with `<`, and another file, the
+target, with `>`. Each command has a page, as `cssmin min --help`.
 
 A page is legal if each id occurs once, no link is both visited and unvisited,
 and nothing is both enabled and disabled.";
@@ -258,6 +256,70 @@ fn same_command<'a>(alloc: Global) -> Result<Command<'a>, AllocError> {
         .arg(budget(alloc))
 }
 
+const LIST_HELP: &str = "\
+cssmin reads the sheet from standard input. Each rule and at-rule outside all
+at-rules gets a line on standard output, in order:
+
+    1 1:1 rule a,b
+    2 4:1 media @media print
+    2.1 5:3 rule .c
+
+The first number is the one that `min --report`, `why` and `dead` use. The items
+of an opened `@media` block follow it, as `2.1`. Then come the line and the
+column where the item begins, and one of these:
+
+    rule      a style rule
+    media     an `@media` block whose rules `min` merges with each other
+    kept:R    a rule that stays as written, for the reason with the number R
+    block     anything else that stays as written
+
+At the end is what comes before the block: the selectors, or the text that is
+kept. A column counts characters, from 1. Control characters are spaces.
+
+If cssmin refuses the sheet, it says where: `refused: KIND at N (LINE:COLUMN)`.";
+
+/// The command `list`.
+fn list_command<'a>(alloc: Global) -> Command<'a> {
+    Command::new(alloc, "list")
+        .about(purpose(Topic::Listing))
+        .override_usage("cssmin list <SHEET")
+        .after_help(LIST_HELP)
+}
+
+const LINT_HELP: &str = "\
+cssmin reads the sheet from standard input. What can go from the sheet gets a
+line on standard output, in order:
+
+    1:1 dead a:link:visited
+    3:6 repeated top:0 9:6
+
+`dead` is a selector that no element of any legal page matches. `repeated` is a
+declaration that comes again later for each selector of its rule. The second
+place is the last one for the first selector. Without all of this, the same
+declarations win on every legal page. A rule that then has no selector or no
+declaration can go too.
+
+A place is a line and a column. A column counts characters, from 1. The body of
+an opened `@media` block counts as a sheet of its own. Control characters are
+spaces. `cssmin list --help` says which blocks are opened.
+
+The status is 1 if cssmin finds something, and 0 if it finds nothing. A greater
+one is a failure. If cssmin refuses the sheet, it says where:
+`refused: KIND at N (LINE:COLUMN)`.
+
+A page is legal if each id occurs once, no link is both visited and unvisited,
+and nothing is both enabled and disabled. A page that repeats an id may need a
+selector that is dead here. Look before you delete.";
+
+/// The command `lint`.
+fn lint_command<'a>(alloc: Global) -> Result<Command<'a>, AllocError> {
+    Command::new(alloc, "lint")
+        .about(purpose(Topic::Lint))
+        .override_usage("cssmin lint [--budget N] <SHEET")
+        .after_help(LINT_HELP)
+        .arg(budget(alloc))
+}
+
 /// The word `help`.
 fn help_command<'a>(alloc: Global) -> Command<'a> {
     Command::new(alloc, "help").about("Print this message")
@@ -276,6 +338,8 @@ pub(crate) fn program<'a>(alloc: Global, version: &'a str) -> Result<Command<'a>
         .subcommand(style_command(alloc))?
         .subcommand(why_command(alloc)?)?
         .subcommand(same_command(alloc)?)?
+        .subcommand(list_command(alloc))?
+        .subcommand(lint_command(alloc)?)?
         .subcommand(check_command(alloc))?
         .subcommand(trial_command(alloc)?)?
         .disable_help_subcommand(true)

@@ -19,6 +19,8 @@ pub(crate) fn purpose(about: Topic) -> &'static str
         Topic::Cmp => "Tell whether one element of a legal page can match two selectors",
         Topic::Why => "Tell why a rule of a style sheet may not be moved to another one",
         Topic::Same => "Compare which declarations win by two style sheets",
+        Topic::Listing => "List the items of a style sheet, each with its number and its place",
+        Topic::Lint => "Tell which selectors match nothing and which declarations come again",
         Topic::Check => "Check a log that refutes a formula",
         Topic::Trial => "Make a sheet and merge it, and tell what came of it",
     }

@@ -60,6 +60,8 @@ pub fn help_text(alloc: Global, about: Topic) -> Result<Vec<u8>, AllocError>
         Topic::Why => &["cssmin", "why", "--help"],
         Topic::Same => &["cssmin", "same", "--help"],
         Topic::Style => &["cssmin", "style", "--help"],
+        Topic::Listing => &["cssmin", "list", "--help"],
+        Topic::Lint => &["cssmin", "lint", "--help"],
         Topic::Dead => &["cssmin", "dead", "--help"],
         Topic::Check => &["cssmin", "check", "--help"],
         Topic::Trial => &["cssmin", "trial", "--help"],

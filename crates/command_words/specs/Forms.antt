@@ -15,6 +15,8 @@ pub data Form : Type 0 where
   Check : Form
   Why : (from to : ℕ) (budget : Option ℕ) → Form
   Same : (split : ℕ) (budget : Option ℕ) → Form
+  Listing : Form
+  Lint : (budget : Option ℕ) → Form
   Trial : (rules : ℕ) → Form
   Help : Topic → Form
   Version : Form
@@ -129,6 +131,8 @@ asked topic.Cmp (Some (arguments (left ∷ right ∷ []) budget log false)) = So
 asked topic.Check (Some (arguments [] None false false)) = Some Check
 asked topic.Why (Some (arguments (from ∷ to ∷ []) budget false false)) = moved (number_up_to most_number from) (number_up_to most_number to) budget
 asked topic.Same (Some (arguments (split ∷ []) budget false false)) = compared (number_up_to most_number split) budget
+asked topic.Listing (Some (arguments [] None false false)) = Some Listing
+asked topic.Lint (Some (arguments [] budget false false)) = Some (Lint budget)
 asked topic.Trial (Some (arguments (rules ∷ []) None false false)) = tried (number_up_to most_rules rules)
 asked about words = None
 
@@ -142,6 +146,8 @@ command_named name =
     else if is_word name (codes "check") then Some topic.Check
     else if is_word name (codes "why") then Some topic.Why
     else if is_word name (codes "same") then Some topic.Same
+    else if is_word name (codes "list") then Some topic.Listing
+    else if is_word name (codes "lint") then Some topic.Lint
     else if is_word name (codes "trial") then Some topic.Trial else None
 
 -- whether the words behind a command ask how it is used

@@ -43,6 +43,10 @@ pub enum Topic {
     Why,
     /// The command `same`.
     Same,
+    /// The command `list`.
+    Listing,
+    /// The command `lint`.
+    Lint,
     /// The command `check`.
     Check,
     /// The command `trial`.
@@ -92,6 +96,13 @@ pub enum Command<'a> {
     Same {
         /// How many bytes the first sheet has.
         split: u32,
+        /// How many clauses may be learned for a pair, where the words say it: at most `MOST_BUDGET`.
+        budget: Option<u32>,
+    },
+    /// List the items of a style sheet with their places.
+    Listing,
+    /// Tell what can go from a style sheet without a change.
+    Lint {
         /// How many clauses may be learned for a pair, where the words say it: at most `MOST_BUDGET`.
         budget: Option<u32>,
     },

@@ -84,6 +84,8 @@ fn asked<'a>(about: Topic, words: Option<Arguments<'a>>) -> Option<Command<'a>>
         (Topic::Check, Operands::None, None, false, false) => Some(Command::Check),
         (Topic::Why, Operands::Two(from, to), budget, false, false) => moved(from, to, budget),
         (Topic::Same, Operands::One(split), budget, false, false) => compared(split, budget),
+        (Topic::Listing, Operands::None, None, false, false) => Some(Command::Listing),
+        (Topic::Lint, Operands::None, budget, false, false) => Some(Command::Lint { budget }),
         (Topic::Trial, Operands::One(rules), None, false, false) => tried(rules),
         _ => None,
     }
@@ -108,6 +110,10 @@ fn command_named(name: &str) -> Option<Topic>
         Some(Topic::Why)
     } else if name == "same" {
         Some(Topic::Same)
+    } else if name == "list" {
+        Some(Topic::Listing)
+    } else if name == "lint" {
+        Some(Topic::Lint)
     } else if name == "trial" {
         Some(Topic::Trial)
     } else {

@@ -1,5 +1,5 @@
 -- The answers that are held are true for the budget of the words, and without a budget none is `Spent`.
-use Rattle.std.proofs.Common.{◌≡◌, ◌⊎◌, inl, inr, ℕ, List, [], Bool, true, false, Option, Some, None, Result, Ok, Err, refl, sym, ◌∙◌, ap, subst, arith}
+use Rattle.std.proofs.Common.{◌≡◌, inl, inr, ℕ, List, [], Bool, true, false, Option, Some, None, Result, Ok, Err, refl, sym, ◌∙◌, ap, subst, arith}
 use Rattle.std.proofs.Math.Logic.{∥∥₁_elim}
 use Rattle.std.specs.Bool.{MatchBool}
 use Rattle.std.specs.Prelude.{nat_lt}
@@ -7,7 +7,7 @@ use Rattle.std.proofs.lemmas.Grind.{merely}
 use Rattle.std.proofs.lemmas.List.Elements.{All-contains}
 use Rattle.cnf.specs.Budgets.{no_limit}
 use Rattle.cnf.specs.declared.lit.Lit.{Lit}
-use Rattle.command_words.specs.Forms.{Form, Min, Style, Dead, Cmp, Check, Why, Same, Trial, Help, Version, form_of}
+use Rattle.command_words.specs.Forms.{Form, Min, Style, Dead, Cmp, Check, Why, Same, Listing, Lint, Trial, Help, Version, form_of}
 use Rattle.compare_text.specs.ComparedTexts.{AsksFor, selector_or_reason}
 use Rattle.css_model.specs.declared.fault.SheetFault.{SheetFault}
 use Rattle.css_model.specs.declared.sheet.Item.{Item}
@@ -16,6 +16,8 @@ use Rattle.css_model.specs.Documents.SelectorParts.{SelectorParts}
 use Rattle.css_model.specs.Sheets.Limits.{max_bytes, max_stepped}
 use Rattle.css_model.specs.Sheets.Sheet.{sheet_of}
 use Rattle.dead_text.specs.DeadTexts.{AsksOf}
+use Rattle.line_places.specs.declared.place.Place.{Place}
+use Rattle.lint_text.specs.Asking as lint
 use Rattle.log_text.specs.CheckedTexts.{max_log_bytes}
 use Rattle.overlap.specs.Answers.{IsFewAnswer, IsTrueAnswer, pair_stepped, too_many_stepped}
 use Rattle.overlap.specs.Combined.{IsSpentOn}
@@ -28,15 +30,18 @@ use Rattle.cssmin_run.specs.Change.{Change}
 use Rattle.cssmin_run.specs.Commands.Check.{CheckRefuses, Checks}
 use Rattle.cssmin_run.specs.Commands.Cmp.{CmpDoes, IsAnswer, IsTextOf, unasked}
 use Rattle.cssmin_run.specs.Commands.Dead.{TellsLives}
+use Rattle.cssmin_run.specs.Commands.Lint.{TellsFound}
+use Rattle.cssmin_run.specs.Commands.Listing.{ListsItems}
 use Rattle.cssmin_run.specs.Commands.Min.{Merges, MinRefuses}
 use Rattle.cssmin_run.specs.Commands.Same.{ComparesSheets, SameRefuses}
 use Rattle.cssmin_run.specs.Commands.Style.{StyleRefuses, TellsWinners}
 use Rattle.cssmin_run.specs.Commands.Trial.{TrialDoes}
 use Rattle.cssmin_run.specs.Commands.Why.{ExplainsMove, WhyRefuses}
+use Rattle.cssmin_run.specs.Placed.{in_sheet, nowhere}
 use Rattle.cssmin_run.specs.Run.{Answers, Ran, named_budget}
-use Rattle.cssmin_run.specs.Tasks.{Does, Silent}
+use Rattle.cssmin_run.specs.Tasks.{Does, Finds, Silent}
 use Rattle.cssmin_run.specs.declared.status.Status.{Status}
-use Rattle.cssmin_run.specs.declared.status.Status.TheVariants.{Done, Usage, SheetRefused, NoItem, DocRefused, LogRefused, NoSplit, SecondRefused, ReadFault, WriteFault, NoMemory}
+use Rattle.cssmin_run.specs.declared.status.Status.TheVariants.{Done, Found, Usage, SheetRefused, NoItem, DocRefused, LogRefused, NoSplit, SecondRefused, ReadFault, WriteFault, NoMemory}
 
 -- ---- True answers
 
@@ -103,6 +108,13 @@ move_budget : (read : Result (List Item) SheetFault) (from to : ℕ) (old new : 
 move_budget (Ok items) from to old new asked = asked.budget
 move_budget (Err fault) from to old new asked = asked.budget
 
+found_budget : (read : List ℕ) (sheet : Result (List Item) SheetFault) (old new : PairsParts) → lint.AsksOf read sheet old new → new.budget ≡ old.budget
+found_budget read (Ok items) old new asked = asked.budget
+found_budget read (Err fault) old new asked = ap (λ (p : PairsParts). p.budget) asked
+
+of_found : (budget : Option ℕ) (read text : List ℕ) (held : Option PairsParts) (pairs : PairsParts) → TellsFound budget read text held → held ≡ Some pairs → AreTrueFor budget pairs
+of_found budget read text held pairs h is = same_held budget held h.0 pairs h.1 (record { same_budget = found_budget read (sheet_of read) (unasked budget) h.0 h.2; all_true = h.3.true_list }) is
+
 of_move : (from to : ℕ) (budget : Option ℕ) (read text : List ℕ) (held : Option PairsParts) (pairs : PairsParts) → ExplainsMove from to budget read text held → held ≡ Some pairs → AreTrueFor budget pairs
 of_move from to budget read text held pairs h is =
     same_held budget held h.0 pairs h.1 (record { same_budget = move_budget (sheet_of read) from to (unasked budget) h.0 h.2; all_true = h.3.move.all_true }) is
@@ -113,22 +125,40 @@ of_sheets split budget read text held pairs h is = same_held budget held h.0 pai
 -- ---- What is held after each status
 
 -- where answers are held, a text was made by them
-made : (most : ℕ) (Makes : (read text report : List ℕ) (held : Option PairsParts) → Type 0) (Refuses : Status → List ℕ → Type 0) (status : Status) (input output err : Change) (held : Option PairsParts) (pairs : PairsParts)
-    → Does most Makes Refuses status input output err held → held ≡ Some pairs → (read : List ℕ) × (text : List ℕ) × (report : List ℕ) × Makes read text report held
-made most Makes Refuses Done input output err held pairs does is = (does.read, does.text, does.report, does.made)
-made most Makes Refuses Usage input output err held pairs does is = absurd does.0
-made most Makes Refuses (SheetRefused fault) input output err held pairs does is = unheld held pairs does.2 is
-made most Makes Refuses (NoItem fault) input output err held pairs does is = unheld held pairs does.2 is
-made most Makes Refuses (DocRefused fault) input output err held pairs does is = unheld held pairs does.2 is
-made most Makes Refuses (LogRefused fault) input output err held pairs does is = unheld held pairs does.2 is
-made most Makes Refuses (NoSplit fault) input output err held pairs does is = unheld held pairs does.2 is
-made most Makes Refuses (SecondRefused fault) input output err held pairs does is = unheld held pairs does.2 is
-made most Makes Refuses ReadFault input output err held pairs does is = unheld held pairs does.1 is
-made most Makes Refuses WriteFault input output err held pairs does is = (does.read, does.text, does.report, does.made)
-made most Makes Refuses NoMemory input output err held pairs does is = unheld held pairs does.0 is
+made : (most : ℕ) (Where : Status → List ℕ → Option Place) (Makes : (read text report : List ℕ) (held : Option PairsParts) → Type 0) (Refuses : Status → List ℕ → Type 0) (status : Status) (input output err : Change) (held : Option PairsParts) (pairs : PairsParts)
+    → Does most Where Makes Refuses status input output err held → held ≡ Some pairs → (read : List ℕ) × (text : List ℕ) × (report : List ℕ) × Makes read text report held
+made most Where Makes Refuses Done input output err held pairs does is = (does.read, does.text, does.report, does.made)
+made most Where Makes Refuses Found input output err held pairs does is = absurd does.0
+made most Where Makes Refuses Usage input output err held pairs does is = absurd does.0
+made most Where Makes Refuses (SheetRefused fault) input output err held pairs does is = unheld held pairs does.2 is
+made most Where Makes Refuses (NoItem fault) input output err held pairs does is = unheld held pairs does.2 is
+made most Where Makes Refuses (DocRefused fault) input output err held pairs does is = unheld held pairs does.2 is
+made most Where Makes Refuses (LogRefused fault) input output err held pairs does is = unheld held pairs does.2 is
+made most Where Makes Refuses (NoSplit fault) input output err held pairs does is = unheld held pairs does.2 is
+made most Where Makes Refuses (SecondRefused fault) input output err held pairs does is = unheld held pairs does.2 is
+made most Where Makes Refuses ReadFault input output err held pairs does is = unheld held pairs does.1 is
+made most Where Makes Refuses WriteFault input output err held pairs does is = (does.read, does.text, does.report, does.made)
+made most Where Makes Refuses NoMemory input output err held pairs does is = unheld held pairs does.0 is
+
+-- so it is of a command whose status says whether it found something
+finding_made : (most : ℕ) (Where : Status → List ℕ → Option Place) (Makes : (read text report : List ℕ) (held : Option PairsParts) → Type 0) (Refuses : Status → List ℕ → Type 0) (status : Status) (input output err : Change) (held : Option PairsParts) (pairs : PairsParts)
+    → Finds most Where Makes Refuses status input output err held → held ≡ Some pairs → (read : List ℕ) × (text : List ℕ) × (report : List ℕ) × Makes read text report held
+finding_made most Where Makes Refuses Done input output err held pairs finds is = (finds.read, finds.text, finds.report, finds.made.0)
+finding_made most Where Makes Refuses Found input output err held pairs finds is = (finds.read, finds.text, finds.report, finds.made.0)
+finding_made most Where Makes Refuses Usage input output err held pairs finds is = made most Where Makes Refuses Usage input output err held pairs finds is
+finding_made most Where Makes Refuses (SheetRefused fault) input output err held pairs finds is = made most Where Makes Refuses (SheetRefused fault) input output err held pairs finds is
+finding_made most Where Makes Refuses (NoItem fault) input output err held pairs finds is = made most Where Makes Refuses (NoItem fault) input output err held pairs finds is
+finding_made most Where Makes Refuses (DocRefused fault) input output err held pairs finds is = made most Where Makes Refuses (DocRefused fault) input output err held pairs finds is
+finding_made most Where Makes Refuses (LogRefused fault) input output err held pairs finds is = made most Where Makes Refuses (LogRefused fault) input output err held pairs finds is
+finding_made most Where Makes Refuses (NoSplit fault) input output err held pairs finds is = made most Where Makes Refuses (NoSplit fault) input output err held pairs finds is
+finding_made most Where Makes Refuses (SecondRefused fault) input output err held pairs finds is = made most Where Makes Refuses (SecondRefused fault) input output err held pairs finds is
+finding_made most Where Makes Refuses ReadFault input output err held pairs finds is = made most Where Makes Refuses ReadFault input output err held pairs finds is
+finding_made most Where Makes Refuses WriteFault input output err held pairs finds is = made most Where Makes Refuses WriteFault input output err held pairs finds is
+finding_made most Where Makes Refuses NoMemory input output err held pairs finds is = made most Where Makes Refuses NoMemory input output err held pairs finds is
 
 cmp_held : (left right : List ℕ) (budget : Option ℕ) (log : Bool) (status : Status) (output err : Change) (held : Option PairsParts) (pairs : PairsParts) → CmpDoes left right budget log status output err held → held ≡ Some pairs → AreTrueFor budget pairs
 cmp_held left right budget log Done output err held pairs does is = of_answer left right budget log held does.0 pairs does.1 is
+cmp_held left right budget log Found output err held pairs does is = absurd does
 cmp_held left right budget log Usage output err held pairs does is = absurd does
 cmp_held left right budget log (SheetRefused fault) output err held pairs does is = absurd does
 cmp_held left right budget log (NoItem fault) output err held pairs does is = absurd does
@@ -142,6 +172,7 @@ cmp_held left right budget log NoMemory output err held pairs does is = unheld h
 
 trial_held : (rules : ℕ) (status : Status) (output err : Change) (held : Option PairsParts) (pairs : PairsParts) → TrialDoes rules status output err held → held ≡ Some pairs → AreTrueFor None pairs
 trial_held rules Done output err held pairs does is = let m = does.1.merges in same_held None held m.pairs pairs m.held_is (record { same_budget = m.same_budget; all_true = m.all_true }) is
+trial_held rules Found output err held pairs does is = absurd does
 trial_held rules Usage output err held pairs does is = absurd does
 trial_held rules (SheetRefused fault) output err held pairs does is = absurd does
 trial_held rules (NoItem fault) output err held pairs does is = absurd does
@@ -156,16 +187,19 @@ trial_held rules NoMemory output err held pairs does is = unheld held pairs does
 held_by : (form : Option Form) (status : Status) (input output err : Change) (held : Option PairsParts) (pairs : PairsParts) → Answers form status input output err held → held ≡ Some pairs → AreTrueFor (named_budget form) pairs
 held_by None status input output err held pairs h is = unheld held pairs h.1 is
 held_by (Some (Min budget asked)) status input output err held pairs h is =
-    let m = made max_bytes (Merges budget asked) MinRefuses status input output err held pairs h is in of_merges budget asked m.0 m.1 m.2 held pairs m.3 is
+    let m = made max_bytes nowhere (Merges budget asked) MinRefuses status input output err held pairs h is in of_merges budget asked m.0 m.1 m.2 held pairs m.3 is
 held_by (Some (Dead budget)) status input output err held pairs h is =
-    let m = made max_bytes (Silent (TellsLives budget)) MinRefuses status input output err held pairs h is in of_lives budget m.0 m.1 held pairs m.3.0 is
-held_by (Some Style) status input output err held pairs h is = let m = made max_bytes (Silent TellsWinners) StyleRefuses status input output err held pairs h is in unheld held pairs m.3.0.1 is
+    let m = made max_bytes nowhere (Silent (TellsLives budget)) MinRefuses status input output err held pairs h is in of_lives budget m.0 m.1 held pairs m.3.0 is
+held_by (Some Style) status input output err held pairs h is = let m = made max_bytes nowhere (Silent TellsWinners) StyleRefuses status input output err held pairs h is in unheld held pairs m.3.0.1 is
 held_by (Some (Cmp left right budget log)) status input output err held pairs h is = cmp_held left right budget log status output err held pairs h is
-held_by (Some Check) status input output err held pairs h is = let m = made max_log_bytes (Silent Checks) CheckRefuses status input output err held pairs h is in unheld held pairs m.3.0.1 is
+held_by (Some Check) status input output err held pairs h is = let m = made max_log_bytes nowhere (Silent Checks) CheckRefuses status input output err held pairs h is in unheld held pairs m.3.0.1 is
 held_by (Some (Why from to budget)) status input output err held pairs h is =
-    let m = made max_bytes (Silent (ExplainsMove from to budget)) (WhyRefuses from to) status input output err held pairs h is in of_move from to budget m.0 m.1 held pairs m.3.0 is
+    let m = made max_bytes nowhere (Silent (ExplainsMove from to budget)) (WhyRefuses from to) status input output err held pairs h is in of_move from to budget m.0 m.1 held pairs m.3.0 is
 held_by (Some (Same split budget)) status input output err held pairs h is =
-    let m = made max_both (Silent (ComparesSheets split budget)) (SameRefuses split) status input output err held pairs h is in of_sheets split budget m.0 m.1 held pairs m.3.0 is
+    let m = made max_both nowhere (Silent (ComparesSheets split budget)) (SameRefuses split) status input output err held pairs h is in of_sheets split budget m.0 m.1 held pairs m.3.0 is
+held_by (Some Listing) status input output err held pairs h is = let m = made max_bytes in_sheet (Silent ListsItems) MinRefuses status input output err held pairs h is in unheld held pairs m.3.0.1 is
+held_by (Some (Lint budget)) status input output err held pairs h is =
+    let m = finding_made max_bytes in_sheet (Silent (TellsFound budget)) MinRefuses status input output err held pairs h is in of_found budget m.0 m.1 held pairs m.3.0 is
 held_by (Some (Trial rules)) status input output err held pairs h is = trial_held rules status output err held pairs h is
 held_by (Some (Help about)) status input output err held pairs h is = unheld held pairs h.1 is
 held_by (Some Version) status input output err held pairs h is = unheld held pairs h.1 is

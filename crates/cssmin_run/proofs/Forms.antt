@@ -1,8 +1,8 @@
 -- What a run did, by what its words ask for.
-use Rattle.std.proofs.Common.{Bool, ◌≡◌, ◌⊎◌, ◌↔◌, inl, inr, ℕ, List, [], true, false, Option, Some, None, IsSomeAnd, refl, sym, ◌∙◌, ap, subst}
+use Rattle.std.proofs.Common.{Bool, ◌≡◌, ◌⊎◌, ◌↔◌, inl, inr, ℕ, List, [], true, false, Option, Some, None, IfSome, IsSomeAnd, refl, sym, ap, subst}
 use Rattle.std.proofs.lemmas.Bool.{false≢true}
 use Rattle.std.specs.Prelude.{IsNone}
-use Rattle.command_words.specs.Forms.{Form, Min, Style, Dead, Cmp, Check, Why, Same, Trial, Help, Version, form_of}
+use Rattle.command_words.specs.Forms.{Form, Min, Style, Dead, Cmp, Check, Why, Same, Listing, Lint, Trial, Help, Version, form_of}
 use Rattle.css_model.specs.declared.fault.SheetFault.{SheetFault}
 use Rattle.css_model.specs.Sheets.Limits.{max_bytes}
 use Rattle.log_text.specs.CheckedTexts.{max_log_bytes}
@@ -12,20 +12,24 @@ use Rattle.cssmin_run.specs.Change.{Change, HasFailed}
 use Rattle.cssmin_run.specs.Commands.Check.{CheckDoes, CheckRefuses, Checks}
 use Rattle.cssmin_run.specs.Commands.Cmp.{CmpDoes}
 use Rattle.cssmin_run.specs.Commands.Dead.{DeadDoes, TellsLives}
+use Rattle.cssmin_run.specs.Commands.Lint.{LintDoes, TellsFound}
+use Rattle.cssmin_run.specs.Commands.Listing.{ListDoes, ListsItems}
 use Rattle.cssmin_run.specs.Commands.Min.{Merges, MinDoes, MinRefuses}
 use Rattle.cssmin_run.specs.Commands.Same.{ComparesSheets, SameDoes, SameRefuses}
 use Rattle.cssmin_run.specs.Commands.Style.{StyleDoes, StyleRefuses, TellsWinners}
 use Rattle.cssmin_run.specs.Commands.Trial.{TrialDoes}
 use Rattle.cssmin_run.specs.Commands.Why.{ExplainsMove, WhyDoes, WhyRefuses}
-use Rattle.cssmin_run.specs.Run.{Answers, Outcome, Ran, needs_input}
+use Rattle.cssmin_run.specs.Placed.{fault_place, in_sheet, nowhere, TellsAt}
+use Rattle.cssmin_run.specs.Run.{Answers, Outcome, Ran, needs_input, tells_places}
 use Rattle.cssmin_run.specs.SheetFaults.{HasFault, HasNoFault}
 use Rattle.cssmin_run.specs.Tasks.{Began, Did, IsRefused, Silent}
 use Rattle.cssmin_run.specs.Telling.{Tells}
 use Rattle.cssmin_run.specs.Writing.{Stops, WritesSome}
 use Rattle.cssmin_run.specs.declared.status.Status.{Status}
-use Rattle.cssmin_run.specs.declared.status.Status.TheVariants.{Done, Usage, SheetRefused, NoItem, DocRefused, LogRefused, NoSplit, SecondRefused, ReadFault, WriteFault, NoMemory}
+use Rattle.cssmin_run.specs.declared.status.Status.TheVariants.{Done, Found, Usage, SheetRefused, NoItem, DocRefused, LogRefused, NoSplit, SecondRefused, ReadFault, WriteFault, NoMemory}
 use Rattle.cssmin_run.proofs.Faults.{one_fault, fault_or_none, merged_no_fault}
-use Rattle.cssmin_run.proofs.Outcomes.{completes, completes_silent, refuses, silent_out, stops_failed, stops_out, told_of_does}
+use Rattle.cssmin_run.proofs.Findings.{finds_silent}
+use Rattle.cssmin_run.proofs.Outcomes.{completes, completes_silent, refuses, stops_failed, stops_out, told_of_does}
 
 -- ---- What the words ask for
 
@@ -55,6 +59,12 @@ why_did words from to budget status input output err held ran is = did words (So
 pub same_did : (words : List (List ℕ)) (split : ℕ) (budget : Option ℕ) (status : Status) (input output err : Change) (held : Option PairsParts) → Ran words status input output err held → form_of words ≡ Some (Same split budget) → SameDoes split budget status input output err held
 same_did words split budget status input output err held ran is = did words (Some (Same split budget)) status input output err held ran is
 
+pub list_did : (words : List (List ℕ)) (status : Status) (input output err : Change) (held : Option PairsParts) → Ran words status input output err held → form_of words ≡ Some Listing → ListDoes status input output err held
+list_did words status input output err held ran is = did words (Some Listing) status input output err held ran is
+
+pub lint_did : (words : List (List ℕ)) (budget : Option ℕ) (status : Status) (input output err : Change) (held : Option PairsParts) → Ran words status input output err held → form_of words ≡ Some (Lint budget) → LintDoes budget status input output err held
+lint_did words budget status input output err held ran is = did words (Some (Lint budget)) status input output err held ran is
+
 pub trial_did : (words : List (List ℕ)) (rules : ℕ) (status : Status) (input output err : Change) (held : Option PairsParts) → Ran words status input output err held → form_of words ≡ Some (Trial rules) → TrialDoes rules status output err held
 trial_did words rules status input output err held ran is = did words (Some (Trial rules)) status input output err held ran is
 
@@ -68,6 +78,8 @@ no_usage (Dead budget) input output err held h = h.0
 no_usage Style input output err held h = h.0
 no_usage (Why from to budget) input output err held h = h.0
 no_usage (Same split budget) input output err held h = h.0
+no_usage Listing input output err held h = h.0
+no_usage (Lint budget) input output err held h = h.0
 no_usage (Trial rules) input output err held h = h
 no_usage (Help about) input output err held h = h.0
 no_usage Version input output err held h = h.0
@@ -91,6 +103,8 @@ read_fault_of (Some (Dead budget)) input output err held h = h.0
 read_fault_of (Some Style) input output err held h = h.0
 read_fault_of (Some (Why from to budget)) input output err held h = h.0
 read_fault_of (Some (Same split budget)) input output err held h = h.0
+read_fault_of (Some Listing) input output err held h = h.0
+read_fault_of (Some (Lint budget)) input output err held h = h.0
 read_fault_of (Some (Trial rules)) input output err held h = absurd h
 read_fault_of (Some (Help about)) input output err held h = absurd h.0
 read_fault_of (Some Version) input output err held h = absurd h.0
@@ -107,6 +121,8 @@ write_fault_of (Some (Dead budget)) input output err held h = stops_failed h.tex
 write_fault_of (Some Style) input output err held h = stops_failed h.text h.report output err h.stopped
 write_fault_of (Some (Why from to budget)) input output err held h = stops_failed h.text h.report output err h.stopped
 write_fault_of (Some (Same split budget)) input output err held h = stops_failed h.text h.report output err h.stopped
+write_fault_of (Some Listing) input output err held h = stops_failed h.text h.report output err h.stopped
+write_fault_of (Some (Lint budget)) input output err held h = stops_failed h.text h.report output err h.stopped
 write_fault_of (Some (Trial rules)) input output err held h = stops_failed h.0 [] output err h.2
 write_fault_of (Some (Help about)) input output err held h = stops_failed h.0.0 [] output err h.0.2
 write_fault_of (Some Version) input output err held h = stops_failed h.0.0 [] output err h.0.2
@@ -132,6 +148,7 @@ front_is words budget asked status input output err held ran min is = by_status 
 -- a sheet is refused for one fault at most
 one_refusal : (read : List ℕ) (other : Status) (fault : SheetFault) → MinRefuses other read → HasFault read fault → other ≡ SheetRefused fault
 one_refusal read Done fault cause has = absurd cause
+one_refusal read Found fault cause has = absurd cause
 one_refusal read Usage fault cause has = absurd cause
 one_refusal read (SheetRefused found) fault cause has = ap SheetRefused (one_fault read found fault cause has)
 one_refusal read (NoItem found) fault cause has = absurd cause
@@ -146,6 +163,7 @@ one_refusal read NoMemory fault cause has = absurd cause
 -- a sheet without a fault is not refused
 no_refusal : (read : List ℕ) (other : Status) → HasNoFault read → MinRefuses other read → ⊥
 no_refusal read Done none cause = cause
+no_refusal read Found none cause = cause
 no_refusal read Usage none cause = cause
 no_refusal read (SheetRefused found) none cause = fault_or_none read found cause none
 no_refusal read (NoItem found) none cause = cause
@@ -164,7 +182,7 @@ unrefused (Some read) has = λ other cause. no_refusal read other has cause
 pub refused_for : (words : List (List ℕ)) (budget : Option ℕ) (asked : Bool) (status : Status) (input output err : Change) (held : Option PairsParts) (fault : SheetFault) → Ran words status input output err held
     → form_of words ≡ Some (Min budget asked) → IsSomeAnd input.old (λ bytes. HasFault bytes fault) → (HasFailed input → ⊥) → (status ≡ SheetRefused fault) ⊎ (status ≡ NoMemory)
 refused_for words budget asked status input output err held fault ran min has sure =
-    refuses max_bytes (Merges budget asked) MinRefuses (SheetRefused fault) status input output err held (min_did words budget asked status input output err held ran min)
+    refuses max_bytes nowhere (Merges budget asked) MinRefuses (SheetRefused fault) status input output err held (min_did words budget asked status input output err held ran min)
     (λ read text report held made has. merged_no_fault _ read text fault made.merged has) (λ read other cause has. one_refusal read other fault cause has) has sure
 
 -- no write of `min` failed, where its report did not fail if one is asked for
@@ -179,30 +197,41 @@ unfailed budget false input output err held safe told began = safe (stops_out be
 pub completed : (words : List (List ℕ)) (budget : Option ℕ) (asked : Bool) (status : Status) (input output err : Change) (held : Option PairsParts) → Ran words status input output err held
     → form_of words ≡ Some (Min budget asked) → IsSomeAnd input.old HasNoFault → (HasFailed input → ⊥) → (HasFailed output → ⊥) → (asked ≡ true → HasFailed err → ⊥) → (status ≡ Done) ⊎ (status ≡ NoMemory)
 completed words budget asked status input output err held ran min has sure safe told =
-    completes max_bytes (Merges budget asked) MinRefuses status input output err held (min_did words budget asked status input output err held ran min) (unrefused input.old has) sure (unfailed budget asked input output err held safe told)
+    completes max_bytes nowhere (Merges budget asked) MinRefuses status input output err held (min_did words budget asked status input output err held ran min) (unrefused input.old has) sure (unfailed budget asked input output err held safe told)
 
 pub checked : (words : List (List ℕ)) (status : Status) (input output err : Change) (held : Option PairsParts) → Ran words status input output err held
     → form_of words ≡ Some Check → IsSomeAnd input.old (λ read. (other : Status) → CheckRefuses other read → ⊥) → (HasFailed input → ⊥) → (HasFailed output → ⊥) → (status ≡ Done) ⊎ (status ≡ NoMemory)
-checked words status input output err held ran check none sure safe = completes_silent max_log_bytes Checks CheckRefuses status input output err held (check_did words status input output err held ran check) none sure safe
+checked words status input output err held ran check none sure safe = completes_silent max_log_bytes nowhere Checks CheckRefuses status input output err held (check_did words status input output err held ran check) none sure safe
 
 pub told_dead : (words : List (List ℕ)) (budget : Option ℕ) (status : Status) (input output err : Change) (held : Option PairsParts) → Ran words status input output err held
     → form_of words ≡ Some (Dead budget) → IsSomeAnd input.old (λ read. (other : Status) → MinRefuses other read → ⊥) → (HasFailed input → ⊥) → (HasFailed output → ⊥) → (status ≡ Done) ⊎ (status ≡ NoMemory)
-told_dead words budget status input output err held ran is none sure safe = completes_silent max_bytes (TellsLives budget) MinRefuses status input output err held (dead_did words budget status input output err held ran is) none sure safe
+told_dead words budget status input output err held ran is none sure safe = completes_silent max_bytes nowhere (TellsLives budget) MinRefuses status input output err held (dead_did words budget status input output err held ran is) none sure safe
 
 pub told_style : (words : List (List ℕ)) (status : Status) (input output err : Change) (held : Option PairsParts) → Ran words status input output err held
     → form_of words ≡ Some Style → IsSomeAnd input.old (λ read. (other : Status) → StyleRefuses other read → ⊥) → (HasFailed input → ⊥) → (HasFailed output → ⊥) → (status ≡ Done) ⊎ (status ≡ NoMemory)
-told_style words status input output err held ran is none sure safe = completes_silent max_bytes TellsWinners StyleRefuses status input output err held (style_did words status input output err held ran is) none sure safe
+told_style words status input output err held ran is none sure safe = completes_silent max_bytes nowhere TellsWinners StyleRefuses status input output err held (style_did words status input output err held ran is) none sure safe
 
 pub told_why : (words : List (List ℕ)) (from to : ℕ) (budget : Option ℕ) (status : Status) (input output err : Change) (held : Option PairsParts) → Ran words status input output err held
     → form_of words ≡ Some (Why from to budget) → IsSomeAnd input.old (λ read. (other : Status) → WhyRefuses from to other read → ⊥) → (HasFailed input → ⊥) → (HasFailed output → ⊥) → (status ≡ Done) ⊎ (status ≡ NoMemory)
-told_why words from to budget status input output err held ran is none sure safe = completes_silent max_bytes (ExplainsMove from to budget) (WhyRefuses from to) status input output err held (why_did words from to budget status input output err held ran is) none sure safe
+told_why words from to budget status input output err held ran is none sure safe = completes_silent max_bytes nowhere (ExplainsMove from to budget) (WhyRefuses from to) status input output err held (why_did words from to budget status input output err held ran is) none sure safe
 
 pub told_same : (words : List (List ℕ)) (split : ℕ) (budget : Option ℕ) (status : Status) (input output err : Change) (held : Option PairsParts) → Ran words status input output err held
     → form_of words ≡ Some (Same split budget) → IsSomeAnd input.old (λ read. (other : Status) → SameRefuses split other read → ⊥) → (HasFailed input → ⊥) → (HasFailed output → ⊥) → (status ≡ Done) ⊎ (status ≡ NoMemory)
-told_same words split budget status input output err held ran is none sure safe = completes_silent max_both (ComparesSheets split budget) (SameRefuses split) status input output err held (same_did words split budget status input output err held ran is) none sure safe
+told_same words split budget status input output err held ran is none sure safe = completes_silent max_both nowhere (ComparesSheets split budget) (SameRefuses split) status input output err held (same_did words split budget status input output err held ran is) none sure safe
+
+pub items_listed : (words : List (List ℕ)) (status : Status) (input output err : Change) (held : Option PairsParts) → Ran words status input output err held
+    → form_of words ≡ Some Listing → IsSomeAnd input.old HasNoFault → (HasFailed input → ⊥) → (HasFailed output → ⊥) → (status ≡ Done) ⊎ (status ≡ NoMemory)
+items_listed words status input output err held ran is has sure safe =
+    completes_silent max_bytes in_sheet ListsItems MinRefuses status input output err held (list_did words status input output err held ran is) (unrefused input.old has) sure safe
+
+pub findings_told : (words : List (List ℕ)) (budget : Option ℕ) (status : Status) (input output err : Change) (held : Option PairsParts) → Ran words status input output err held
+    → form_of words ≡ Some (Lint budget) → IsSomeAnd input.old HasNoFault → (HasFailed input → ⊥) → (HasFailed output → ⊥) → (status ≡ Done) ⊎ (status ≡ Found) ⊎ (status ≡ NoMemory)
+findings_told words budget status input output err held ran is has sure safe =
+    finds_silent max_bytes in_sheet (TellsFound budget) MinRefuses status input output err held (lint_did words budget status input output err held ran is) (unrefused input.old has) sure safe
 
 writes_done : (kind : List ℕ → Type 0) (status : Status) (output err : Change) → WritesSome kind status output err → (HasFailed output → ⊥) → (status ≡ Done) ⊎ (status ≡ NoMemory)
 writes_done kind Done output err h safe = inl refl
+writes_done kind Found output err h safe = absurd h
 writes_done kind Usage output err h safe = absurd h
 writes_done kind (SheetRefused fault) output err h safe = absurd h
 writes_done kind (NoItem fault) output err h safe = absurd h
@@ -216,6 +245,7 @@ writes_done kind NoMemory output err h safe = inr refl
 
 cmp_done : (left right : List ℕ) (budget : Option ℕ) (log : Bool) (status : Status) (output err : Change) (held : Option PairsParts) → CmpDoes left right budget log status output err held → (HasFailed output → ⊥) → (status ≡ Done) ⊎ (status ≡ NoMemory)
 cmp_done left right budget log Done output err held h safe = inl refl
+cmp_done left right budget log Found output err held h safe = absurd h
 cmp_done left right budget log Usage output err held h safe = absurd h
 cmp_done left right budget log (SheetRefused fault) output err held h safe = absurd h
 cmp_done left right budget log (NoItem fault) output err held h safe = absurd h
@@ -229,6 +259,7 @@ cmp_done left right budget log NoMemory output err held h safe = inr refl
 
 trial_done : (rules : ℕ) (status : Status) (output err : Change) (held : Option PairsParts) → TrialDoes rules status output err held → (HasFailed output → ⊥) → (status ≡ Done) ⊎ (status ≡ NoMemory)
 trial_done rules Done output err held h safe = inl refl
+trial_done rules Found output err held h safe = absurd h
 trial_done rules Usage output err held h safe = absurd h
 trial_done rules (SheetRefused fault) output err held h safe = absurd h
 trial_done rules (NoItem fault) output err held h safe = absurd h
@@ -248,6 +279,8 @@ other_done (Dead budget) status input output err held h unneeded safe = absurd (
 other_done Style status input output err held h unneeded safe = absurd (false≢true (sym unneeded))
 other_done (Why from to budget) status input output err held h unneeded safe = absurd (false≢true (sym unneeded))
 other_done (Same split budget) status input output err held h unneeded safe = absurd (false≢true (sym unneeded))
+other_done Listing status input output err held h unneeded safe = absurd (false≢true (sym unneeded))
+other_done (Lint budget) status input output err held h unneeded safe = absurd (false≢true (sym unneeded))
 other_done (Trial rules) status input output err held h unneeded safe = trial_done rules status output err held h safe
 other_done (Help about) status input output err held h unneeded safe = writes_done _ status output err h.0 safe
 other_done Version status input output err held h unneeded safe = writes_done _ status output err h.0 safe
@@ -260,6 +293,7 @@ others_done words status input output err held form ran is unneeded safe = other
 
 some_told : (kind : List ℕ → Type 0) (status : Status) (output err : Change) → WritesSome kind status output err → (status ≡ Done → ⊥) → (status ≡ WriteFault → ⊥) → Tells status err
 some_told kind Done output err h undone unfailed = absurd (undone refl)
+some_told kind Found output err h undone unfailed = absurd h
 some_told kind Usage output err h undone unfailed = absurd h
 some_told kind (SheetRefused fault) output err h undone unfailed = absurd h
 some_told kind (NoItem fault) output err h undone unfailed = absurd h
@@ -273,6 +307,7 @@ some_told kind NoMemory output err h undone unfailed = h
 
 cmp_told : (left right : List ℕ) (budget : Option ℕ) (log : Bool) (status : Status) (output err : Change) (held : Option PairsParts) → CmpDoes left right budget log status output err held → (status ≡ Done → ⊥) → (status ≡ WriteFault → ⊥) → Tells status err
 cmp_told left right budget log Done output err held h undone unfailed = absurd (undone refl)
+cmp_told left right budget log Found output err held h undone unfailed = absurd h
 cmp_told left right budget log Usage output err held h undone unfailed = absurd h
 cmp_told left right budget log (SheetRefused fault) output err held h undone unfailed = absurd h
 cmp_told left right budget log (NoItem fault) output err held h undone unfailed = absurd h
@@ -286,6 +321,7 @@ cmp_told left right budget log NoMemory output err held h undone unfailed = h.1
 
 trial_told : (rules : ℕ) (status : Status) (output err : Change) (held : Option PairsParts) → TrialDoes rules status output err held → (status ≡ Done → ⊥) → (status ≡ WriteFault → ⊥) → Tells status err
 trial_told rules Done output err held h undone unfailed = absurd (undone refl)
+trial_told rules Found output err held h undone unfailed = absurd h
 trial_told rules Usage output err held h undone unfailed = absurd h
 trial_told rules (SheetRefused fault) output err held h undone unfailed = absurd h
 trial_told rules (NoItem fault) output err held h undone unfailed = absurd h
@@ -297,21 +333,60 @@ trial_told rules ReadFault output err held h undone unfailed = absurd h
 trial_told rules WriteFault output err held h undone unfailed = absurd (unfailed refl)
 trial_told rules NoMemory output err held h undone unfailed = h.1
 
-told_of : (form : Option Form) (status : Status) (input output err : Change) (held : Option PairsParts) → Answers form status input output err held → (status ≡ Done → ⊥) → (status ≡ WriteFault → ⊥) → Tells status err
-told_of None status input output err held h undone unfailed = subst (λ (s : Status). Tells s err) (sym h.0) h.2
-told_of (Some (Min budget asked)) status input output err held h undone unfailed = told_of_does max_bytes (Merges budget asked) MinRefuses status input output err held h undone unfailed
-told_of (Some (Cmp left right budget log)) status input output err held h undone unfailed = cmp_told left right budget log status output err held h undone unfailed
-told_of (Some Check) status input output err held h undone unfailed = told_of_does max_log_bytes (Silent Checks) CheckRefuses status input output err held h undone unfailed
-told_of (Some (Dead budget)) status input output err held h undone unfailed = told_of_does max_bytes (Silent (TellsLives budget)) MinRefuses status input output err held h undone unfailed
-told_of (Some Style) status input output err held h undone unfailed = told_of_does max_bytes (Silent TellsWinners) StyleRefuses status input output err held h undone unfailed
-told_of (Some (Why from to budget)) status input output err held h undone unfailed = told_of_does max_bytes (Silent (ExplainsMove from to budget)) (WhyRefuses from to) status input output err held h undone unfailed
-told_of (Some (Same split budget)) status input output err held h undone unfailed = told_of_does max_both (Silent (ComparesSheets split budget)) (SameRefuses split) status input output err held h undone unfailed
-told_of (Some (Trial rules)) status input output err held h undone unfailed = trial_told rules status output err held h undone unfailed
-told_of (Some (Help about)) status input output err held h undone unfailed = some_told _ status output err h.0 undone unfailed
-told_of (Some Version) status input output err held h undone unfailed = some_told _ status output err h.0 undone unfailed
+told_of : (form : Option Form) (status : Status) (input output err : Change) (held : Option PairsParts) → Answers form status input output err held → tells_places form ≡ false → (status ≡ Done → ⊥) → (status ≡ WriteFault → ⊥) → Tells status err
+told_of None status input output err held h silent undone unfailed = subst (λ (s : Status). Tells s err) (sym h.0) h.2
+told_of (Some (Min budget asked)) status input output err held h silent undone unfailed = told_of_does max_bytes (Merges budget asked) MinRefuses status input output err held h undone unfailed
+told_of (Some (Cmp left right budget log)) status input output err held h silent undone unfailed = cmp_told left right budget log status output err held h undone unfailed
+told_of (Some Check) status input output err held h silent undone unfailed = told_of_does max_log_bytes (Silent Checks) CheckRefuses status input output err held h undone unfailed
+told_of (Some (Dead budget)) status input output err held h silent undone unfailed = told_of_does max_bytes (Silent (TellsLives budget)) MinRefuses status input output err held h undone unfailed
+told_of (Some Style) status input output err held h silent undone unfailed = told_of_does max_bytes (Silent TellsWinners) StyleRefuses status input output err held h undone unfailed
+told_of (Some (Why from to budget)) status input output err held h silent undone unfailed = told_of_does max_bytes (Silent (ExplainsMove from to budget)) (WhyRefuses from to) status input output err held h undone unfailed
+told_of (Some (Same split budget)) status input output err held h silent undone unfailed = told_of_does max_both (Silent (ComparesSheets split budget)) (SameRefuses split) status input output err held h undone unfailed
+told_of (Some Listing) status input output err held h silent undone unfailed = absurd (false≢true (sym silent))
+told_of (Some (Lint budget)) status input output err held h silent undone unfailed = absurd (false≢true (sym silent))
+told_of (Some (Trial rules)) status input output err held h silent undone unfailed = trial_told rules status output err held h undone unfailed
+told_of (Some (Help about)) status input output err held h silent undone unfailed = some_told _ status output err h.0 undone unfailed
+told_of (Some Version) status input output err held h silent undone unfailed = some_told _ status output err h.0 undone unfailed
 
-pub told_is : (words : List (List ℕ)) (status : Status) (input output err : Change) (held : Option PairsParts) → Ran words status input output err held → (status ≡ Done → ⊥) → (status ≡ WriteFault → ⊥) → Tells status err
-told_is words status input output err held ran undone unfailed = told_of (form_of words) status input output err held ran.answers undone unfailed
+pub told_is : (words : List (List ℕ)) (status : Status) (input output err : Change) (held : Option PairsParts) → Ran words status input output err held → tells_places (form_of words) ≡ false → (status ≡ Done → ⊥) → (status ≡ WriteFault → ⊥) → Tells status err
+told_is words status input output err held ran silent undone unfailed = told_of (form_of words) status input output err held ran.answers silent undone unfailed
+
+-- where the fault of a sheet is
+placed_in : (left : Option (List ℕ)) (fault : SheetFault) (err : Change) → (read : List ℕ) × IfSome left (λ bytes. bytes ≡ read) × TellsAt (fault_place read fault) (SheetRefused fault) err
+    → IfSome left (λ read. TellsAt (fault_place read fault) (SheetRefused fault) err)
+placed_in None fault err told = tt
+placed_in (Some bytes) fault err told = subst (λ (read : List ℕ). TellsAt (fault_place read fault) (SheetRefused fault) err) (sym told.1) told.2
+
+pub fault_placed : (words : List (List ℕ)) (status : Status) (input output err : Change) (held : Option PairsParts) (fault : SheetFault) → Ran words status input output err held
+    → form_of words ≡ Some Listing → status ≡ SheetRefused fault → IfSome input.old (λ read. TellsAt (fault_place read fault) (SheetRefused fault) err)
+fault_placed words status input output err held fault ran list is =
+    let does : ListDoes (SheetRefused fault) input output err held = subst (λ (s : Status). ListDoes s input output err held) is (list_did words status input output err held ran list) in
+    placed_in input.old fault err does.3
+
+pub lint_placed : (words : List (List ℕ)) (budget : Option ℕ) (status : Status) (input output err : Change) (held : Option PairsParts) (fault : SheetFault) → Ran words status input output err held
+    → form_of words ≡ Some (Lint budget) → status ≡ SheetRefused fault → IfSome input.old (λ read. TellsAt (fault_place read fault) (SheetRefused fault) err)
+lint_placed words budget status input output err held fault ran lint is =
+    let does : LintDoes budget (SheetRefused fault) input output err held = subst (λ (s : Status). LintDoes budget s input output err held) is (lint_did words budget status input output err held ran lint) in
+    placed_in input.old fault err does.3
+
+-- only `lint` finds something
+finds_of : (form : Option Form) (input output err : Change) (held : Option PairsParts) → Answers form Found input output err held → (budget : Option ℕ) × (form ≡ Some (Lint budget))
+finds_of None input output err held h = absurd (let bad : ⊥ = let same : Found ≡ Usage = h.0 in cc in bad)
+finds_of (Some (Min budget asked)) input output err held h = absurd h.0
+finds_of (Some (Cmp left right budget log)) input output err held h = absurd h
+finds_of (Some Check) input output err held h = absurd h.0
+finds_of (Some (Dead budget)) input output err held h = absurd h.0
+finds_of (Some Style) input output err held h = absurd h.0
+finds_of (Some (Why from to budget)) input output err held h = absurd h.0
+finds_of (Some (Same split budget)) input output err held h = absurd h.0
+finds_of (Some Listing) input output err held h = absurd h.0
+finds_of (Some (Lint budget)) input output err held h = (budget, refl)
+finds_of (Some (Trial rules)) input output err held h = absurd h
+finds_of (Some (Help about)) input output err held h = absurd h.0
+finds_of (Some Version) input output err held h = absurd h.0
+
+pub only_lint : (words : List (List ℕ)) (input output err : Change) (held : Option PairsParts) → Ran words Found input output err held → (budget : Option ℕ) × (form_of words ≡ Some (Lint budget))
+only_lint words input output err held ran = finds_of (form_of words) input output err held ran.answers
 
 -- what was done by a command that has the form of the words
 pub answered : (form found : Option Form) (status : Status) (input output err : Change) (held : Option PairsParts) → found ≡ form → Answers found status input output err held → Answers form status input output err held

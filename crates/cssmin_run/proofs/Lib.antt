@@ -1,5 +1,6 @@
 mod Budgets
 mod Faults
+mod Findings
 mod Forms
 mod Outcomes
 mod Reading

@@ -2,6 +2,8 @@
 pub mod Check
 pub mod Cmp
 pub mod Dead
+pub mod Lint
+pub mod Listing
 pub mod Min
 pub mod Same
 pub mod Style

@@ -1,30 +1,33 @@
 -- What follows from the contract of a run.
-use Rattle.std.specs.Prelude.{Bool, true, ◌≡◌, ◌⊎◌, ◌↔◌, ℕ, ◌<◌, false, List, Option, Some, None, IsSomeAnd, IsNone}
-use Rattle.css_io.specs.Io.{Rose, last_count}
+use Rattle.std.specs.Prelude.{Bool, true, ◌≡◌, ◌⊎◌, ◌↔◌, ℕ, ◌<◌, false, List, Option, Some, None, IfSome, IsSomeAnd, IsNone}
+use Rattle.css_io.specs.Io.{last_count}
 use Rattle.css_model.specs.declared.fault.SheetFault.{SheetFault}
 use Rattle.css_model.specs.Sheets.Limits.{max_bytes}
 use Rattle.cnf.specs.declared.lit.Lit.{Lit}
 use Rattle.css_model.specs.Documents.SelectorParts.{SelectorParts}
 use Rattle.overlap.specs.declared.answer.Answer.TheVariants.{Spent}
 use Rattle.overlap.specs.Remembered.{IsAnswered, IsTrueList}
-use Rattle.command_words.specs.Forms.{Form, Min, Style, Dead, Cmp, Check, Why, Same, Trial, form_of}
+use Rattle.command_words.specs.Forms.{Form, Min, Style, Dead, Cmp, Check, Why, Same, Listing, Lint, Trial, form_of}
 use Rattle.overlap.specs.PairsParts.{PairsParts}
 use Rattle.cssmin_run.specs.Change.{Change, HasFailed}
 use Rattle.cssmin_run.specs.Commands.Check.{CheckDoes, CheckRefuses}
 use Rattle.cssmin_run.specs.Commands.Cmp.{CmpDoes, unasked}
 use Rattle.cssmin_run.specs.Commands.Dead.{DeadDoes}
+use Rattle.cssmin_run.specs.Commands.Lint.{LintDoes}
+use Rattle.cssmin_run.specs.Commands.Listing.{ListDoes}
 use Rattle.cssmin_run.specs.Commands.Min.{Merges, MinDoes, MinRefuses}
 use Rattle.cssmin_run.specs.Commands.Same.{SameDoes, SameRefuses}
 use Rattle.cssmin_run.specs.Commands.Style.{StyleDoes, StyleRefuses}
 use Rattle.cssmin_run.specs.Commands.Trial.{TrialDoes}
 use Rattle.cssmin_run.specs.Commands.Why.{WhyDoes, WhyRefuses}
+use Rattle.cssmin_run.specs.Placed.{fault_place, TellsAt}
 use Rattle.cssmin_run.specs.Remaining.{LeavesOnlyBlocked}
-use Rattle.cssmin_run.specs.Run.{Ran, named_budget, needs_input}
+use Rattle.cssmin_run.specs.Run.{Ran, named_budget, needs_input, tells_places}
 use Rattle.cssmin_run.specs.SheetFaults.{HasFault, HasNoFault}
 use Rattle.cssmin_run.specs.Tasks.{Began, Did, IsRefused}
 use Rattle.cssmin_run.specs.Telling.{Tells}
 use Rattle.cssmin_run.specs.declared.status.Status.{Status}
-use Rattle.cssmin_run.specs.declared.status.Status.TheVariants.{Done, Usage, SheetRefused, ReadFault, WriteFault, NoMemory}
+use Rattle.cssmin_run.specs.declared.status.Status.TheVariants.{Done, Found, Usage, SheetRefused, ReadFault, WriteFault, NoMemory}
 
 -- ---- Words
 
@@ -62,15 +65,42 @@ WhyDoesItsWord = (words : List (List ℕ)) (from to : ℕ) (budget : Option ℕ)
 abbrev pub SameDoesItsWord : Type 0
 SameDoesItsWord = (words : List (List ℕ)) (split : ℕ) (budget : Option ℕ) (status : Status) (input output err : Change) (held : Option PairsParts) → Ran words status input output err held → form_of words ≡ Some (Same split budget) → SameDoes split budget status input output err held
 
+-- words that ask for it do what `list` says
+abbrev pub ListDoesItsWord : Type 0
+ListDoesItsWord = (words : List (List ℕ)) (status : Status) (input output err : Change) (held : Option PairsParts) → Ran words status input output err held → form_of words ≡ Some Listing → ListDoes status input output err held
+
+-- words that ask for it do what `lint` says
+abbrev pub LintDoesItsWord : Type 0
+LintDoesItsWord = (words : List (List ℕ)) (budget : Option ℕ) (status : Status) (input output err : Change) (held : Option PairsParts) → Ran words status input output err held → form_of words ≡ Some (Lint budget) → LintDoes budget status input output err held
+
 -- words that try merging do what `trial` says
 abbrev pub TrialDoesItsWord : Type 0
 TrialDoesItsWord =
     (words : List (List ℕ)) (rules : ℕ) (status : Status) (input output err : Change) (held : Option PairsParts) → Ran words status input output err held → form_of words ≡ Some (Trial rules) → TrialDoes rules status output err held
 
--- but for what is done and for failed writes each status is told on standard error
+-- but for what is done and for failed writes each status is told on standard error, by commands that tell no places
 abbrev pub StatusIsTold : Type 0
 StatusIsTold =
-    (words : List (List ℕ)) (status : Status) (input output err : Change) (held : Option PairsParts) → Ran words status input output err held → (status ≡ Done → ⊥) → (status ≡ WriteFault → ⊥) → Tells status err
+    (words : List (List ℕ)) (status : Status) (input output err : Change) (held : Option PairsParts) → Ran words status input output err held
+    → tells_places (form_of words) ≡ false → (status ≡ Done → ⊥) → (status ≡ WriteFault → ⊥) → Tells status err
+
+-- only `lint` ends with the status that something was found
+abbrev pub OnlyLintFinds : Type 0
+OnlyLintFinds =
+    (words : List (List ℕ)) (input output err : Change) (held : Option PairsParts) → Ran words Found input output err held
+    → (budget : Option ℕ) × (form_of words ≡ Some (Lint budget))
+
+-- by `list` with the line and the column of the fault
+abbrev pub FaultIsPlaced : Type 0
+FaultIsPlaced =
+    (words : List (List ℕ)) (status : Status) (input output err : Change) (held : Option PairsParts) (fault : SheetFault) → Ran words status input output err held
+    → form_of words ≡ Some Listing → status ≡ SheetRefused fault → IfSome input.old (λ read. TellsAt (fault_place read fault) (SheetRefused fault) err)
+
+-- by `lint` the fault of a sheet is told with its line and its column
+abbrev pub LintFaultIsPlaced : Type 0
+LintFaultIsPlaced =
+    (words : List (List ℕ)) (budget : Option ℕ) (status : Status) (input output err : Change) (held : Option PairsParts) (fault : SheetFault) → Ran words status input output err held
+    → form_of words ≡ Some (Lint budget) → status ≡ SheetRefused fault → IfSome input.old (λ read. TellsAt (fault_place read fault) (SheetRefused fault) err)
 
 -- ---- The answers that are held, after any command
 
@@ -161,6 +191,18 @@ abbrev pub SheetsAreCompared : Type 0
 SheetsAreCompared =
     (words : List (List ℕ)) (split : ℕ) (budget : Option ℕ) (status : Status) (input output err : Change) (held : Option PairsParts) → Ran words status input output err held
     → form_of words ≡ Some (Same split budget) → IsSomeAnd input.old (λ read. (other : Status) → SameRefuses split other read → ⊥) → (HasFailed input → ⊥) → (HasFailed output → ⊥) → (status ≡ Done) ⊎ (status ≡ NoMemory)
+
+-- the items of a sheet that is not refused are listed, where no read or write failed and the memory sufficed
+abbrev pub ItemsAreListed : Type 0
+ItemsAreListed =
+    (words : List (List ℕ)) (status : Status) (input output err : Change) (held : Option PairsParts) → Ran words status input output err held
+    → form_of words ≡ Some Listing → IsSomeAnd input.old HasNoFault → (HasFailed input → ⊥) → (HasFailed output → ⊥) → (status ≡ Done) ⊎ (status ≡ NoMemory)
+
+-- what is found in a sheet that is not refused is told, where no read or write failed and the memory sufficed
+abbrev pub FindingsAreTold : Type 0
+FindingsAreTold =
+    (words : List (List ℕ)) (budget : Option ℕ) (status : Status) (input output err : Change) (held : Option PairsParts) → Ran words status input output err held
+    → form_of words ≡ Some (Lint budget) → IsSomeAnd input.old HasNoFault → (HasFailed input → ⊥) → (HasFailed output → ⊥) → (status ≡ Done) ⊎ (status ≡ Found) ⊎ (status ≡ NoMemory)
 
 -- what needs no input is done, where no write failed and the memory sufficed
 abbrev pub OthersAreDone : Type 0

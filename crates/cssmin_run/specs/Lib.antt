@@ -1,6 +1,7 @@
 pub mod Change
 pub mod Commands
 pub mod Laws
+pub mod Placed
 pub mod Remaining
 pub mod Run
 pub mod SheetFaults

@@ -6,10 +6,11 @@ use Rattle.cssmin_run.specs.declared.status.LogFault.{LogFault}
 use Rattle.cssmin_run.specs.declared.status.LogFault.TheVariants.{TooLong, BadLine}
 use Rattle.style_text.specs.Messages.{doc_fault_text}
 use Rattle.cssmin_run.specs.declared.status.Status.{Status}
-use Rattle.cssmin_run.specs.declared.status.Status.TheVariants.{Done, Usage, SheetRefused, NoItem, DocRefused, LogRefused, NoSplit, SecondRefused, ReadFault, WriteFault, NoMemory}
+use Rattle.cssmin_run.specs.declared.status.Status.TheVariants.{Done, Found, Usage, SheetRefused, NoItem, DocRefused, LogRefused, NoSplit, SecondRefused, ReadFault, WriteFault, NoMemory}
 
 abbrev pub number_of : Status → ℕ
 number_of Done = 0
+number_of Found = 1
 number_of Usage = 2
 number_of (SheetRefused fault) = 3
 number_of ReadFault = 4
@@ -26,10 +27,11 @@ abbrev pub log_fault_text : LogFault → List ℕ
 log_fault_text TooLong = codes "too long"
 log_fault_text (BadLine line) = codes "line " ++ decimal line
 
--- One line, but for a run that is done, which tells nothing, and for words that are refused, of which some
--- lines tell why.
+-- One line, but for a run that is done, which tells nothing, also where it found something, and for words that are
+-- refused, of which some lines tell why.
 abbrev pub IsMessage : Status → List ℕ → Type 0
 IsMessage Done text = text ≡ []
+IsMessage Found text = text ≡ []
 IsMessage Usage text = EndsLine text
 IsMessage (SheetRefused fault) text = text ≡ codes "refused: " ++ fault_text fault ++ 10 ∷ []
 IsMessage (LogRefused fault) text = text ≡ codes "log refused: " ++ log_fault_text fault ++ 10 ∷ []

@@ -1,17 +1,21 @@
 -- What a command did that reads all of its input, makes a text of it and perhaps a report, and writes these.
-use Rattle.std.specs.Prelude.{◌≡◌, ℕ, ◌+◌, List, [], Option, Some, None, Result, Ok, Err, IfSome, drop}
+use Rattle.std.specs.Prelude.{◌≡◌, ◌≢◌, ℕ, Bool, true, false, ◌∷◌, ◌+◌, List, [], Option, Some, None, Result, Ok, Err, IfSome, drop}
 use Rattle.overlap.specs.PairsParts.{PairsParts}
+use Rattle.line_places.specs.declared.place.Place.{Place}
 use Rattle.cssmin_run.specs.Change.{Change, HasFailed, IsAllRead, Adds}
+use Rattle.cssmin_run.specs.Placed.{IsPlaceOf, TellsRefusal}
 use Rattle.cssmin_run.specs.Status.{IsRefusal}
 use Rattle.cssmin_run.specs.Telling.{Tells}
 use Rattle.cssmin_run.specs.Writing.{Stops}
 use Rattle.cssmin_run.specs.declared.status.Status.{Status}
-use Rattle.cssmin_run.specs.declared.status.Status.TheVariants.{Done, Usage, SheetRefused, ReadFault, WriteFault, NoMemory}
+use Rattle.cssmin_run.specs.declared.status.Status.TheVariants.{Done, Found, ReadFault, WriteFault, NoMemory}
 use Rattle.cssmin_run.specs.declared.tasks.Answer.{Answer}
+use Rattle.cssmin_run.specs.declared.tasks.Refusal.{Refusal}
 
 -- ---- What a command did
 -- `Makes` is what the command makes of the bytes that were read: a text, a report, and the answers that are held then.
--- `Refuses` tells which bytes it refuses, by the status. `most` is how many bytes it takes.
+-- `Refuses` tells which bytes it refuses, by the status. `most` is how many bytes it takes. `Where` is the place in these bytes that
+-- a refusal tells, if it tells one.
 
 -- a command without a report makes so
 abbrev pub Silent : (Makes : (read text : List ℕ) (held : Option PairsParts) → Type 0) → (read text report : List ℕ) (held : Option PairsParts) → Type 0
@@ -43,13 +47,39 @@ abbrev pub IsRefused : (most : ℕ) (Refused : List ℕ → Type 0) → Change �
 IsRefused most Refused input = IfSome input.old (λ read. Refused read × (input.new ≡ Some (drop (most + 1) read)))
 
 -- What the command did, by its status. Want of memory is told at any point before the first byte is written.
-abbrev pub Does : (most : ℕ) (Makes : (read text report : List ℕ) (held : Option PairsParts) → Type 0) (Refuses : Status → List ℕ → Type 0)
+abbrev pub Does : (most : ℕ) (Where : Status → List ℕ → Option Place) (Makes : (read text report : List ℕ) (held : Option PairsParts) → Type 0) (Refuses : Status → List ℕ → Type 0)
     → Status → (input output err : Change) → (held : Option PairsParts) → Type 0
-Does most Makes Refuses Done input output err held = Did Makes input output err held
-Does most Makes Refuses ReadFault input output err held = HasFailed input × (held ≡ None) × Tells ReadFault err
-Does most Makes Refuses WriteFault input output err held = Began Makes input output err held
-Does most Makes Refuses NoMemory input output err held = (held ≡ None) × Tells NoMemory err
-Does most Makes Refuses status input output err held = IsRefusal status × IsRefused most (Refuses status) input × (held ≡ None) × Tells status err
+Does most Where Makes Refuses Done input output err held = Did Makes input output err held
+Does most Where Makes Refuses ReadFault input output err held = HasFailed input × (held ≡ None) × Tells ReadFault err
+Does most Where Makes Refuses WriteFault input output err held = Began Makes input output err held
+Does most Where Makes Refuses NoMemory input output err held = (held ≡ None) × Tells NoMemory err
+Does most Where Makes Refuses status input output err held = IsRefusal status × IsRefused most (Refuses status) input × (held ≡ None) × TellsRefusal (Where status) status input err
+
+-- ---- What a command did whose status says whether it found something
+
+-- a command that makes so, with a text that is empty or that is not
+abbrev pub Empty : (Makes : (read text report : List ℕ) (held : Option PairsParts) → Type 0) → (read text report : List ℕ) (held : Option PairsParts) → Type 0
+Empty Makes read text report held = Makes read text report held × (text ≡ [])
+
+abbrev pub Filled : (Makes : (read text report : List ℕ) (held : Option PairsParts) → Type 0) → (read text report : List ℕ) (held : Option PairsParts) → Type 0
+Filled Makes read text report held = Makes read text report held × (text ≢ [])
+
+-- What it did, by its status: it is done where its text is empty, and has found something where it is not.
+abbrev pub Finds : (most : ℕ) (Where : Status → List ℕ → Option Place) (Makes : (read text report : List ℕ) (held : Option PairsParts) → Type 0) (Refuses : Status → List ℕ → Type 0)
+    → Status → (input output err : Change) → (held : Option PairsParts) → Type 0
+Finds most Where Makes Refuses Done input output err held = Did (Empty Makes) input output err held
+Finds most Where Makes Refuses Found input output err held = Did (Filled Makes) input output err held
+Finds most Where Makes Refuses status input output err held = Does most Where Makes Refuses status input output err held
+
+-- whether a text has a byte
+abbrev pub is_filled : (text : List ℕ) → Bool
+is_filled [] = false
+is_filled (byte ∷ text) = true
+
+-- the status of a command that is done, by whether it found something
+abbrev pub with_found : (found : Bool) → Status → Status
+with_found true Done = Found
+with_found found status = status
 
 -- ---- On the way there
 
@@ -60,10 +90,14 @@ IsAnswered Makes Refuses read (Ok answer) = Makes read answer.text.items answer.
 IsAnswered Makes Refuses read (Err NoMemory) = Unit {0}
 IsAnswered Makes Refuses read (Err status) = IsRefusal status × Refuses status read
 
+-- why an input was not answered, and the place that is told of that
+abbrev pub IsUnanswered : (most : ℕ) (Where : Status → List ℕ → Option Place) (Refuses : Status → List ℕ → Type 0) → Status → Option Place → (input : Change) → Type 0
+IsUnanswered most Where Refuses ReadFault place input = HasFailed input
+IsUnanswered most Where Refuses NoMemory place input = Unit {0}
+IsUnanswered most Where Refuses status place input = IsRefusal status × IsRefused most (Refuses status) input × IsPlaceOf (Where status) place input
+
 -- what reading the input and answering it gave
-abbrev pub Reads : (most : ℕ) (Makes : (read text report : List ℕ) (held : Option PairsParts) → Type 0) (Refuses : Status → List ℕ → Type 0)
-    → Result Answer Status → (input : Change) → Type 0
-Reads most Makes Refuses (Ok answer) input = (read : List ℕ) × IsAllRead read input × Makes read answer.text.items answer.report.items answer.held
-Reads most Makes Refuses (Err ReadFault) input = HasFailed input
-Reads most Makes Refuses (Err NoMemory) input = Unit {0}
-Reads most Makes Refuses (Err status) input = IsRefusal status × IsRefused most (Refuses status) input
+abbrev pub Reads : (most : ℕ) (Where : Status → List ℕ → Option Place) (Makes : (read text report : List ℕ) (held : Option PairsParts) → Type 0) (Refuses : Status → List ℕ → Type 0)
+    → Result Answer Refusal → (input : Change) → Type 0
+Reads most Where Makes Refuses (Ok answer) input = (read : List ℕ) × IsAllRead read input × Makes read answer.text.items answer.report.items answer.held
+Reads most Where Makes Refuses (Err refusal) input = IsUnanswered most Where Refuses refusal.status refusal.place input

@@ -14,6 +14,8 @@ pub fn words_decide_usage()
     ensures dead { laws.DeadDoesItsWord }
     ensures check { laws.CheckDoesItsWord }
     ensures same { laws.SameDoesItsWord }
+    ensures list { laws.ListDoesItsWord }
+    ensures lint { laws.LintDoesItsWord }
     ensures trial { laws.TrialDoesItsWord }
 {}
 
@@ -26,6 +28,9 @@ pub fn each_status_has_its_cause()
     ensures write_fault { laws.WriteFaultHasFailed }
     ensures front { laws.WriteFaultLeavesAFront }
     ensures told { laws.StatusIsTold }
+    ensures placed { laws.FaultIsPlaced }
+    ensures lint_placed { laws.LintFaultIsPlaced }
+    ensures found { laws.OnlyLintFinds }
 {
     remaining_steps_are_blocked();
 }
@@ -46,6 +51,8 @@ pub fn each_sheet_has_its_status()
     ensures told_style { laws.PageIsTold }
     ensures told_why { laws.MoveIsExplained }
     ensures told_same { laws.SheetsAreCompared }
+    ensures listed { laws.ItemsAreListed }
+    ensures found { laws.FindingsAreTold }
     ensures others { laws.OthersAreDone }
 {}
 

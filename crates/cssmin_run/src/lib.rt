@@ -3,6 +3,7 @@
 
 mod commands;
 mod laws;
+mod placed;
 mod running;
 mod status;
 mod tasks;

@@ -11,13 +11,15 @@ use crate::commands::about::{help, version};
 use crate::commands::check::Check;
 use crate::commands::cmp::cmp;
 use crate::commands::dead::Dead;
+use crate::commands::lint::Lint;
+use crate::commands::listing::Listing;
 use crate::commands::min::Min;
 use crate::commands::same::Same;
 use crate::commands::style::Style;
 use crate::commands::trial::trial;
 use crate::commands::why::Why;
 use crate::status::Status;
-use crate::tasks::perform;
+use crate::tasks::{perform, perform_finding};
 use crate::telling::{tell, tell_no_memory};
 use command_words::{Command, command_of};
 use css_io::{Sink, Source};
@@ -41,7 +43,7 @@ fn obey<S: Source, O: Sink, E: Sink>(
         (change_of S.left S.faults input.old input.new)
         (change_of O.written O.faults out.old out.new)
         (change_of E.written E.faults err.old err.new) held.new }
-    ensures untouched { result ≢ Status.Done → result ≢ Status.WriteFault → out.new ≡ out.old }
+    ensures untouched { result ≢ Status.Done → result ≢ Status.Found → result ≢ Status.WriteFault → out.new ≡ out.old }
     ensures bounded { TakesAtMost (most_taken (form_if_some command.entry))
         (change_of S.left S.faults input.old input.new) }
     ensures unread { needs_input (form_if_some command.entry) ≡ false → input.new ≡ input.old }
@@ -81,6 +83,10 @@ fn obey<S: Source, O: Sink, E: Sink>(
         Some(Command::Same { split, budget }) => {
             perform(alloc, words, &Same { split, budget }, input, out, err, held)
         }
+        Some(Command::Listing) => perform(alloc, words, &Listing, input, out, err, held),
+        Some(Command::Lint { budget }) => {
+            perform_finding(alloc, words, &Lint { budget }, input, out, err, held)
+        }
         Some(Command::Trial { rules }) => trial(alloc, rules.number(), out, err, held),
         Some(Command::Help(about)) => help(alloc, about, out, err),
         Some(Command::Version) => version(alloc, out, err),
@@ -99,6 +105,10 @@ fn obey<S: Source, O: Sink, E: Sink>(
 /// - `style` reads a document and a sheet, and writes to `out` which declarations win.
 /// - `why FROM TO` reads a sheet, and writes to `out` what hinders the move of one rule to another.
 /// - `same N` reads two sheets, the first one of N bytes, and writes to `out` what is found in them.
+/// - `list` reads a sheet, and writes to `out` where each of its items is. If it refuses the sheet, it writes to `err` the
+///   line and the column of the fault too.
+/// - `lint` reads a sheet, and writes to `out` which selectors match nothing, and which declarations each selector of
+///   their rule has again later. It refuses a sheet as `list` does.
 /// - `check` reads a log, and writes to `out` whether it refutes its formula.
 /// - `trial N` merges a made sheet of N rules, and writes to `out` how many items and bytes it had and has, and how
 ///   many steps were taken.
@@ -106,6 +116,7 @@ fn obey<S: Source, O: Sink, E: Sink>(
 ///
 /// What else happened is written to `err`.
 ///
+/// - `Found` comes exactly where the text of `lint` was written and is not empty.
 /// - `Usage` comes exactly where the words have no form.
 /// - `SheetRefused` comes where a sheet has a fault, or has more than 1,048,576 bytes, of which one more is read; for
 ///   `same` the limit is 2,097,152 bytes for both.
@@ -123,7 +134,8 @@ fn obey<S: Source, O: Sink, E: Sink>(
 /// clauses; tests exclude it. The laws say what follows for each status.
 ///
 /// `held` is a place for the answers for pairs of selectors. What it holds is dropped. Afterwards it holds the answers
-/// that the run asked for, with its budget, where it asked and the status is `Done` or `WriteFault`; otherwise none.
+/// that the run asked for, with its budget, where it asked and the status is `Done`, `Found` or `WriteFault`; otherwise
+/// none.
 #[tactic(auto, using(crate::proofs::Forms::answered))]
 pub fn run<S: Source, O: Sink, E: Sink>(
     alloc: Global,
@@ -144,7 +156,7 @@ pub fn run<S: Source, O: Sink, E: Sink>(
         (change_of E.written E.faults err.old err.new) held.new }
 
     // What stays, and how much was read.
-    ensures untouched { result ≢ Status.Done → result ≢ Status.WriteFault → out.new ≡ out.old }
+    ensures untouched { result ≢ Status.Done → result ≢ Status.Found → result ≢ Status.WriteFault → out.new ≡ out.old }
     ensures unread { needs_input (form_of (map string_bytes words.now.items)) ≡ false
         → input.new ≡ input.old }
     ensures bounded { TakesAtMost (most_taken (form_of (map string_bytes words.now.items)))
@@ -178,7 +190,7 @@ pub fn run_words<S: Source, O: Sink, E: Sink>(
     ensures unread { IsErr words → input.new ≡ input.old }
     ensures unheld { IsErr words → held.new ≡ None }
     ensures told { IsErr words → Tells result (change_of E.written E.faults err.old err.new) }
-    ensures untouched { result ≢ Status.Done → result ≢ Status.WriteFault → out.new ≡ out.old }
+    ensures untouched { result ≢ Status.Done → result ≢ Status.Found → result ≢ Status.WriteFault → out.new ≡ out.old }
 {
     match words {
         Ok(words) => run(alloc, &words, input, out, err, held),

@@ -23,6 +23,8 @@ pub enum LogFault {
 pub enum Status {
     /// The text was written.
     Done,
+    /// The text was written, and it tells that something was found.
+    Found,
     /// The words are not those of a command.
     Usage,
     /// The sheet has a fault.
@@ -46,12 +48,13 @@ pub enum Status {
 }
 
 impl Status {
-    /// The number of the status: 0, or 2 to 11.
+    /// The number of the status: 0 to 11.
     pub fn number(&self) -> u8
         ensures { result ≡ number_of self.now }
     {
         match self {
             Status::Done => 0,
+            Status::Found => 1,
             Status::Usage => 2,
             Status::SheetRefused(_) => 3,
             Status::ReadFault => 4,

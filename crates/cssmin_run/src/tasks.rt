@@ -3,14 +3,16 @@
 ghost use Rattle.std.specs.Prelude.{◌≡◌, ◌≢◌, ◌+◌, ◌-◌, ◌^◌, ◌<◌, ◌≤◌, ℕ, List, Option, None, length};
 ghost use Rattle.cssmin_run.specs.Change.{change_of, TakesAtMost};
 ghost use Rattle.cssmin_run.specs.Status.{IsRefusal};
-ghost use Rattle.cssmin_run.specs.Tasks.{Does, IsAnswered, Reads};
+ghost use Rattle.cssmin_run.specs.Tasks.{Does, Finds, IsAnswered, Reads, is_filled, with_found};
+ghost use Rattle.line_places.specs.declared.place.Place.{Place};
 ghost use Rattle.cssmin_run.specs.declared.status.Status.{Status};
 ghost use Rattle.overlap.specs.PairsParts.{PairsParts};
 
 use crate::status::Status;
-use crate::telling::tell;
+use crate::telling::tell_at;
 use crate::writing::write_text;
 use css_io::{ReadError, Sink, Source, read_all};
+use line_places::Place;
 use overlap::Pairs;
 use std::alloc::Global;
 
@@ -25,6 +27,15 @@ pub(crate) struct Answer {
     pub(crate) held: Option<Pairs>,
 }
 
+/// Why an input is not answered.
+#[derive(Clone, Copy)]
+pub(crate) struct Refusal {
+    /// The status that says so.
+    pub(crate) status: Status,
+    /// Where in the input the fault is, if that is told.
+    pub(crate) place: Option<Place>,
+}
+
 /// What a command makes of its input.
 pub(crate) trait Task {
     // The most bytes that an input may have.
@@ -36,6 +47,9 @@ pub(crate) trait Task {
     // Which bytes are refused, by the status that says so.
     ghost refuses: { Self → Status → List ℕ → Type 0 };
 
+    // The place in the bytes that were read that a refusal tells, if it tells one.
+    ghost told_place: { Self → Status → List ℕ → Option Place };
+
     /// The most bytes that an input may have.
     fn limit(&self) -> u32
         ensures is { result ≡ most self.now }
@@ -45,17 +59,37 @@ pub(crate) trait Task {
     fn too_long(&self) -> Status
         ensures refusal { IsRefusal result }
         ensures cause { (read : List ℕ) → most self.now < length read
-            → refuses self.now result read };
+            → refuses self.now result read }
+        ensures nowhere { (read : List ℕ) → told_place self.now result read ≡ None };
 
     /// What is made of an input; otherwise the status, that it is refused or that memory was short.
     fn answer(&self, alloc: Global, bytes: &[u8]) -> Result<Answer, Status>
         ensures { IsAnswered (makes self.now) (refuses self.now) bytes.now result };
+
+    /// The place in an input that its refusal tells, if it tells one.
+    fn place(&self, status: Status, bytes: &[u8]) -> Option<Place>
+        ensures { result ≡ told_place self.now status bytes.now };
+}
+
+/// A refusal that tells no place.
+fn placeless(status: Status) -> Refusal
+    ensures status { result.status ≡ status }
+    ensures place { result.place ≡ None }
+{
+    Refusal {
+        status,
+        place: None,
+    }
 }
 
 /// Reads an input to its end, and makes what a command makes of it.
-#[tactic(auto, using(crate::proofs::Reading::reads_answered, crate::proofs::Reading::reads_too_long, crate::proofs::Reading::all_taken))]
-fn read_answer<T: Task, S: Source>(alloc: Global, task: &T, input: &mut S) -> Result<Answer, Status>
-    ensures read { Reads (T.most task.now) (T.makes task.now) (T.refuses task.now) result
+#[tactic(auto, using(crate::proofs::Reading::reads_answered, crate::proofs::Reading::reads_refused, crate::proofs::Reading::reads_too_long))]
+fn read_answer<T: Task, S: Source>(
+    alloc: Global,
+    task: &T,
+    input: &mut S,
+) -> Result<Answer, Refusal>
+    ensures read { Reads (T.most task.now) (T.told_place task.now) (T.makes task.now) (T.refuses task.now) result
         (change_of S.left S.faults input.old input.new) }
     ensures bounded { TakesAtMost (T.most task.now + 1)
         (change_of S.left S.faults input.old input.new) }
@@ -63,16 +97,24 @@ fn read_answer<T: Task, S: Source>(alloc: Global, task: &T, input: &mut S) -> Re
 {
     let bytes = match read_all(alloc, input, task.limit()) {
         Ok(bytes) => bytes,
-        Err(ReadError::ReadFault) => return Err(Status::ReadFault),
-        Err(ReadError::TooLong) => return Err(task.too_long()),
-        Err(ReadError::NoMemory) => return Err(Status::NoMemory),
+        Err(ReadError::ReadFault) => return Err(placeless(Status::ReadFault)),
+        Err(ReadError::TooLong) => return Err(placeless(task.too_long())),
+        Err(ReadError::NoMemory) => return Err(placeless(Status::NoMemory)),
     };
-    task.answer(alloc, bytes.as_slice())
+    match task.answer(alloc, bytes.as_slice()) {
+        Ok(answer) => Ok(answer),
+        Err(status) => {
+            let place = task.place(status, bytes.as_slice());
+            Err(Refusal { status, place })
+        }
+    }
 }
 
 /// Reads `input` to its end, writes to `out` what the command makes of it, and to `err` its report, or why it is
-/// refused. Nothing is written before the whole text and the report are made. `held` is afterwards the answers that
-/// were asked for, and none where nothing was written. The status is never `Usage`.
+/// refused, with the place that the command tells of that. Nothing is written before the whole text and the report are
+/// made. `held` is afterwards the answers that were asked for, and none where nothing was written. The status is never
+/// `Usage`.
+#[tactic(auto, using(crate::proofs::Outcomes::stopped, crate::proofs::Outcomes::wrote))]
 pub(crate) fn perform<T: Task, S: Source, O: Sink, E: Sink>(
     alloc: Global,
     words: &Vec<String>,
@@ -85,7 +127,7 @@ pub(crate) fn perform<T: Task, S: Source, O: Sink, E: Sink>(
     requires out_fits { (bytes : List ℕ) → O.fits out.old bytes }
     requires err_fits { (bytes : List ℕ) → E.fits err.old bytes }
     requires unheld { held.old ≡ None }
-    ensures outcome { Does (T.most task.now) (T.makes task.now) (T.refuses task.now) result
+    ensures outcome { Does (T.most task.now) (T.told_place task.now) (T.makes task.now) (T.refuses task.now) result
         (change_of S.left S.faults input.old input.new)
         (change_of O.written O.faults out.old out.new)
         (change_of E.written E.faults err.old err.new) held.new }
@@ -98,8 +140,64 @@ pub(crate) fn perform<T: Task, S: Source, O: Sink, E: Sink>(
 {
     let answer = match read_answer(alloc, task, input) {
         Ok(answer) => answer,
-        Err(status) => return tell(alloc, words, status, err),
+        Err(refusal) => return tell_at(alloc, words, refusal.status, refusal.place, err),
     };
     *held = answer.held;
     write_text(answer.text.as_slice(), answer.report.as_slice(), out, err)
+}
+
+/// Whether a text has a byte.
+fn is_filled_text(text: &[u8]) -> bool
+    ensures { result ≡ is_filled text.now }
+{
+    match text {
+        [] => false,
+        [_, ..] => true,
+    }
+}
+
+/// The status of a command, by whether it found something if it is done.
+fn found_status(found: bool, status: Status) -> Status
+    ensures { result ≡ with_found found status }
+{
+    match (found, status) {
+        (true, Status::Done) => Status::Found,
+        _ => status,
+    }
+}
+
+/// Does what [`perform`] does, for a command whose text tells what it found. The status is `Found` where the text is
+/// written and has a byte, and `Done` where it is empty.
+#[tactic(auto, using(crate::proofs::Findings::stopped_finding, crate::proofs::Findings::found_wrote, crate::proofs::Findings::found_untouched))]
+pub(crate) fn perform_finding<T: Task, S: Source, O: Sink, E: Sink>(
+    alloc: Global,
+    words: &Vec<String>,
+    task: &T,
+    input: &mut S,
+    out: &mut O,
+    err: &mut E,
+    held: &mut Option<Pairs>,
+) -> Status
+    requires out_fits { (bytes : List ℕ) → O.fits out.old bytes }
+    requires err_fits { (bytes : List ℕ) → E.fits err.old bytes }
+    requires unheld { held.old ≡ None }
+    ensures outcome { Finds (T.most task.now) (T.told_place task.now) (T.makes task.now) (T.refuses task.now) result
+        (change_of S.left S.faults input.old input.new)
+        (change_of O.written O.faults out.old out.new)
+        (change_of E.written E.faults err.old err.new) held.new }
+    ensures untouched { result ≢ Status.Done → result ≢ Status.Found → result ≢ Status.WriteFault → out.new ≡ out.old }
+    ensures bounded { TakesAtMost (T.most task.now + 1)
+        (change_of S.left S.faults input.old input.new) }
+    ensures input_later { S.faults input.old ≤ S.faults input.new }
+    ensures out_later { O.faults out.old ≤ O.faults out.new }
+    ensures err_later { E.faults err.old ≤ E.faults err.new }
+{
+    let answer = match read_answer(alloc, task, input) {
+        Ok(answer) => answer,
+        Err(refusal) => return tell_at(alloc, words, refusal.status, refusal.place, err),
+    };
+    let found = is_filled_text(answer.text.as_slice());
+    *held = answer.held;
+    let status = write_text(answer.text.as_slice(), answer.report.as_slice(), out, err);
+    found_status(found, status)
 }

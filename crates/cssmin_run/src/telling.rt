@@ -1,7 +1,8 @@
 //! What a run writes to standard error.
 
-ghost use Rattle.std.specs.Prelude.{◌≡◌, ◌⊎◌, ◌≤◌, ℕ, List, IfOk, string_bytes};
+ghost use Rattle.std.specs.Prelude.{◌≡◌, ◌⊎◌, ◌≤◌, ℕ, List, Some, IfOk, string_bytes};
 ghost use Rattle.cssmin_run.specs.Change.{change_of};
+ghost use Rattle.cssmin_run.specs.Placed.{IsPlacedMessage, TellsAt};
 ghost use Rattle.cssmin_run.specs.Status.{IsMessage, IsRefusal};
 ghost use Rattle.cssmin_run.specs.Telling.{IsTold, Tells};
 
@@ -9,6 +10,7 @@ use crate::status::{LogFault, Status};
 use command_texts::refusal_text;
 use css_io::{Sink, write_all};
 use css_model::SheetFault;
+use line_places::Place;
 use std::alloc::{AllocError, Global};
 use style_text::DocFault;
 
@@ -17,6 +19,16 @@ fn refusal(alloc: Global, fault: SheetFault) -> Result<String, AllocError>
     ensures { IfOk result (λ text. IsMessage (Status.SheetRefused fault) (string_bytes text)) }
 {
     format!(in alloc; "refused: {fault}\n")
+}
+
+/// The line that names the fault of a sheet, with its line and column.
+#[tactic(auto, using(crate::proofs::Told::placed_message))]
+fn placed_refusal(alloc: Global, fault: SheetFault, place: Place) -> Result<String, AllocError>
+    ensures { IfOk result (λ text. IsPlacedMessage (Some place) (Status.SheetRefused fault) (string_bytes text)) }
+{
+    let line = place.line;
+    let column = place.column;
+    format!(in alloc; "refused: {fault} ({line}:{column})\n")
 }
 
 /// The line that names the fault of a log.
@@ -130,7 +142,7 @@ pub(crate) fn tell<E: Sink>(
     ensures later { E.faults err.old ≤ E.faults err.new }
 {
     match status {
-        Status::Done => {}
+        Status::Done | Status::Found => {}
         Status::Usage => tell_usage(alloc, words, err),
         Status::SheetRefused(fault) => return tell_refusal(refusal(alloc, fault), status, err),
         Status::LogRefused(fault) => return tell_refusal(log_refusal(alloc, fault), status, err),
@@ -145,4 +157,50 @@ pub(crate) fn tell<E: Sink>(
         Status::NoMemory => return tell_no_memory(err),
     }
     status
+}
+
+/// Writes this line, why the input was refused at a place, where there was memory for it. The answer is the status of
+/// that, or that there was no memory.
+fn tell_placed<E: Sink>(
+    line: Result<String, AllocError>,
+    status: Status,
+    place: Place,
+    err: &mut E,
+) -> Status
+    requires fits { (bytes : List ℕ) → E.fits err.old bytes }
+    requires message { IfOk line (λ text. IsPlacedMessage (Some place) status (string_bytes text)) }
+    ensures is { (result ≡ status) ⊎ (result ≡ Status.NoMemory) }
+    ensures told { TellsAt (Some place) result (change_of E.written E.faults err.old err.new) }
+    ensures later { E.faults err.old ≤ E.faults err.new }
+{
+    match line {
+        Ok(line) => {
+            tell_text(line.as_bytes(), err);
+            status
+        }
+        Err(AllocError) => tell_no_memory(err),
+    }
+}
+
+/// Writes the status of a run on these words to standard error. If a sheet is refused and a place is given, that comes
+/// after the fault, as line and column. The answer is the status, or that there was no memory to write why the input
+/// was refused.
+pub(crate) fn tell_at<E: Sink>(
+    alloc: Global,
+    words: &Vec<String>,
+    status: Status,
+    place: Option<Place>,
+    err: &mut E,
+) -> Status
+    requires { (bytes : List ℕ) → E.fits err.old bytes }
+    ensures same { (result ≡ status) ⊎ (IsRefusal status × (result ≡ Status.NoMemory)) }
+    ensures told { TellsAt place result (change_of E.written E.faults err.old err.new) }
+    ensures later { E.faults err.old ≤ E.faults err.new }
+{
+    match (status, place) {
+        (Status::SheetRefused(fault), Some(place)) => {
+            tell_placed(placed_refusal(alloc, fault, place), status, place, err)
+        }
+        _ => tell(alloc, words, status, err),
+    }
 }

@@ -67,7 +67,7 @@ true_life s budget (Outside reason number) h (inr (have, none)) = absurd none
 true_life s budget (Spent ledger) h (inl (lack, e)) = cc
 true_life s budget (Spent ledger) h (inr (have, (more, spent))) = ((many (length s.chain) h.some more, spent), refl)
 
-of_held : (p : PairsParts) (s : SelectorParts) (answer : Answer) → KeepsLimits s → ∥ IsTrueList p ∥₁ → IsAnswered p.answers s (every s.pseudo) answer →
+pub of_held : (p : PairsParts) (s : SelectorParts) (answer : Answer) → KeepsLimits s → ∥ IsTrueList p ∥₁ → IsAnswered p.answers s (every s.pseudo) answer →
     ∥ IsTrueLife s p.budget (life_by answer) × (answer ≡ answer_by (life_by answer)) ∥₁
 of_held p s answer h list held = ∥∥₁_map list (λ t. true_life s p.budget answer h (few s p.budget answer h
     (All-contains (λ e. IsTrueAnswer e.left e.right p.budget e.answer) p.answers (record { left = s; right = every s.pseudo; answer = answer }) t.true_answers held)))
@@ -82,7 +82,7 @@ abbrev number_in : Answer → ℕ
 number_in (Outside reason number) = number
 number_in _ = 0
 
-answer_is : (answer : Answer) → ∥ answer ≡ answer_by (life_by answer) ∥₁ → answer ≡ answer_by (life_by answer)
+pub answer_is : (answer : Answer) → ∥ answer ≡ answer_by (life_by answer) ∥₁ → answer ≡ answer_by (life_by answer)
 answer_is Apart h = refl
 answer_is (Meet x) h = refl
 answer_is (Spent ledger) h = refl

@@ -1,2 +1,3 @@
+mod Apart
 mod Star
 mod Known

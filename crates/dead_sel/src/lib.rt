@@ -3,7 +3,11 @@
 
 mod asking;
 mod every;
+mod held;
+mod laws;
 mod living;
 
 pub use asking::life;
+pub use held::is_dead;
+pub use laws::{dead_match_nothing, others_are_undecided};
 pub use living::Life;

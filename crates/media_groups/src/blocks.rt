@@ -107,11 +107,18 @@ fn head_len(item: &[Lexeme]) -> usize
     n
 }
 
+/// The tokens of an item before its block, or all of them if it has none.
+pub(crate) fn before_block(item: &[Lexeme]) -> &[Lexeme]
+    ensures { result.now ≡ before_first items.opens_block item.now }
+{
+    &item[..head_len(item)]
+}
+
 /// What comes before the block of an item.
 pub(crate) fn head_of(item: &[Lexeme]) -> Piece
     ensures { result ≡ spec.head_of item.now }
 {
-    piece_of(&item[..head_len(item)])
+    piece_of(before_block(item))
 }
 
 /// Where the `}` of a block is. Its inside begins at this place.

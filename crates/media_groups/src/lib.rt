@@ -3,6 +3,7 @@
 #![tactic(auto)]
 
 mod blocks;
+mod heads;
 mod laws;
 mod lexing;
 mod media;
@@ -10,6 +11,7 @@ mod opening;
 mod printing;
 mod reading;
 
+pub use heads::put_head;
 pub use laws::{blocks_stay, merged_is_no_longer, opened_blocks_are_sheets};
 pub use media::Media;
 pub use opening::{open_media, reading_of};

@@ -30,7 +30,11 @@ fn behind(kind: TokenKind, text: &[u8], gap: Gap, others: &[Lexeme]) -> &'static
 }
 
 /// Writes the kept text of tokens.
-fn put_tokens(out: &mut Vec<u8>, source: &[u8], tokens: &[Lexeme]) -> Result<(), AllocError>
+pub(crate) fn put_tokens(
+    out: &mut Vec<u8>,
+    source: &[u8],
+    tokens: &[Lexeme],
+) -> Result<(), AllocError>
     requires { ArePlaced source.now tokens.now }
     ensures { OnOk result (out.new.items ≡ out.old.items ++ kept (map (solid source.now) tokens.now)) }
 {
@@ -62,7 +66,7 @@ fn put_sign(out: &mut Vec<u8>, sign: u8, last: bool) -> Result<(), AllocError>
 }
 
 /// Writes selectors, with `,` between them.
-fn put_selectors(
+pub(crate) fn put_selectors(
     alloc: Global,
     out: &mut Vec<u8>,
     selectors: &[SelItem],

@@ -4,6 +4,7 @@ use Rattle.log_text.specs.CheckedTexts as log
 use Rattle.log_text.specs.declared.error.CheckError.TheVariants as unchecked
 use Rattle.overlap.specs.PairsParts.{PairsParts}
 use Rattle.cssmin_run.specs.Change.{Change}
+use Rattle.cssmin_run.specs.Placed.{nowhere}
 use Rattle.cssmin_run.specs.Tasks.{Does, Silent}
 use Rattle.cssmin_run.specs.declared.status.LogFault.TheVariants.{TooLong, BadLine}
 use Rattle.cssmin_run.specs.declared.status.Status.{Status}
@@ -20,4 +21,4 @@ CheckRefuses (LogRefused (BadLine line)) read = log.Refuses read (unchecked.BadL
 CheckRefuses status read = ⊥
 
 abbrev pub CheckDoes : Status → (input output err : Change) → (held : Option PairsParts) → Type 0
-CheckDoes status input output err held = Does log.max_log_bytes (Silent Checks) CheckRefuses status input output err held
+CheckDoes status input output err held = Does log.max_log_bytes nowhere (Silent Checks) CheckRefuses status input output err held

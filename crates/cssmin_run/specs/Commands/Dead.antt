@@ -8,6 +8,7 @@ use Rattle.overlap.specs.Remembered.{IsTrueList}
 use Rattle.cssmin_run.specs.Change.{Change}
 use Rattle.cssmin_run.specs.Commands.Cmp.{unasked}
 use Rattle.cssmin_run.specs.Commands.Min.{MinRefuses}
+use Rattle.cssmin_run.specs.Placed.{nowhere}
 use Rattle.cssmin_run.specs.Tasks.{Does, Silent}
 use Rattle.cssmin_run.specs.declared.status.Status.{Status}
 
@@ -18,4 +19,4 @@ TellsLives budget read text held = (pairs : PairsParts) × (held ≡ Some pairs)
 
 -- A sheet is refused as `min` refuses it.
 abbrev pub DeadDoes : (budget : Option ℕ) → Status → (input output err : Change) → (held : Option PairsParts) → Type 0
-DeadDoes budget status input output err held = Does max_bytes (Silent (TellsLives budget)) MinRefuses status input output err held
+DeadDoes budget status input output err held = Does max_bytes nowhere (Silent (TellsLives budget)) MinRefuses status input output err held

@@ -11,6 +11,7 @@ use Rattle.sheet_order.specs.Laws.{answer_seen}
 use Rattle.cssmin_run.specs.Change.{Change}
 use Rattle.cssmin_run.specs.Commands.Cmp.{unasked}
 use Rattle.cssmin_run.specs.SheetFaults.{HasFault}
+use Rattle.cssmin_run.specs.Placed.{nowhere}
 use Rattle.cssmin_run.specs.Tasks.{Does}
 use Rattle.cssmin_run.specs.declared.status.Status.{Status}
 use Rattle.cssmin_run.specs.declared.status.Status.TheVariants.{SheetRefused}
@@ -44,4 +45,4 @@ MinRefuses (SheetRefused fault) read = HasFault read fault
 MinRefuses status read = ⊥
 
 abbrev pub MinDoes : (budget : Option ℕ) (asked : Bool) → Status → (input output err : Change) → (held : Option PairsParts) → Type 0
-MinDoes budget asked status input output err held = Does max_bytes (Merges budget asked) MinRefuses status input output err held
+MinDoes budget asked status input output err held = Does max_bytes nowhere (Merges budget asked) MinRefuses status input output err held

@@ -6,6 +6,7 @@ use Rattle.same_text.specs.declared.error.SameError.TheVariants as uncompared
 use Rattle.sheet_order.specs.Allowing.{Stays}
 use Rattle.cssmin_run.specs.Change.{Change}
 use Rattle.cssmin_run.specs.Commands.Cmp.{unasked}
+use Rattle.cssmin_run.specs.Placed.{nowhere}
 use Rattle.cssmin_run.specs.Tasks.{Does, Silent}
 use Rattle.cssmin_run.specs.declared.status.Status.{Status}
 use Rattle.cssmin_run.specs.declared.status.Status.TheVariants.{SheetRefused, NoSplit, SecondRefused}
@@ -23,4 +24,4 @@ SameRefuses split (SecondRefused fault) read = IsCause read split (uncompared.Se
 SameRefuses split status read = ⊥
 
 abbrev pub SameDoes : (split : ℕ) (budget : Option ℕ) → Status → (input output err : Change) → (held : Option PairsParts) → Type 0
-SameDoes split budget status input output err held = Does max_both (Silent (ComparesSheets split budget)) (SameRefuses split) status input output err held
+SameDoes split budget status input output err held = Does max_both nowhere (Silent (ComparesSheets split budget)) (SameRefuses split) status input output err held

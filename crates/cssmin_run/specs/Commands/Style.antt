@@ -4,6 +4,7 @@ use Rattle.css_model.specs.Sheets.Limits.{max_bytes}
 use Rattle.overlap.specs.PairsParts.{PairsParts}
 use Rattle.style_text.specs.Styled.{IsDocRefused, IsSheetRefused, IsStyled}
 use Rattle.cssmin_run.specs.Change.{Change}
+use Rattle.cssmin_run.specs.Placed.{nowhere}
 use Rattle.cssmin_run.specs.Tasks.{Does, Silent}
 use Rattle.cssmin_run.specs.declared.status.Status.{Status}
 use Rattle.cssmin_run.specs.declared.status.Status.TheVariants.{SheetRefused, DocRefused}
@@ -19,4 +20,4 @@ StyleRefuses (DocRefused fault) read = IsDocRefused read fault
 StyleRefuses status read = ⊥
 
 abbrev pub StyleDoes : Status → (input output err : Change) → (held : Option PairsParts) → Type 0
-StyleDoes status input output err held = Does max_bytes (Silent TellsWinners) StyleRefuses status input output err held
+StyleDoes status input output err held = Does max_bytes nowhere (Silent TellsWinners) StyleRefuses status input output err held

@@ -7,6 +7,7 @@ use Rattle.why_text.specs.WhyTexts.{Asks, IsCause, IsWhyText}
 use Rattle.why_text.specs.declared.error.WhyError.TheVariants as unexplained
 use Rattle.cssmin_run.specs.Change.{Change}
 use Rattle.cssmin_run.specs.Commands.Cmp.{unasked}
+use Rattle.cssmin_run.specs.Placed.{nowhere}
 use Rattle.cssmin_run.specs.Tasks.{Does, Silent}
 use Rattle.cssmin_run.specs.declared.status.Status.{Status}
 use Rattle.cssmin_run.specs.declared.status.Status.TheVariants.{SheetRefused, NoItem}
@@ -22,4 +23,4 @@ WhyRefuses from to (NoItem number) read = IsCause read from to (unexplained.NoIt
 WhyRefuses from to status read = ⊥
 
 abbrev pub WhyDoes : (from to : ℕ) (budget : Option ℕ) → Status → (input output err : Change) → (held : Option PairsParts) → Type 0
-WhyDoes from to budget status input output err held = Does max_bytes (Silent (ExplainsMove from to budget)) (WhyRefuses from to) status input output err held
+WhyDoes from to budget status input output err held = Does max_bytes nowhere (Silent (ExplainsMove from to budget)) (WhyRefuses from to) status input output err held

@@ -1,11 +1,13 @@
 //! The command `check`: a log on the input; on the output whether it refutes its formula.
 
 ghost use Rattle.cssmin_run.specs.Commands.Check.{CheckRefuses, Checks};
-ghost use Rattle.log_text.specs.CheckedTexts.{max_log_bytes};
+ghost use Rattle.cssmin_run.specs.Placed.{nowhere};
 ghost use Rattle.cssmin_run.specs.Tasks.{Silent};
+ghost use Rattle.log_text.specs.CheckedTexts.{max_log_bytes};
 
 use crate::status::{LogFault, Status};
 use crate::tasks::{Answer, Task};
+use line_places::Place;
 use log_text::{CheckError, MAX_LOG_BYTES, check_text};
 use std::alloc::Global;
 
@@ -19,6 +21,8 @@ impl Task for Check {
     ghost makes = { λ _. Silent Checks };
 
     ghost refuses = { λ _. CheckRefuses };
+
+    ghost told_place = { λ _. nowhere };
 
     fn limit(&self) -> u32 {
         MAX_LOG_BYTES
@@ -39,5 +43,9 @@ impl Task for Check {
             Err(CheckError::BadLine(line)) => Err(Status::LogRefused(LogFault::BadLine(line))),
             Err(CheckError::NoMemory) => Err(Status::NoMemory),
         }
+    }
+
+    fn place(&self, _status: Status, _bytes: &[u8]) -> Option<Place> {
+        None
     }
 }

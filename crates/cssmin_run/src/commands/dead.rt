@@ -5,6 +5,7 @@ ghost use Rattle.std.specs.Prelude.{◌≡◌};
 ghost use Rattle.css_model.specs.Sheets.Limits.{max_bytes};
 ghost use Rattle.cssmin_run.specs.Commands.Dead.{TellsLives};
 ghost use Rattle.cssmin_run.specs.Commands.Min.{MinRefuses};
+ghost use Rattle.cssmin_run.specs.Placed.{nowhere};
 ghost use Rattle.cssmin_run.specs.Tasks.{Silent};
 
 use crate::commands::cmp::unasked;
@@ -12,6 +13,7 @@ use crate::status::{Status, too_long_sheet};
 use crate::tasks::{Answer, Task};
 use css_model::MAX_BYTES;
 use dead_text::dead_lines;
+use line_places::Place;
 use sheet_read::SheetError;
 use std::alloc::Global;
 
@@ -28,6 +30,8 @@ impl Task for Dead {
     ghost makes = { λ task. Silent (TellsLives task.budget) };
 
     ghost refuses = { λ _. MinRefuses };
+
+    ghost told_place = { λ _. nowhere };
 
     fn limit(&self) -> u32 {
         MAX_BYTES
@@ -53,5 +57,9 @@ impl Task for Dead {
             Err(SheetError::Fault(fault)) => Err(Status::SheetRefused(fault)),
             Err(SheetError::NoMemory) => Err(Status::NoMemory),
         }
+    }
+
+    fn place(&self, _status: Status, _bytes: &[u8]) -> Option<Place> {
+        None
     }
 }

@@ -4,6 +4,7 @@ ghost use Rattle.std.specs.Prelude.{◌≡◌, ℕ, List, Some, map, IfOk, IfErr
 ghost use Rattle.css_model.specs.Sheets.Limits.{max_bytes};
 ghost use Rattle.css_model.specs.Sheets.Sheet.{sheet_of};
 ghost use Rattle.cssmin_run.specs.Commands.Min.{IsMergedBy, IsToldOf, Merges, MinRefuses};
+ghost use Rattle.cssmin_run.specs.Placed.{nowhere};
 ghost use Rattle.merge_text.specs.MergedTexts.{IsTold};
 ghost use Rattle.opened_merge_laws.specs.Merged.{IsMergedOpened};
 ghost use Rattle.sheet_order.specs.Allowing.{Stays};
@@ -14,6 +15,7 @@ use crate::commands::cmp::unasked;
 use crate::status::{Status, too_long_sheet};
 use crate::tasks::{Answer, Task};
 use css_model::MAX_BYTES;
+use line_places::Place;
 use merge_report::merge_report;
 use merge_text::{MergedText, merge_text};
 use overlap::Pairs;
@@ -89,6 +91,8 @@ impl Task for Min {
 
     ghost refuses = { λ _. MinRefuses };
 
+    ghost told_place = { λ _. nowhere };
+
     fn limit(&self) -> u32 {
         MAX_BYTES
     }
@@ -109,5 +113,9 @@ impl Task for Min {
             Err(SheetError::Fault(fault)) => Err(Status::SheetRefused(fault)),
             Err(SheetError::NoMemory) => Err(Status::NoMemory),
         }
+    }
+
+    fn place(&self, _status: Status, _bytes: &[u8]) -> Option<Place> {
+        None
     }
 }

@@ -2,12 +2,14 @@
 
 ghost use Rattle.std.specs.Prelude.{◌≡◌};
 ghost use Rattle.cssmin_run.specs.Commands.Same.{ComparesSheets, SameRefuses};
+ghost use Rattle.cssmin_run.specs.Placed.{nowhere};
 ghost use Rattle.cssmin_run.specs.Tasks.{Silent};
 ghost use Rattle.same_text.specs.SameTexts.{max_both};
 
 use crate::commands::cmp::unasked;
 use crate::status::{Status, too_long_sheet};
 use crate::tasks::{Answer, Task};
+use line_places::Place;
 use same_text::{MAX_BOTH, SameError, same_lines};
 use std::alloc::Global;
 
@@ -26,6 +28,8 @@ impl Task for Same {
     ghost makes = { λ task. Silent (ComparesSheets task.split task.budget) };
 
     ghost refuses = { λ task. SameRefuses task.split };
+
+    ghost told_place = { λ _. nowhere };
 
     fn limit(&self) -> u32 {
         MAX_BOTH
@@ -48,5 +52,9 @@ impl Task for Same {
             Err(SameError::Second(fault)) => Err(Status::SecondRefused(fault)),
             Err(SameError::NoMemory) => Err(Status::NoMemory),
         }
+    }
+
+    fn place(&self, _status: Status, _bytes: &[u8]) -> Option<Place> {
+        None
     }
 }

@@ -2,11 +2,13 @@
 
 ghost use Rattle.css_model.specs.Sheets.Limits.{max_bytes};
 ghost use Rattle.cssmin_run.specs.Commands.Style.{StyleRefuses, TellsWinners};
+ghost use Rattle.cssmin_run.specs.Placed.{nowhere};
 ghost use Rattle.cssmin_run.specs.Tasks.{Silent};
 
 use crate::status::{Status, too_long_sheet};
 use crate::tasks::{Answer, Task};
 use css_model::MAX_BYTES;
+use line_places::Place;
 use std::alloc::Global;
 use style_text::{StyleError, style_lines};
 
@@ -20,6 +22,8 @@ impl Task for Style {
     ghost makes = { λ _. Silent TellsWinners };
 
     ghost refuses = { λ _. StyleRefuses };
+
+    ghost told_place = { λ _. nowhere };
 
     fn limit(&self) -> u32 {
         MAX_BYTES
@@ -40,5 +44,9 @@ impl Task for Style {
             Err(StyleError::Sheet(fault)) => Err(Status::SheetRefused(fault)),
             Err(StyleError::NoMemory) => Err(Status::NoMemory),
         }
+    }
+
+    fn place(&self, _status: Status, _bytes: &[u8]) -> Option<Place> {
+        None
     }
 }

@@ -3,12 +3,14 @@
 ghost use Rattle.std.specs.Prelude.{◌≡◌};
 ghost use Rattle.css_model.specs.Sheets.Limits.{max_bytes};
 ghost use Rattle.cssmin_run.specs.Commands.Why.{ExplainsMove, WhyRefuses};
+ghost use Rattle.cssmin_run.specs.Placed.{nowhere};
 ghost use Rattle.cssmin_run.specs.Tasks.{Silent};
 
 use crate::commands::cmp::unasked;
 use crate::status::{Status, too_long_sheet};
 use crate::tasks::{Answer, Task};
 use css_model::MAX_BYTES;
+use line_places::Place;
 use std::alloc::Global;
 use why_text::{WhyError, why_lines};
 
@@ -29,6 +31,8 @@ impl Task for Why {
     ghost makes = { λ task. Silent (ExplainsMove task.from task.to task.budget) };
 
     ghost refuses = { λ task. WhyRefuses task.from task.to };
+
+    ghost told_place = { λ _. nowhere };
 
     fn limit(&self) -> u32 {
         MAX_BYTES
@@ -51,5 +55,9 @@ impl Task for Why {
             Err(WhyError::NoItem(number)) => Err(Status::NoItem(number)),
             Err(WhyError::NoMemory) => Err(Status::NoMemory),
         }
+    }
+
+    fn place(&self, _status: Status, _bytes: &[u8]) -> Option<Place> {
+        None
     }
 }

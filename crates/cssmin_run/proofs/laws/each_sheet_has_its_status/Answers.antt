@@ -1,4 +1,4 @@
-use Rattle.cssmin_run.proofs.Forms.{told_same, told_why, told_style, told_dead, checked, completed, others_done, refused_for}
+use Rattle.cssmin_run.proofs.Forms.{findings_told, items_listed, told_same, told_why, told_style, told_dead, checked, completed, others_done, refused_for}
 use Rattle.cssmin_run.proofs.laws.each_sheet_has_its_status.Goals as goal
 
 pub returns-clause-refuses : goal.returns-clause-refuses
@@ -24,3 +24,9 @@ returns-clause-told_why c = told_why
 
 pub returns-clause-told_same : goal.returns-clause-told_same
 returns-clause-told_same c = told_same
+
+pub returns-clause-listed : goal.returns-clause-listed
+returns-clause-listed c = items_listed
+
+pub returns-clause-found : goal.returns-clause-found
+returns-clause-found c = findings_told

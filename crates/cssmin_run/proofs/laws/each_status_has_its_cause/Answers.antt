@@ -1,4 +1,4 @@
-use Rattle.cssmin_run.proofs.Forms.{done_is, front_is, read_fault_is, refused_is, told_is, write_fault_is}
+use Rattle.cssmin_run.proofs.Forms.{done_is, fault_placed, front_is, lint_placed, only_lint, read_fault_is, refused_is, told_is, write_fault_is}
 use Rattle.cssmin_run.proofs.Remaining.{remaining}
 use Rattle.cssmin_run.proofs.laws.each_status_has_its_cause.Goals as goal
 
@@ -22,3 +22,12 @@ returns-clause-told c = told_is
 
 pub returns-clause-front : goal.returns-clause-front
 returns-clause-front c = front_is
+
+pub returns-clause-placed : goal.returns-clause-placed
+returns-clause-placed c = fault_placed
+
+pub returns-clause-lint_placed : goal.returns-clause-lint_placed
+returns-clause-lint_placed c = lint_placed
+
+pub returns-clause-found : goal.returns-clause-found
+returns-clause-found c = only_lint

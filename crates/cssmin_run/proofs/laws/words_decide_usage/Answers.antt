@@ -1,4 +1,4 @@
-use Rattle.cssmin_run.proofs.Forms.{same_did, why_did, style_did, dead_did, check_did, cmp_did, min_did, trial_did, usage_is}
+use Rattle.cssmin_run.proofs.Forms.{lint_did, list_did, same_did, why_did, style_did, dead_did, check_did, cmp_did, min_did, trial_did, usage_is}
 use Rattle.cssmin_run.proofs.laws.words_decide_usage.Goals as goal
 
 pub returns-clause-usage : goal.returns-clause-usage
@@ -27,3 +27,9 @@ returns-clause-why c = why_did
 
 pub returns-clause-same : goal.returns-clause-same
 returns-clause-same c = same_did
+
+pub returns-clause-list : goal.returns-clause-list
+returns-clause-list c = list_did
+
+pub returns-clause-lint : goal.returns-clause-lint
+returns-clause-lint c = lint_did

@@ -1,0 +1,39 @@
+//! The place in an input that its refusal tells.
+
+ghost use Rattle.std.specs.Prelude.{◌≡◌};
+ghost use Rattle.cssmin_run.specs.Placed as spec;
+
+use crate::status::Status;
+use css_model::{FaultKind, SheetFault};
+use line_places::{Place, place_in};
+
+/// Whether a fault of this kind is at a place in its sheet: any but that the sheet is too long.
+fn has_place(kind: FaultKind) -> bool
+    ensures { result ≡ spec.has_place kind }
+{
+    match kind {
+        FaultKind::TooLong => false,
+        _ => true,
+    }
+}
+
+/// The line and the column of a fault in the bytes of its sheet.
+fn fault_place(sheet: &[u8], fault: SheetFault) -> Option<Place>
+    ensures { result ≡ spec.fault_place sheet.now fault }
+{
+    if has_place(fault.kind) {
+        Some(place_in(sheet, fault.at as usize))
+    } else {
+        None
+    }
+}
+
+/// The line and the column of the fault of a sheet that was read, if it was refused for one.
+pub(crate) fn in_sheet(status: Status, bytes: &[u8]) -> Option<Place>
+    ensures { result ≡ spec.in_sheet status bytes.now }
+{
+    match status {
+        Status::SheetRefused(fault) => fault_place(bytes, fault),
+        _ => None,
+    }
+}

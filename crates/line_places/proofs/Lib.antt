@@ -1,0 +1,5 @@
+mod Beginnings
+mod Encoding
+mod Parting
+mod Points
+mod Showing

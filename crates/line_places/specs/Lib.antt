@@ -1,0 +1,4 @@
+pub mod Counts
+pub mod Laws
+pub mod Lines
+pub mod Shown

@@ -1,0 +1,5 @@
+mod Asked
+mod Found
+mod Profile
+mod Reading
+mod Told

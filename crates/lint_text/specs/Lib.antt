@@ -1,0 +1,4 @@
+pub mod Asking
+pub mod Findings
+pub mod Laws
+pub mod LintTexts

@@ -1,0 +1,4 @@
+mod Blocks
+mod Listed
+mod Reading
+mod Writing
