@@ -22,7 +22,7 @@ import tempfile
 
 MORE = b"\nFor more information, try '--help'.\n"
 NO_WORD = b"""error: 'cssmin' requires a subcommand but one was not provided
-  [subcommands: min, cmp, dead, style, why, same, list, lint, check, trial, help]
+  [subcommands: min, cmp, dead, style, why, same, list, lint, inspect, check, trial, help]
 
 Usage: cssmin <COMMAND>
 """ + MORE
@@ -180,6 +180,9 @@ list --budget 1
 lint a
 lint --report
 lint --budget 20001
+inspect a
+inspect --report
+inspect --budget 1
 help min
 --version --version
 """
@@ -207,7 +210,7 @@ def try_itself(tries):
     for word in ["--version", "-V"]:
         tries.check_read(word, [word], SHEET, 0, f"cssmin {version}\n".encode(), b"", 0)
     for words in [["--help"], ["-h"], ["help"], ["min", "--help"], ["min", "-h"], ["cmp", "--help"], ["cmp", "-h"],
-            ["check", "--help"], ["why", "--help"], ["same", "--help"], ["list", "--help"], ["lint", "--help"], ["style", "--help"], ["dead", "--help"], ["trial", "--help"]]:
+            ["check", "--help"], ["why", "--help"], ["same", "--help"], ["list", "--help"], ["lint", "--help"], ["inspect", "--help"], ["style", "--help"], ["dead", "--help"], ["trial", "--help"]]:
         ran = tries.run(words, SHEET)
         name = " ".join(words)
         tries.is_same(name, "the exit status", ran.returncode, 0)
@@ -223,9 +226,9 @@ DOCUMENTS = ["README.md", "docs/USING.md"]
 
 
 def try_document(tries, document):
-    """Each example gives what the document has below it. One that calls another tool is left out where that is not there."""
+    """Each example gives what the document has below it, empty lines too. One that calls another tool is left out where that is not there."""
     with open(document, encoding="utf-8") as file:
-        blocks = re.findall(r"^    \$ (.*)\n((?:    (?!\$ ).*\n)*)", file.read(), re.MULTILINE)
+        blocks = re.findall(r"^    \$ (.*)\n((?:    (?!\$ ).*\n|\n(?=    (?!\$ )))*)", file.read(), re.MULTILINE)
     tries.is_same(document, "whether it has examples", blocks != [], True)
     with tempfile.TemporaryDirectory() as folder:
         os.symlink(tries.program, os.path.join(folder, "cssmin"))
@@ -384,6 +387,23 @@ def try_findings(tries):
     many = b"a{b:c}" * 16_384
     ran = tries.run(["lint"], many)
     tries.is_same("the findings of many rules", "the lines", (ran.returncode, ran.stdout.count(b"\n")), (1, 16_383))
+
+
+def try_entries(tries):
+    page = b"child 0 pseudo none\n0 1 - x\n1 1 * a class=b\n"
+    both = page + "\na{top:0}\r\n@media print{/*é*/.b{top:1px}}.b{color:red}@x;".encode()
+    lines = b"kept 1\n\nwins 2:34 0,1,0 .b{color:red}\n\nwhen 2:22 0,1,0 .b{top:1px} @media print\nwins 1:3 0,0,1 a{top:0}\n"
+    tries.check_read("what applies to an element", ["inspect"], both, 0, lines, b"", len(both))
+    tries.check_read("an element without a sheet", ["inspect"], page, 0, b"kept 0\n", b"", len(page))
+    tries.check_read("an element of no page", ["inspect"], b"x", 9, b"", b"document refused: line 1\n", 1)
+    broken = page + b"\na{}\n\xc3\xa9{b:'x"
+    tries.check_read("an element and a broken sheet", ["inspect"], broken, 3, b"", b"refused: EndInside at 9 (2:5)\n", len(broken))
+    long = b" " * (MAX_BYTES + 2)
+    tries.check_read("an element and a sheet that is too long", ["inspect"], long, 3, b"", b"refused: TooLong at %d\n" % MAX_BYTES, MAX_BYTES + 1)
+    # As many entries as fit: each has its line, and they are put in order without a look at each pair of them.
+    many = page + b"\n" + b"a{b:c}" * 16_384
+    ran = tries.run(["inspect"], many)
+    tries.is_same("the entries of many rules", "the lines", (ran.returncode, ran.stdout.count(b"\n")), (0, 16_386))
 
 
 def try_reports(tries):
@@ -547,6 +567,7 @@ def main():
     try_two_sheets(tries)
     try_items(tries)
     try_findings(tries)
+    try_entries(tries)
     try_winners(tries)
     try_lives(tries)
     try_reports(tries)

@@ -2,10 +2,10 @@
 _cssmin() {
     local command=${COMP_WORDS[1]} words
     if [ "$COMP_CWORD" = 1 ]; then
-        words='min cmp dead style why same list lint check trial help --help --version'
+        words='min cmp dead style why same list lint inspect check trial help --help --version'
     else
         case $command in
-            style|list|check|trial) words='--help' ;;
+            style|list|inspect|check|trial) words='--help' ;;
             min) words='--budget --report --help' ;;
             cmp) words='--budget --log --help' ;;
             dead|why|same|lint) words='--budget --help' ;;

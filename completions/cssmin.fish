@@ -8,6 +8,7 @@ complete -c cssmin -n __fish_use_subcommand -a why -d 'Tell why a rule may not b
 complete -c cssmin -n __fish_use_subcommand -a same -d 'Compare which declarations win by two style sheets'
 complete -c cssmin -n __fish_use_subcommand -a list -d 'List the items of a style sheet, each with its number and its place'
 complete -c cssmin -n __fish_use_subcommand -a lint -d 'Tell which selectors match nothing and which declarations come again'
+complete -c cssmin -n __fish_use_subcommand -a inspect -d 'List all declarations for an element of a small page, and which win'
 complete -c cssmin -n __fish_use_subcommand -a check -d 'Check a log that refutes a formula'
 complete -c cssmin -n __fish_use_subcommand -a trial -d 'Make a sheet and merge it'
 complete -c cssmin -n __fish_use_subcommand -a help -d 'Tell how it is used'

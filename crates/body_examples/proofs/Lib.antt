@@ -1,5 +1,6 @@
 pub mod Answers
 pub mod Cascade
+pub mod Inspecting
 pub mod Linting
 pub mod Listing
 pub mod Meeting

@@ -8,6 +8,8 @@ mod dead;
 #[cfg(test)]
 mod faults;
 #[cfg(test)]
+mod inspecting;
+#[cfg(test)]
 mod linting;
 #[cfg(test)]
 mod listing;

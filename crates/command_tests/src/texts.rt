@@ -49,6 +49,10 @@ const HELP: &[(&str, &[u8])] = &[
         b"Tell which selectors match nothing and which declarations come again\n",
     ),
     (
+        "cssmin inspect --help",
+        b"List all declarations for an element of a small page, and which win\n",
+    ),
+    (
         "cssmin trial --help",
         b"Make a sheet and merge it, and tell what came of it\n",
     ),
@@ -61,7 +65,7 @@ const REFUSED: &[(&str, &[u8])] = &[
     (
         "cssmin",
         b"error: 'cssmin' requires a subcommand but one was not provided
-  [subcommands: min, cmp, dead, style, why, same, list, lint, check, trial, help]
+  [subcommands: min, cmp, dead, style, why, same, list, lint, inspect, check, trial, help]
 
 Usage: cssmin <COMMAND>
 

@@ -29,6 +29,7 @@ purpose topic.Why = codes "Tell why a rule of a style sheet may not be moved to 
 purpose topic.Same = codes "Compare which declarations win by two style sheets"
 purpose topic.Listing = codes "List the items of a style sheet, each with its number and its place"
 purpose topic.Lint = codes "Tell which selectors match nothing and which declarations come again"
+purpose topic.Inspect = codes "List all declarations for an element of a small page, and which win"
 purpose topic.Check = codes "Check a log that refutes a formula"
 purpose topic.Trial = codes "Make a sheet and merge it, and tell what came of it"
 

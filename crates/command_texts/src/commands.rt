@@ -320,6 +320,45 @@ fn lint_command<'a>(alloc: Global) -> Result<Command<'a>, AllocError> {
         .arg(budget(alloc))
 }
 
+const INSPECT_HELP: &str = "\
+Standard input is that of `cssmin style`: a small page, an empty line, and a
+style sheet. The first line of the output says how many items cssmin keeps as
+written; they do not count. Then each declaration of a rule has a line for each
+selector of the rule that matches the element with the mark `*`:
+
+    kept 0
+
+    wins 2:4 0,1,0 .b{top:1px}
+    lost 1:3 0,0,1 a{top:0}
+
+An empty line comes before each group of properties that may set the same thing,
+as `margin` and `margin-top`. In a group the lines are in the order of the
+cascade, what wins most first. The declarations of `all` are in each group. A
+line has a word, where the declaration begins, the specificity, and the selector
+with the declaration:
+
+    wins    it wins if no opened `@media` block applies
+    when    it stands in such a block, and wins if only blocks with its head
+            apply; the head follows
+    lost    it never wins: another one that sets the same property, or `all`,
+            always comes before it
+
+A place is a line and a column. A column counts characters, from 1. Control
+characters are spaces. `cssmin list --help` says which blocks are opened. Every
+value counts as one that the browser understands. If it does not understand one,
+a later line may win. Inherited values do not count.
+
+If cssmin refuses the sheet, it says where: `refused: KIND at N (LINE:COLUMN)`,
+all counted from the start of the sheet.";
+
+/// The command `inspect`.
+fn inspect_command<'a>(alloc: Global) -> Command<'a> {
+    Command::new(alloc, "inspect")
+        .about(purpose(Topic::Inspect))
+        .override_usage("cssmin inspect <PAGE-AND-SHEET")
+        .after_help(INSPECT_HELP)
+}
+
 /// The word `help`.
 fn help_command<'a>(alloc: Global) -> Command<'a> {
     Command::new(alloc, "help").about("Print this message")
@@ -340,6 +379,7 @@ pub(crate) fn program<'a>(alloc: Global, version: &'a str) -> Result<Command<'a>
         .subcommand(same_command(alloc)?)?
         .subcommand(list_command(alloc))?
         .subcommand(lint_command(alloc)?)?
+        .subcommand(inspect_command(alloc))?
         .subcommand(check_command(alloc))?
         .subcommand(trial_command(alloc)?)?
         .disable_help_subcommand(true)

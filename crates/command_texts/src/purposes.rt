@@ -21,6 +21,7 @@ pub(crate) fn purpose(about: Topic) -> &'static str
         Topic::Same => "Compare which declarations win by two style sheets",
         Topic::Listing => "List the items of a style sheet, each with its number and its place",
         Topic::Lint => "Tell which selectors match nothing and which declarations come again",
+        Topic::Inspect => "List all declarations for an element of a small page, and which win",
         Topic::Check => "Check a log that refutes a formula",
         Topic::Trial => "Make a sheet and merge it, and tell what came of it",
     }

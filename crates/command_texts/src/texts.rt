@@ -62,6 +62,7 @@ pub fn help_text(alloc: Global, about: Topic) -> Result<Vec<u8>, AllocError>
         Topic::Style => &["cssmin", "style", "--help"],
         Topic::Listing => &["cssmin", "list", "--help"],
         Topic::Lint => &["cssmin", "lint", "--help"],
+        Topic::Inspect => &["cssmin", "inspect", "--help"],
         Topic::Dead => &["cssmin", "dead", "--help"],
         Topic::Check => &["cssmin", "check", "--help"],
         Topic::Trial => &["cssmin", "trial", "--help"],

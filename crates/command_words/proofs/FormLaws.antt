@@ -133,6 +133,12 @@ asked_min topic.Lint (Some (arguments [] budget true report)) is = absurd (let b
 asked_min topic.Lint (Some (arguments [] budget false true)) is = absurd (let bad : ⊥ = cc in bad)
 asked_min topic.Lint (Some (arguments [] budget false false)) is = absurd (let bad : ⊥ = cc in bad)
 asked_min topic.Lint (Some (arguments (first ∷ more) budget log report)) is = absurd (let bad : ⊥ = cc in bad)
+asked_min topic.Inspect None is = absurd (let bad : ⊥ = cc in bad)
+asked_min topic.Inspect (Some (arguments [] None true report)) is = absurd (let bad : ⊥ = cc in bad)
+asked_min topic.Inspect (Some (arguments [] None false true)) is = absurd (let bad : ⊥ = cc in bad)
+asked_min topic.Inspect (Some (arguments [] None false false)) is = absurd (let bad : ⊥ = cc in bad)
+asked_min topic.Inspect (Some (arguments [] (Some budget) log report)) is = absurd (let bad : ⊥ = cc in bad)
+asked_min topic.Inspect (Some (arguments (first ∷ more) budget log report)) is = absurd (let bad : ⊥ = cc in bad)
 asked_min topic.Trial None is = absurd (let bad : ⊥ = cc in bad)
 asked_min topic.Trial (Some (arguments [] budget log report)) is = absurd (let bad : ⊥ = cc in bad)
 asked_min topic.Trial (Some (arguments (rules ∷ []) None true report)) is = absurd (let bad : ⊥ = cc in bad)
@@ -161,22 +167,23 @@ named_min (Some about) name words is = by (asks_help words) is
 command_min : (name : List ℕ) → command_named name ≡ Some topic.Min → name ≡ codes "min"
 unfolding command_named
 command_min name is =
-    by (is_word name (codes "min")) (is_word name (codes "dead")) (is_word name (codes "style")) (is_word name (codes "cmp")) (is_word name (codes "check")) (is_word name (codes "why")) (is_word name (codes "same")) (is_word name (codes "list")) (is_word name (codes "lint")) (is_word name (codes "trial")) refl is
+    by (is_word name (codes "min")) (is_word name (codes "dead")) (is_word name (codes "style")) (is_word name (codes "cmp")) (is_word name (codes "check")) (is_word name (codes "why")) (is_word name (codes "same")) (is_word name (codes "list")) (is_word name (codes "lint")) (is_word name (codes "inspect")) (is_word name (codes "trial")) refl is
   where
-    by : (b c d e f g h i j k : Bool) → is_word name (codes "min") ≡ b
-        → cond b (Some topic.Min) (cond c (Some topic.Dead) (cond d (Some topic.Style) (cond e (Some topic.Cmp) (cond f (Some topic.Check) (cond g (Some topic.Why) (cond h (Some topic.Same) (cond i (Some topic.Listing) (cond j (Some topic.Lint) (cond k (Some topic.Trial) None))))))))) ≡ Some topic.Min
+    by : (b c d e f g h i j k l : Bool) → is_word name (codes "min") ≡ b
+        → cond b (Some topic.Min) (cond c (Some topic.Dead) (cond d (Some topic.Style) (cond e (Some topic.Cmp) (cond f (Some topic.Check) (cond g (Some topic.Why) (cond h (Some topic.Same) (cond i (Some topic.Listing) (cond j (Some topic.Lint) (cond k (Some topic.Inspect) (cond l (Some topic.Trial) None)))))))))) ≡ Some topic.Min
         → name ≡ codes "min"
-    by true c d e f g h i j k test is = (bytes_decides name (codes "min")).0 test
-    by false true d e f g h i j k test is = absurd (let bad : ⊥ = cc in bad)
-    by false false true e f g h i j k test is = absurd (let bad : ⊥ = cc in bad)
-    by false false false true f g h i j k test is = absurd (let bad : ⊥ = cc in bad)
-    by false false false false true g h i j k test is = absurd (let bad : ⊥ = cc in bad)
-    by false false false false false true h i j k test is = absurd (let bad : ⊥ = cc in bad)
-    by false false false false false false true i j k test is = absurd (let bad : ⊥ = cc in bad)
-    by false false false false false false false true j k test is = absurd (let bad : ⊥ = cc in bad)
-    by false false false false false false false false true k test is = absurd (let bad : ⊥ = cc in bad)
-    by false false false false false false false false false true test is = absurd (let bad : ⊥ = cc in bad)
-    by false false false false false false false false false false test is = absurd (let bad : ⊥ = cc in bad)
+    by true c d e f g h i j k l test is = (bytes_decides name (codes "min")).0 test
+    by false true d e f g h i j k l test is = absurd (let bad : ⊥ = cc in bad)
+    by false false true e f g h i j k l test is = absurd (let bad : ⊥ = cc in bad)
+    by false false false true f g h i j k l test is = absurd (let bad : ⊥ = cc in bad)
+    by false false false false true g h i j k l test is = absurd (let bad : ⊥ = cc in bad)
+    by false false false false false true h i j k l test is = absurd (let bad : ⊥ = cc in bad)
+    by false false false false false false true i j k l test is = absurd (let bad : ⊥ = cc in bad)
+    by false false false false false false false true j k l test is = absurd (let bad : ⊥ = cc in bad)
+    by false false false false false false false false true k l test is = absurd (let bad : ⊥ = cc in bad)
+    by false false false false false false false false false true l test is = absurd (let bad : ⊥ = cc in bad)
+    by false false false false false false false false false false true test is = absurd (let bad : ⊥ = cc in bad)
+    by false false false false false false false false false false false test is = absurd (let bad : ⊥ = cc in bad)
 
 min_only : (words : List (List ℕ)) → form_of words ≡ Some (Min None false) → words ≡ codes "min" ∷ []
 min_only [] is = absurd (let bad : ⊥ = cc in bad)

@@ -17,6 +17,7 @@ pub data Form : Type 0 where
   Same : (split : ℕ) (budget : Option ℕ) → Form
   Listing : Form
   Lint : (budget : Option ℕ) → Form
+  Inspect : Form
   Trial : (rules : ℕ) → Form
   Help : Topic → Form
   Version : Form
@@ -133,6 +134,7 @@ asked topic.Why (Some (arguments (from ∷ to ∷ []) budget false false)) = mov
 asked topic.Same (Some (arguments (split ∷ []) budget false false)) = compared (number_up_to most_number split) budget
 asked topic.Listing (Some (arguments [] None false false)) = Some Listing
 asked topic.Lint (Some (arguments [] budget false false)) = Some (Lint budget)
+asked topic.Inspect (Some (arguments [] None false false)) = Some Inspect
 asked topic.Trial (Some (arguments (rules ∷ []) None false false)) = tried (number_up_to most_rules rules)
 asked about words = None
 
@@ -148,6 +150,7 @@ command_named name =
     else if is_word name (codes "same") then Some topic.Same
     else if is_word name (codes "list") then Some topic.Listing
     else if is_word name (codes "lint") then Some topic.Lint
+    else if is_word name (codes "inspect") then Some topic.Inspect
     else if is_word name (codes "trial") then Some topic.Trial else None
 
 -- whether the words behind a command ask how it is used

@@ -1,6 +1,6 @@
 -- What a contract sees of a command, and of operands and options.
 use Rattle.std.specs.Prelude.{ℕ, List, [], ◌∷◌, Option, Some, None}
-use Rattle.command_words.specs.Forms.{Form, Min, Style, Dead, Cmp, Check, Why, Same, Listing, Lint, Trial, Help, Version, Arguments, arguments}
+use Rattle.command_words.specs.Forms.{Form, Min, Style, Dead, Cmp, Check, Why, Same, Listing, Lint, Inspect, Trial, Help, Version, Arguments, arguments}
 use Rattle.command_words.specs.declared.command.Command.{Command}
 use Rattle.command_words.specs.declared.command.Command.TheVariants as command
 use Rattle.command_words.specs.declared.arguments.Arguments as read
@@ -18,6 +18,7 @@ form (command.Why from to budget) = Why from to budget
 form (command.Same split budget) = Same split budget
 form command.Listing = Listing
 form (command.Lint budget) = Lint budget
+form command.Inspect = Inspect
 form (command.Trial rules) = Trial rules.number
 form (command.Help about) = Help about
 form command.Version = Version

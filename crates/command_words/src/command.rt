@@ -47,6 +47,8 @@ pub enum Topic {
     Listing,
     /// The command `lint`.
     Lint,
+    /// The command `inspect`.
+    Inspect,
     /// The command `check`.
     Check,
     /// The command `trial`.
@@ -106,6 +108,8 @@ pub enum Command<'a> {
         /// How many clauses may be learned for a pair, where the words say it: at most `MOST_BUDGET`.
         budget: Option<u32>,
     },
+    /// List what the rules of a style sheet apply to an element of a document.
+    Inspect,
     /// Make a sheet and merge it, and report the outcome.
     Trial {
         /// How many rules the sheet is to have.

@@ -86,6 +86,7 @@ fn asked<'a>(about: Topic, words: Option<Arguments<'a>>) -> Option<Command<'a>>
         (Topic::Same, Operands::One(split), budget, false, false) => compared(split, budget),
         (Topic::Listing, Operands::None, None, false, false) => Some(Command::Listing),
         (Topic::Lint, Operands::None, budget, false, false) => Some(Command::Lint { budget }),
+        (Topic::Inspect, Operands::None, None, false, false) => Some(Command::Inspect),
         (Topic::Trial, Operands::One(rules), None, false, false) => tried(rules),
         _ => None,
     }
@@ -114,6 +115,8 @@ fn command_named(name: &str) -> Option<Topic>
         Some(Topic::Listing)
     } else if name == "lint" {
         Some(Topic::Lint)
+    } else if name == "inspect" {
+        Some(Topic::Inspect)
     } else if name == "trial" {
         Some(Topic::Trial)
     } else {

@@ -7,7 +7,7 @@ use Rattle.std.proofs.lemmas.Grind.{merely}
 use Rattle.std.proofs.lemmas.List.Elements.{All-contains}
 use Rattle.cnf.specs.Budgets.{no_limit}
 use Rattle.cnf.specs.declared.lit.Lit.{Lit}
-use Rattle.command_words.specs.Forms.{Form, Min, Style, Dead, Cmp, Check, Why, Same, Listing, Lint, Trial, Help, Version, form_of}
+use Rattle.command_words.specs.Forms.{Form, Min, Style, Dead, Cmp, Check, Why, Same, Listing, Lint, Inspect, Trial, Help, Version, form_of}
 use Rattle.compare_text.specs.ComparedTexts.{AsksFor, selector_or_reason}
 use Rattle.css_model.specs.declared.fault.SheetFault.{SheetFault}
 use Rattle.css_model.specs.declared.sheet.Item.{Item}
@@ -30,6 +30,7 @@ use Rattle.cssmin_run.specs.Change.{Change}
 use Rattle.cssmin_run.specs.Commands.Check.{CheckRefuses, Checks}
 use Rattle.cssmin_run.specs.Commands.Cmp.{CmpDoes, IsAnswer, IsTextOf, unasked}
 use Rattle.cssmin_run.specs.Commands.Dead.{TellsLives}
+use Rattle.cssmin_run.specs.Commands.Inspect.{TellsGroups}
 use Rattle.cssmin_run.specs.Commands.Lint.{TellsFound}
 use Rattle.cssmin_run.specs.Commands.Listing.{ListsItems}
 use Rattle.cssmin_run.specs.Commands.Min.{Merges, MinRefuses}
@@ -37,7 +38,7 @@ use Rattle.cssmin_run.specs.Commands.Same.{ComparesSheets, SameRefuses}
 use Rattle.cssmin_run.specs.Commands.Style.{StyleRefuses, TellsWinners}
 use Rattle.cssmin_run.specs.Commands.Trial.{TrialDoes}
 use Rattle.cssmin_run.specs.Commands.Why.{ExplainsMove, WhyRefuses}
-use Rattle.cssmin_run.specs.Placed.{in_sheet, nowhere}
+use Rattle.cssmin_run.specs.Placed.{in_sheet, in_sheet_part, nowhere}
 use Rattle.cssmin_run.specs.Run.{Answers, Ran, named_budget}
 use Rattle.cssmin_run.specs.Tasks.{Does, Finds, Silent}
 use Rattle.cssmin_run.specs.declared.status.Status.{Status}
@@ -200,6 +201,7 @@ held_by (Some (Same split budget)) status input output err held pairs h is =
 held_by (Some Listing) status input output err held pairs h is = let m = made max_bytes in_sheet (Silent ListsItems) MinRefuses status input output err held pairs h is in unheld held pairs m.3.0.1 is
 held_by (Some (Lint budget)) status input output err held pairs h is =
     let m = finding_made max_bytes in_sheet (Silent (TellsFound budget)) MinRefuses status input output err held pairs h is in of_found budget m.0 m.1 held pairs m.3.0 is
+held_by (Some Inspect) status input output err held pairs h is = let m = made max_bytes in_sheet_part (Silent TellsGroups) StyleRefuses status input output err held pairs h is in unheld held pairs m.3.0.1 is
 held_by (Some (Trial rules)) status input output err held pairs h is = trial_held rules status output err held pairs h is
 held_by (Some (Help about)) status input output err held pairs h is = unheld held pairs h.1 is
 held_by (Some Version) status input output err held pairs h is = unheld held pairs h.1 is

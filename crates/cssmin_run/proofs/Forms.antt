@@ -2,16 +2,18 @@
 use Rattle.std.proofs.Common.{Bool, ◌≡◌, ◌⊎◌, ◌↔◌, inl, inr, ℕ, List, [], true, false, Option, Some, None, IfSome, IsSomeAnd, refl, sym, ap, subst}
 use Rattle.std.proofs.lemmas.Bool.{false≢true}
 use Rattle.std.specs.Prelude.{IsNone}
-use Rattle.command_words.specs.Forms.{Form, Min, Style, Dead, Cmp, Check, Why, Same, Listing, Lint, Trial, Help, Version, form_of}
+use Rattle.command_words.specs.Forms.{Form, Min, Style, Dead, Cmp, Check, Why, Same, Listing, Lint, Inspect, Trial, Help, Version, form_of}
 use Rattle.css_model.specs.declared.fault.SheetFault.{SheetFault}
 use Rattle.css_model.specs.Sheets.Limits.{max_bytes}
 use Rattle.log_text.specs.CheckedTexts.{max_log_bytes}
 use Rattle.overlap.specs.PairsParts.{PairsParts}
 use Rattle.same_text.specs.SameTexts.{max_both}
+use Rattle.style_text.specs.Inputs.{sheet_part}
 use Rattle.cssmin_run.specs.Change.{Change, HasFailed}
 use Rattle.cssmin_run.specs.Commands.Check.{CheckDoes, CheckRefuses, Checks}
 use Rattle.cssmin_run.specs.Commands.Cmp.{CmpDoes}
 use Rattle.cssmin_run.specs.Commands.Dead.{DeadDoes, TellsLives}
+use Rattle.cssmin_run.specs.Commands.Inspect.{InspectDoes, TellsGroups}
 use Rattle.cssmin_run.specs.Commands.Lint.{LintDoes, TellsFound}
 use Rattle.cssmin_run.specs.Commands.Listing.{ListDoes, ListsItems}
 use Rattle.cssmin_run.specs.Commands.Min.{Merges, MinDoes, MinRefuses}
@@ -19,7 +21,7 @@ use Rattle.cssmin_run.specs.Commands.Same.{ComparesSheets, SameDoes, SameRefuses
 use Rattle.cssmin_run.specs.Commands.Style.{StyleDoes, StyleRefuses, TellsWinners}
 use Rattle.cssmin_run.specs.Commands.Trial.{TrialDoes}
 use Rattle.cssmin_run.specs.Commands.Why.{ExplainsMove, WhyDoes, WhyRefuses}
-use Rattle.cssmin_run.specs.Placed.{fault_place, in_sheet, nowhere, TellsAt}
+use Rattle.cssmin_run.specs.Placed.{fault_place, in_sheet, in_sheet_part, nowhere, TellsAt}
 use Rattle.cssmin_run.specs.Run.{Answers, Outcome, Ran, needs_input, tells_places}
 use Rattle.cssmin_run.specs.SheetFaults.{HasFault, HasNoFault}
 use Rattle.cssmin_run.specs.Tasks.{Began, Did, IsRefused, Silent}
@@ -65,6 +67,9 @@ list_did words status input output err held ran is = did words (Some Listing) st
 pub lint_did : (words : List (List ℕ)) (budget : Option ℕ) (status : Status) (input output err : Change) (held : Option PairsParts) → Ran words status input output err held → form_of words ≡ Some (Lint budget) → LintDoes budget status input output err held
 lint_did words budget status input output err held ran is = did words (Some (Lint budget)) status input output err held ran is
 
+pub inspect_did : (words : List (List ℕ)) (status : Status) (input output err : Change) (held : Option PairsParts) → Ran words status input output err held → form_of words ≡ Some Inspect → InspectDoes status input output err held
+inspect_did words status input output err held ran is = did words (Some Inspect) status input output err held ran is
+
 pub trial_did : (words : List (List ℕ)) (rules : ℕ) (status : Status) (input output err : Change) (held : Option PairsParts) → Ran words status input output err held → form_of words ≡ Some (Trial rules) → TrialDoes rules status output err held
 trial_did words rules status input output err held ran is = did words (Some (Trial rules)) status input output err held ran is
 
@@ -80,6 +85,7 @@ no_usage (Why from to budget) input output err held h = h.0
 no_usage (Same split budget) input output err held h = h.0
 no_usage Listing input output err held h = h.0
 no_usage (Lint budget) input output err held h = h.0
+no_usage Inspect input output err held h = h.0
 no_usage (Trial rules) input output err held h = h
 no_usage (Help about) input output err held h = h.0
 no_usage Version input output err held h = h.0
@@ -105,6 +111,7 @@ read_fault_of (Some (Why from to budget)) input output err held h = h.0
 read_fault_of (Some (Same split budget)) input output err held h = h.0
 read_fault_of (Some Listing) input output err held h = h.0
 read_fault_of (Some (Lint budget)) input output err held h = h.0
+read_fault_of (Some Inspect) input output err held h = h.0
 read_fault_of (Some (Trial rules)) input output err held h = absurd h
 read_fault_of (Some (Help about)) input output err held h = absurd h.0
 read_fault_of (Some Version) input output err held h = absurd h.0
@@ -123,6 +130,7 @@ write_fault_of (Some (Why from to budget)) input output err held h = stops_faile
 write_fault_of (Some (Same split budget)) input output err held h = stops_failed h.text h.report output err h.stopped
 write_fault_of (Some Listing) input output err held h = stops_failed h.text h.report output err h.stopped
 write_fault_of (Some (Lint budget)) input output err held h = stops_failed h.text h.report output err h.stopped
+write_fault_of (Some Inspect) input output err held h = stops_failed h.text h.report output err h.stopped
 write_fault_of (Some (Trial rules)) input output err held h = stops_failed h.0 [] output err h.2
 write_fault_of (Some (Help about)) input output err held h = stops_failed h.0.0 [] output err h.0.2
 write_fault_of (Some Version) input output err held h = stops_failed h.0.0 [] output err h.0.2
@@ -229,6 +237,10 @@ pub findings_told : (words : List (List ℕ)) (budget : Option ℕ) (status : St
 findings_told words budget status input output err held ran is has sure safe =
     finds_silent max_bytes in_sheet (TellsFound budget) MinRefuses status input output err held (lint_did words budget status input output err held ran is) (unrefused input.old has) sure safe
 
+pub entries_told : (words : List (List ℕ)) (status : Status) (input output err : Change) (held : Option PairsParts) → Ran words status input output err held
+    → form_of words ≡ Some Inspect → IsSomeAnd input.old (λ read. (other : Status) → StyleRefuses other read → ⊥) → (HasFailed input → ⊥) → (HasFailed output → ⊥) → (status ≡ Done) ⊎ (status ≡ NoMemory)
+entries_told words status input output err held ran is none sure safe = completes_silent max_bytes in_sheet_part TellsGroups StyleRefuses status input output err held (inspect_did words status input output err held ran is) none sure safe
+
 writes_done : (kind : List ℕ → Type 0) (status : Status) (output err : Change) → WritesSome kind status output err → (HasFailed output → ⊥) → (status ≡ Done) ⊎ (status ≡ NoMemory)
 writes_done kind Done output err h safe = inl refl
 writes_done kind Found output err h safe = absurd h
@@ -281,6 +293,7 @@ other_done (Why from to budget) status input output err held h unneeded safe = a
 other_done (Same split budget) status input output err held h unneeded safe = absurd (false≢true (sym unneeded))
 other_done Listing status input output err held h unneeded safe = absurd (false≢true (sym unneeded))
 other_done (Lint budget) status input output err held h unneeded safe = absurd (false≢true (sym unneeded))
+other_done Inspect status input output err held h unneeded safe = absurd (false≢true (sym unneeded))
 other_done (Trial rules) status input output err held h unneeded safe = trial_done rules status output err held h safe
 other_done (Help about) status input output err held h unneeded safe = writes_done _ status output err h.0 safe
 other_done Version status input output err held h unneeded safe = writes_done _ status output err h.0 safe
@@ -344,6 +357,7 @@ told_of (Some (Why from to budget)) status input output err held h silent undone
 told_of (Some (Same split budget)) status input output err held h silent undone unfailed = told_of_does max_both (Silent (ComparesSheets split budget)) (SameRefuses split) status input output err held h undone unfailed
 told_of (Some Listing) status input output err held h silent undone unfailed = absurd (false≢true (sym silent))
 told_of (Some (Lint budget)) status input output err held h silent undone unfailed = absurd (false≢true (sym silent))
+told_of (Some Inspect) status input output err held h silent undone unfailed = absurd (false≢true (sym silent))
 told_of (Some (Trial rules)) status input output err held h silent undone unfailed = trial_told rules status output err held h undone unfailed
 told_of (Some (Help about)) status input output err held h silent undone unfailed = some_told _ status output err h.0 undone unfailed
 told_of (Some Version) status input output err held h silent undone unfailed = some_told _ status output err h.0 undone unfailed
@@ -369,6 +383,18 @@ lint_placed words budget status input output err held fault ran lint is =
     let does : LintDoes budget (SheetRefused fault) input output err held = subst (λ (s : Status). LintDoes budget s input output err held) is (lint_did words budget status input output err held ran lint) in
     placed_in input.old fault err does.3
 
+-- where the fault of the sheet after a document is
+placed_after : (left : Option (List ℕ)) (fault : SheetFault) (err : Change) → (read : List ℕ) × IfSome left (λ bytes. bytes ≡ read) × TellsAt (fault_place (sheet_part read) fault) (SheetRefused fault) err
+    → IfSome left (λ read. TellsAt (fault_place (sheet_part read) fault) (SheetRefused fault) err)
+placed_after None fault err told = tt
+placed_after (Some bytes) fault err told = subst (λ (read : List ℕ). TellsAt (fault_place (sheet_part read) fault) (SheetRefused fault) err) (sym told.1) told.2
+
+pub inspect_placed : (words : List (List ℕ)) (status : Status) (input output err : Change) (held : Option PairsParts) (fault : SheetFault) → Ran words status input output err held
+    → form_of words ≡ Some Inspect → status ≡ SheetRefused fault → IfSome input.old (λ read. TellsAt (fault_place (sheet_part read) fault) (SheetRefused fault) err)
+inspect_placed words status input output err held fault ran inspect is =
+    let does : InspectDoes (SheetRefused fault) input output err held = subst (λ (s : Status). InspectDoes s input output err held) is (inspect_did words status input output err held ran inspect) in
+    placed_after input.old fault err does.3
+
 -- only `lint` finds something
 finds_of : (form : Option Form) (input output err : Change) (held : Option PairsParts) → Answers form Found input output err held → (budget : Option ℕ) × (form ≡ Some (Lint budget))
 finds_of None input output err held h = absurd (let bad : ⊥ = let same : Found ≡ Usage = h.0 in cc in bad)
@@ -381,6 +407,7 @@ finds_of (Some (Why from to budget)) input output err held h = absurd h.0
 finds_of (Some (Same split budget)) input output err held h = absurd h.0
 finds_of (Some Listing) input output err held h = absurd h.0
 finds_of (Some (Lint budget)) input output err held h = (budget, refl)
+finds_of (Some Inspect) input output err held h = absurd h.0
 finds_of (Some (Trial rules)) input output err held h = absurd h
 finds_of (Some (Help about)) input output err held h = absurd h.0
 finds_of (Some Version) input output err held h = absurd h.0

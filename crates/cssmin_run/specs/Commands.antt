@@ -2,6 +2,7 @@
 pub mod Check
 pub mod Cmp
 pub mod Dead
+pub mod Inspect
 pub mod Lint
 pub mod Listing
 pub mod Min

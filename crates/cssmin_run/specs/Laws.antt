@@ -7,12 +7,14 @@ use Rattle.cnf.specs.declared.lit.Lit.{Lit}
 use Rattle.css_model.specs.Documents.SelectorParts.{SelectorParts}
 use Rattle.overlap.specs.declared.answer.Answer.TheVariants.{Spent}
 use Rattle.overlap.specs.Remembered.{IsAnswered, IsTrueList}
-use Rattle.command_words.specs.Forms.{Form, Min, Style, Dead, Cmp, Check, Why, Same, Listing, Lint, Trial, form_of}
+use Rattle.command_words.specs.Forms.{Form, Min, Style, Dead, Cmp, Check, Why, Same, Listing, Lint, Inspect, Trial, form_of}
 use Rattle.overlap.specs.PairsParts.{PairsParts}
+use Rattle.style_text.specs.Inputs.{sheet_part}
 use Rattle.cssmin_run.specs.Change.{Change, HasFailed}
 use Rattle.cssmin_run.specs.Commands.Check.{CheckDoes, CheckRefuses}
 use Rattle.cssmin_run.specs.Commands.Cmp.{CmpDoes, unasked}
 use Rattle.cssmin_run.specs.Commands.Dead.{DeadDoes}
+use Rattle.cssmin_run.specs.Commands.Inspect.{InspectDoes}
 use Rattle.cssmin_run.specs.Commands.Lint.{LintDoes}
 use Rattle.cssmin_run.specs.Commands.Listing.{ListDoes}
 use Rattle.cssmin_run.specs.Commands.Min.{Merges, MinDoes, MinRefuses}
@@ -73,6 +75,10 @@ ListDoesItsWord = (words : List (List ℕ)) (status : Status) (input output err 
 abbrev pub LintDoesItsWord : Type 0
 LintDoesItsWord = (words : List (List ℕ)) (budget : Option ℕ) (status : Status) (input output err : Change) (held : Option PairsParts) → Ran words status input output err held → form_of words ≡ Some (Lint budget) → LintDoes budget status input output err held
 
+-- words that ask for it do what `inspect` says
+abbrev pub InspectDoesItsWord : Type 0
+InspectDoesItsWord = (words : List (List ℕ)) (status : Status) (input output err : Change) (held : Option PairsParts) → Ran words status input output err held → form_of words ≡ Some Inspect → InspectDoes status input output err held
+
 -- words that try merging do what `trial` says
 abbrev pub TrialDoesItsWord : Type 0
 TrialDoesItsWord =
@@ -101,6 +107,12 @@ abbrev pub LintFaultIsPlaced : Type 0
 LintFaultIsPlaced =
     (words : List (List ℕ)) (budget : Option ℕ) (status : Status) (input output err : Change) (held : Option PairsParts) (fault : SheetFault) → Ran words status input output err held
     → form_of words ≡ Some (Lint budget) → status ≡ SheetRefused fault → IfSome input.old (λ read. TellsAt (fault_place read fault) (SheetRefused fault) err)
+
+-- by `inspect` too, in the sheet after the document
+abbrev pub InspectFaultIsPlaced : Type 0
+InspectFaultIsPlaced =
+    (words : List (List ℕ)) (status : Status) (input output err : Change) (held : Option PairsParts) (fault : SheetFault) → Ran words status input output err held
+    → form_of words ≡ Some Inspect → status ≡ SheetRefused fault → IfSome input.old (λ read. TellsAt (fault_place (sheet_part read) fault) (SheetRefused fault) err)
 
 -- ---- The answers that are held, after any command
 
@@ -203,6 +215,13 @@ abbrev pub FindingsAreTold : Type 0
 FindingsAreTold =
     (words : List (List ℕ)) (budget : Option ℕ) (status : Status) (input output err : Change) (held : Option PairsParts) → Ran words status input output err held
     → form_of words ≡ Some (Lint budget) → IsSomeAnd input.old HasNoFault → (HasFailed input → ⊥) → (HasFailed output → ⊥) → (status ≡ Done) ⊎ (status ≡ Found) ⊎ (status ≡ NoMemory)
+
+-- what the rules of a sheet apply to an element is told, where neither page nor sheet is refused, no read or write failed and the
+-- memory sufficed
+abbrev pub EntriesAreTold : Type 0
+EntriesAreTold =
+    (words : List (List ℕ)) (status : Status) (input output err : Change) (held : Option PairsParts) → Ran words status input output err held
+    → form_of words ≡ Some Inspect → IsSomeAnd input.old (λ read. (other : Status) → StyleRefuses other read → ⊥) → (HasFailed input → ⊥) → (HasFailed output → ⊥) → (status ≡ Done) ⊎ (status ≡ NoMemory)
 
 -- what needs no input is done, where no write failed and the memory sufficed
 abbrev pub OthersAreDone : Type 0

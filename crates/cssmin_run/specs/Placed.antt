@@ -6,6 +6,7 @@ use Rattle.css_model.specs.declared.fault.SheetFault.{SheetFault}
 use Rattle.css_model.specs.Sheets.Fault.{fault_text}
 use Rattle.line_places.specs.declared.place.Place.{Place}
 use Rattle.line_places.specs.Lines.{place_of, place_text}
+use Rattle.style_text.specs.Inputs.{sheet_part}
 use Rattle.cssmin_run.specs.Change.{Change}
 use Rattle.cssmin_run.specs.Status.{IsMessage}
 use Rattle.cssmin_run.specs.Telling.{IsTold}
@@ -31,6 +32,10 @@ fault_place sheet fault = if has_place fault.kind then Some (place_of sheet faul
 abbrev pub in_sheet : Status → (read : List ℕ) → Option Place
 in_sheet (SheetRefused fault) read = fault_place read fault
 in_sheet status read = None
+
+-- that of the fault of the sheet after a document, in the bytes of the sheet
+abbrev pub in_sheet_part : Status → (read : List ℕ) → Option Place
+in_sheet_part status read = in_sheet status (sheet_part read)
 
 -- ---- How it is told
 

@@ -1,7 +1,7 @@
 -- What a run of the program did, by what its words ask for and its status.
 use Rattle.std.specs.Prelude.{◌≡◌, ℕ, ◌+◌, Bool, true, false, List, Option, Some, None}
 use Rattle.command_texts.specs.Texts.{IsHelpOn, version_text}
-use Rattle.command_words.specs.Forms.{Form, Min, Style, Dead, Cmp, Check, Why, Same, Listing, Lint, Trial, Help, Version, form_of}
+use Rattle.command_words.specs.Forms.{Form, Min, Style, Dead, Cmp, Check, Why, Same, Listing, Lint, Inspect, Trial, Help, Version, form_of}
 use Rattle.css_model.specs.Sheets.Limits.{max_bytes}
 use Rattle.log_text.specs.CheckedTexts.{max_log_bytes}
 use Rattle.overlap.specs.PairsParts.{PairsParts}
@@ -10,6 +10,7 @@ use Rattle.cssmin_run.specs.Change.{Change}
 use Rattle.cssmin_run.specs.Commands.Check.{CheckDoes}
 use Rattle.cssmin_run.specs.Commands.Cmp.{CmpDoes}
 use Rattle.cssmin_run.specs.Commands.Dead.{DeadDoes}
+use Rattle.cssmin_run.specs.Commands.Inspect.{InspectDoes}
 use Rattle.cssmin_run.specs.Commands.Lint.{LintDoes}
 use Rattle.cssmin_run.specs.Commands.Listing.{ListDoes}
 use Rattle.cssmin_run.specs.Commands.Min.{MinDoes}
@@ -34,6 +35,7 @@ Outcome (Why from to budget) status input output err held = WhyDoes from to budg
 Outcome (Same split budget) status input output err held = SameDoes split budget status input output err held
 Outcome Listing status input output err held = ListDoes status input output err held
 Outcome (Lint budget) status input output err held = LintDoes budget status input output err held
+Outcome Inspect status input output err held = InspectDoes status input output err held
 Outcome (Trial rules) status input output err held = TrialDoes rules status output err held
 Outcome (Help about) status input output err held = WritesSome (IsHelpOn about) status output err × (held ≡ None)
 Outcome Version status input output err held = WritesSome (λ text. text ≡ version_text) status output err × (held ≡ None)
@@ -55,6 +57,7 @@ named_budget (Some (Why from to budget)) = budget
 named_budget (Some (Same split budget)) = budget
 named_budget (Some Listing) = None
 named_budget (Some (Lint budget)) = budget
+named_budget (Some Inspect) = None
 named_budget (Some (Trial rules)) = None
 named_budget (Some (Help about)) = None
 named_budget (Some Version) = None
@@ -71,6 +74,7 @@ needs_input (Some (Why from to budget)) = true
 needs_input (Some (Same split budget)) = true
 needs_input (Some Listing) = true
 needs_input (Some (Lint budget)) = true
+needs_input (Some Inspect) = true
 needs_input (Some (Trial rules)) = false
 needs_input (Some (Help about)) = false
 needs_input (Some Version) = false
@@ -79,6 +83,7 @@ needs_input (Some Version) = false
 abbrev pub tells_places : Option Form → Bool
 tells_places (Some Listing) = true
 tells_places (Some (Lint budget)) = true
+tells_places (Some Inspect) = true
 tells_places form = false
 
 -- the most bytes of the input that are taken: one past the limit of a log, of two sheets, or of a sheet

@@ -4,6 +4,7 @@ pub(crate) mod about;
 pub(crate) mod check;
 pub(crate) mod cmp;
 pub(crate) mod dead;
+pub(crate) mod inspect;
 pub(crate) mod lint;
 pub(crate) mod listing;
 pub(crate) mod min;

@@ -16,6 +16,7 @@ pub fn words_decide_usage()
     ensures same { laws.SameDoesItsWord }
     ensures list { laws.ListDoesItsWord }
     ensures lint { laws.LintDoesItsWord }
+    ensures inspect { laws.InspectDoesItsWord }
     ensures trial { laws.TrialDoesItsWord }
 {}
 
@@ -30,6 +31,7 @@ pub fn each_status_has_its_cause()
     ensures told { laws.StatusIsTold }
     ensures placed { laws.FaultIsPlaced }
     ensures lint_placed { laws.LintFaultIsPlaced }
+    ensures inspect_placed { laws.InspectFaultIsPlaced }
     ensures found { laws.OnlyLintFinds }
 {
     remaining_steps_are_blocked();
@@ -53,6 +55,7 @@ pub fn each_sheet_has_its_status()
     ensures told_same { laws.SheetsAreCompared }
     ensures listed { laws.ItemsAreListed }
     ensures found { laws.FindingsAreTold }
+    ensures inspected { laws.EntriesAreTold }
     ensures others { laws.OthersAreDone }
 {}
 

@@ -6,6 +6,7 @@ ghost use Rattle.cssmin_run.specs.Placed as spec;
 use crate::status::Status;
 use css_model::{FaultKind, SheetFault};
 use line_places::{Place, place_in};
+use style_text::split_input;
 
 /// Whether a fault of this kind is at a place in its sheet: any but that the sheet is too long.
 fn has_place(kind: FaultKind) -> bool
@@ -36,4 +37,12 @@ pub(crate) fn in_sheet(status: Status, bytes: &[u8]) -> Option<Place>
         Status::SheetRefused(fault) => fault_place(bytes, fault),
         _ => None,
     }
+}
+
+/// The line and the column of the fault of the sheet after a document, in this sheet.
+pub(crate) fn in_sheet_part(status: Status, bytes: &[u8]) -> Option<Place>
+    ensures { result ≡ spec.in_sheet_part status bytes.now }
+{
+    let (_, sheet) = split_input(bytes);
+    in_sheet(status, sheet)
 }

@@ -11,6 +11,7 @@ use crate::commands::about::{help, version};
 use crate::commands::check::Check;
 use crate::commands::cmp::cmp;
 use crate::commands::dead::Dead;
+use crate::commands::inspect::Inspect;
 use crate::commands::lint::Lint;
 use crate::commands::listing::Listing;
 use crate::commands::min::Min;
@@ -87,6 +88,7 @@ fn obey<S: Source, O: Sink, E: Sink>(
         Some(Command::Lint { budget }) => {
             perform_finding(alloc, words, &Lint { budget }, input, out, err, held)
         }
+        Some(Command::Inspect) => perform(alloc, words, &Inspect, input, out, err, held),
         Some(Command::Trial { rules }) => trial(alloc, rules.number(), out, err, held),
         Some(Command::Help(about)) => help(alloc, about, out, err),
         Some(Command::Version) => version(alloc, out, err),
@@ -109,6 +111,9 @@ fn obey<S: Source, O: Sink, E: Sink>(
 ///   line and the column of the fault too.
 /// - `lint` reads a sheet, and writes to `out` which selectors match nothing, and which declarations each selector of
 ///   their rule has again later. It refuses a sheet as `list` does.
+/// - `inspect` reads a document and a sheet, and writes to `out` which declarations the rules apply to the marked
+///   element, in the order of the cascade. If it refuses the sheet, it writes to `err` the line and the column of the
+///   fault in it too.
 /// - `check` reads a log, and writes to `out` whether it refutes its formula.
 /// - `trial N` merges a made sheet of N rules, and writes to `out` how many items and bytes it had and has, and how
 ///   many steps were taken.

@@ -1,3 +1,4 @@
+pub mod ForCallers
 mod Named
 mod Small
 mod Splitting

@@ -11,4 +11,7 @@ mod style;
 
 pub use fault::{DocFault, StyleError};
 pub use laws::{inputs_have_two_parts, winners_are_told};
-pub use style::style_lines;
+pub use lines::{kept_count, push_specificity};
+pub use reading::{read_document, read_source};
+pub use split::split_input;
+pub use style::{style_lines, too_long};

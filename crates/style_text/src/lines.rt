@@ -21,8 +21,8 @@ fn kept_in(item: &Item) -> usize
     }
 }
 
-/// How many items are kept.
-fn kept_count(items: &[Item]) -> usize
+/// How many items are kept. It takes no memory.
+pub fn kept_count(items: &[Item]) -> usize
     ensures { result ≡ count_by is_kept items.now }
 {
     let mut count = 0;
@@ -40,8 +40,8 @@ fn push_number(out: &mut Vec<u8>, number: u32) -> Result<(), AllocError>
     out.extend_from_slice(buffer.format(number).as_bytes())
 }
 
-/// Appends a specificity.
-fn push_specificity(out: &mut Vec<u8>, weight: Specificity) -> Result<(), AllocError>
+/// Appends a specificity, as `A,B,C`. `AllocError` where memory is short.
+pub fn push_specificity(out: &mut Vec<u8>, weight: Specificity) -> Result<(), AllocError>
     ensures { OnOk result (out.new.items ≡ out.old.items ++ specificity_text weight) }
 {
     push_number(out, weight.a)?;

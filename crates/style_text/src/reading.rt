@@ -11,8 +11,9 @@ use sheet_read::{SheetError, read_sheet};
 use std::alloc::Global;
 
 #[tactic(auto, unfolding(crate::specs::Reading::IsDocument))]
-/// The example of a document's text. It keeps the rules.
-pub(crate) fn read_document(alloc: Global, text: &[u8]) -> Result<Example, StyleError>
+/// The example of a document's text, as `read_doc` reads it. It keeps the rules. `Document` exactly where `read_doc` has
+/// that fault; `NoMemory` where memory is short.
+pub fn read_document(alloc: Global, text: &[u8]) -> Result<Example, StyleError>
     ensures reads { ReadsDocument result text.now }
     ensures rules { IfOk result (λ x. KeepsRules x) }
 {
@@ -24,8 +25,9 @@ pub(crate) fn read_document(alloc: Global, text: &[u8]) -> Result<Example, Style
     }
 }
 
-/// The sheet of a source.
-pub(crate) fn read_source(alloc: Global, source: &[u8]) -> Result<Sheet, StyleError>
+/// The sheet of a source. `Sheet` exactly where the sheet has that fault, with its place in bytes from 0; `NoMemory` where
+/// memory is short.
+pub fn read_source(alloc: Global, source: &[u8]) -> Result<Sheet, StyleError>
     ensures { ReadsSheet result source.now }
 {
     match read_sheet(alloc, source) {

@@ -18,8 +18,9 @@ fn split_behind_line(input: &[u8]) -> (&[u8], &[u8])
     }
 }
 
-/// The document's text and the sheet of an input: what comes before the first empty line, and what comes after it.
-pub(crate) fn split(input: &[u8]) -> (&[u8], &[u8])
+/// The document's text and the sheet of an input: what comes before the first empty line, and what comes after it. Without
+/// an empty line the sheet is empty. It takes no memory.
+pub fn split_input(input: &[u8]) -> (&[u8], &[u8])
     ensures document { result.0.now ≡ document_part input.now }
     ensures sheet { result.1.now ≡ sheet_part input.now }
 {

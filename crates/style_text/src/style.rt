@@ -10,7 +10,7 @@ ghost use Rattle.style_text.specs.Styled.{too_long, IsCause, IsStyled, Styles};
 use crate::fault::StyleError;
 use crate::lines::lines;
 use crate::reading::{read_document, read_source};
-use crate::split::split;
+use crate::split::split_input;
 use cascade_eval::{Won, winners};
 use css_model::{Example, FaultKind, MAX_BYTES, Sheet, SheetFault};
 use selector_laws::read_selectors_keep_the_limits;
@@ -18,7 +18,7 @@ use sheet_laws::read_is_sound;
 use std::alloc::{AllocError, Global};
 
 /// The fault of an input with more bytes than are read.
-fn too_long() -> SheetFault
+pub fn too_long() -> SheetFault
     ensures { result ≡ too_long }
 {
     SheetFault {
@@ -78,6 +78,6 @@ pub fn style_lines(alloc: Global, input: &[u8]) -> Result<Vec<u8>, StyleError>
     if input.len() > MAX_BYTES as usize {
         return Err(StyleError::Sheet(too_long()));
     }
-    let (document, source) = split(input);
+    let (document, source) = split_input(input);
     styled(alloc, document, source)
 }

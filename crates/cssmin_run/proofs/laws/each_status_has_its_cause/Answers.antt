@@ -1,4 +1,4 @@
-use Rattle.cssmin_run.proofs.Forms.{done_is, fault_placed, front_is, lint_placed, only_lint, read_fault_is, refused_is, told_is, write_fault_is}
+use Rattle.cssmin_run.proofs.Forms.{done_is, fault_placed, front_is, inspect_placed, lint_placed, only_lint, read_fault_is, refused_is, told_is, write_fault_is}
 use Rattle.cssmin_run.proofs.Remaining.{remaining}
 use Rattle.cssmin_run.proofs.laws.each_status_has_its_cause.Goals as goal
 
@@ -31,3 +31,6 @@ returns-clause-lint_placed c = lint_placed
 
 pub returns-clause-found : goal.returns-clause-found
 returns-clause-found c = only_lint
+
+pub returns-clause-inspect_placed : goal.returns-clause-inspect_placed
+returns-clause-inspect_placed c = inspect_placed

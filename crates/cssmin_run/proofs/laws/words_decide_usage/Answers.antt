@@ -1,4 +1,4 @@
-use Rattle.cssmin_run.proofs.Forms.{lint_did, list_did, same_did, why_did, style_did, dead_did, check_did, cmp_did, min_did, trial_did, usage_is}
+use Rattle.cssmin_run.proofs.Forms.{inspect_did, lint_did, list_did, same_did, why_did, style_did, dead_did, check_did, cmp_did, min_did, trial_did, usage_is}
 use Rattle.cssmin_run.proofs.laws.words_decide_usage.Goals as goal
 
 pub returns-clause-usage : goal.returns-clause-usage
@@ -33,3 +33,6 @@ returns-clause-list c = list_did
 
 pub returns-clause-lint : goal.returns-clause-lint
 returns-clause-lint c = lint_did
+
+pub returns-clause-inspect : goal.returns-clause-inspect
+returns-clause-inspect c = inspect_did

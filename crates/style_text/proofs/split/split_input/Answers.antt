@@ -1,6 +1,6 @@
 use Rattle.std.proofs.Common.{◌∙◌, sym}
 use Rattle.style_text.proofs.Splitting.{begins_full, first_found}
-use Rattle.style_text.proofs.split.split.Goals as goal
+use Rattle.style_text.proofs.split.split_input.Goals as goal
 
 pub split_behind_line-requires : goal.split_behind_line-requires
 split_behind_line-requires c = begins_full c.args.input.now c.in-None.ensures.cases
