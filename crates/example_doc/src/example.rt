@@ -129,17 +129,23 @@ fn written(
     let [element, elements @ ..] = elements else {
         unreachable!()
     };
-    written_around(
-        alloc,
-        top_is_root,
-        steps,
-        *first,
-        before,
-        *behind,
-        after,
+    let start = Start {
+        before: *first,
+        after: *behind,
         element,
-        elements,
-    )
+    };
+    written_around(alloc, top_is_root, steps, &start, before, after, elements)
+}
+
+/// What is said of slot 0.
+#[derive(Clone, Copy)]
+struct Start<'a> {
+    /// How many siblings are before it.
+    before: u32,
+    /// How many siblings are after it.
+    after: u32,
+    /// Its element.
+    element: &'a Features,
 }
 
 /// The lines of an example, and the number of the marked one, from what is said of slot 0 and of the slots after it.
@@ -148,19 +154,17 @@ fn written_around(
     alloc: Global,
     top_is_root: bool,
     steps: &[SlotStep],
-    first: u32,
+    start: &Start<'_>,
     before: &[u32],
-    behind: u32,
     after: &[u32],
-    element: &Features,
     elements: &[Features],
 ) -> Result<(Vec<RunLine>, u32), AllocError>
-    requires counts { CountsFit steps.now (first ∷ before.now) (behind ∷ after.now) }
+    requires counts { CountsFit steps.now (start.now.before ∷ before.now) (start.now.after ∷ after.now) }
     requires elements { length elements.now ≡ length steps.now }
     requires few { length steps.now < 2 ^ 16 }
     ensures lines { IfOk result (λ r. r.0.items
-        ≡ lines_of 0 (tree_with top_is_root steps.now (first ∷ before.now) (behind ∷ after.now) (element.now ∷ elements.now))) }
-    ensures marked { IfOk result (λ r. r.1 ≡ line_from top_is_root steps.now first before.now 0) }
+        ≡ lines_of 0 (tree_with top_is_root steps.now (start.now.before ∷ before.now) (start.now.after ∷ after.now) (start.now.element.now ∷ elements.now))) }
+    ensures marked { IfOk result (λ r. r.1 ≡ line_from top_is_root steps.now start.now.before before.now 0) }
 {
     let mut lines = Vec::new(alloc);
     let depth = push_front(
@@ -168,14 +172,14 @@ fn written_around(
         alloc,
         top_is_root,
         steps,
-        first,
+        start.before,
         before,
         elements,
     )?;
     let marked = lines.len() as u32;
-    let copy = element.copy()?;
+    let copy = start.element.copy()?;
     push_line(&mut lines, depth, copy)?;
-    push_plain(&mut lines, alloc, depth, behind)?;
+    push_plain(&mut lines, alloc, depth, start.after)?;
     push_back(&mut lines, alloc, depth, steps, after)?;
     Ok((lines, marked))
 }

@@ -16,7 +16,7 @@ use lead_plan::{Lead, Scope, Waiting, later_weighs_less};
 use plan_state::Plan;
 use saved_bytes::KnownLengths;
 use std::alloc::{AllocError, Global};
-use step_turns::{Looked, Seen, next_leads};
+use step_turns::{Looked, Seen, View, next_leads};
 
 /// Returns the label under a birth. If there is none, it returns any number.
 fn home_of(homes: &[u64], birth: u32) -> u64
@@ -40,16 +40,15 @@ fn next_of(
     ensures seen { IfOk result (λ l. IfSome l.seen (IsSeen plan.now.board.items)) }
 {
     let at = home_of(&plan.homes, lead.owner);
-    next_leads(
-        alloc,
-        &plan.board,
-        &plan.tables,
+    let view = View {
+        board: &plan.board,
+        tables: &plan.tables,
         source,
-        &plan.weights,
-        &plan.walls,
-        at,
-        lead,
-    )
+        weights: &plan.weights,
+        walls: &plan.walls,
+        after: lead,
+    };
+    next_leads(alloc, &view, at)
 }
 
 /// Notes what was seen of an item. The plan stays the same.

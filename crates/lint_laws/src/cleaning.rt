@@ -26,7 +26,8 @@ pub fn cleaning_keeps_winners()
     outranking_is_decided();
 }
 
-/// The same holds of a sheet whose opened blocks of media are cleaned too, in each scene.
+/// A sheet without all that is told, in the bodies of its opened blocks of media too, has the winners of the whole sheet for every
+/// element of every document and every target, in each scene.
 pub fn cleaning_bodies_keeps_winners()
     ensures { CleaningBodiesKeepsWinners }
 {

@@ -1,2 +1,3 @@
 pub mod Laid
 pub mod Read
+pub mod Reading

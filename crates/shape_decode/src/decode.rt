@@ -6,19 +6,18 @@ ghost use Rattle.formula_laws.specs.Deciding.{shape_from};
 ghost use Rattle.nth_positions.specs.Gaps.{bounds_of};
 ghost use Rattle.selector_laws.specs.Limits.{KeepsLimits};
 ghost use Rattle.shape_decode.specs.Read.{shape_read, slots_read};
-ghost use Rattle.sibling_clauses.specs.Bounds.{IsSmall};
+ghost use Rattle.shape_decode.specs.Reading.{IsReading};
 ghost use Rattle.slot_plan.specs.Parts.{pair_parts};
 ghost use Rattle.slot_plan.specs.ValidShape.{ValidShape};
 
 use crate::lists::shape_of;
 use crate::rows::{numbered, row_before};
-use crate::slot::Slot;
+use crate::slot::{Reading, Slot};
 use crate::slots::push_slots;
 use crate::values::{is_true, number};
 use clause_encode::{numbering, tables_are_ready};
-use css_model::Combinator;
 use formula_laws::satisfying_shapes_fit;
-use sibling_clauses::{Numbering, links_of, numbers_asked};
+use sibling_clauses::{links_of, numbers_asked};
 use slot_plan::{PairPlan, Shape};
 use std::alloc::{AllocError, Global};
 
@@ -50,28 +49,25 @@ fn shape_from(alloc: Global, plan: &PairPlan, values: &[bool]) -> Result<Shape, 
         ≡ shape_from (bounds_of (pair_parts plan.now.left plan.now.right)).width plan.now.left plan.now.right values.now) }
 {
     let asked = numbers_asked(plan.left(), plan.right());
-    let left = links_of(plan.left());
-    let right = links_of(plan.right());
-    let shape = shape_read(alloc, values, numbering(plan), left, right, asked)?;
+    let reading = Reading {
+        values,
+        g: numbering(plan),
+        left: links_of(plan.left()),
+        right: links_of(plan.right()),
+    };
+    let shape = shape_read(alloc, &reading, asked)?;
     Ok(shape)
 }
 
-/// The shape of values, by the combinators of both selectors, and by whether some test looks at a number of siblings.
-fn shape_read(
-    alloc: Global,
-    values: &[bool],
-    g: Numbering,
-    left: &[Combinator],
-    right: &[Combinator],
-    asked: bool,
-) -> Result<Shape, AllocError>
-    requires small { IsSmall g }
-    requires left { length left.now ≡ g.left }
-    requires right { length right.now ≡ g.right }
-    ensures { IfOk result (λ shape. shape ≡ shape_read g values.now left.now right.now asked) }
+/// The shape of what it is read from, and by whether some test looks at a number of siblings.
+fn shape_read(alloc: Global, reading: &Reading<'_>, asked: bool) -> Result<Shape, AllocError>
+    requires { IsReading reading.now }
+    ensures { IfOk result (λ shape. shape
+        ≡ shape_read reading.now.g reading.now.values.now reading.now.left.now reading.now.right.now asked) }
 {
+    let Reading { values, g, .. } = *reading;
     let before = number(values, &g.before_left(alloc, 0)?.bits);
-    let slots = slots(alloc, values, g, left, right, before)?;
+    let slots = slots(alloc, reading, before)?;
     let root = is_true(values, g.root());
     let child = is_true(values, g.child());
     if asked {
@@ -85,25 +81,14 @@ fn shape_read(
 }
 
 /// The slots after slot 0, before which there are so many siblings.
-fn slots(
-    alloc: Global,
-    values: &[bool],
-    g: Numbering,
-    left: &[Combinator],
-    right: &[Combinator],
-    before: u32,
-) -> Result<Vec<Slot>, AllocError>
-    requires small { IsSmall g }
-    requires left { length left.now ≡ g.left }
-    requires right { length right.now ≡ g.right }
+fn slots(alloc: Global, reading: &Reading<'_>, before: u32) -> Result<Vec<Slot>, AllocError>
+    requires { IsReading reading.now }
     ensures value { IfOk result (λ v. v.items
-        ≡ slots_read g values.now left.now right.now (g.left + g.right) 0 0 before) }
+        ≡ slots_read reading.now.g reading.now.values.now reading.now.left.now reading.now.right.now (reading.now.g.left + reading.now.g.right) 0 0 before) }
     ensures few { IfOk result (λ v. length v.items < 2 ^ 15) }
 {
     let mut slots = Vec::new(alloc);
-    let most = g.left + g.right;
-    push_slots(
-        &mut slots, alloc, values, g, left, right, most, 0, 0, before,
-    )?;
+    let most = reading.g.left + reading.g.right;
+    push_slots(&mut slots, alloc, reading, most, 0, 0, before)?;
     Ok(slots)
 }

@@ -25,6 +25,7 @@ use Rattle.step_obstacles.specs.declared.facing.DeclAt.{DeclAt}
 use Rattle.step_obstacles.specs.declared.facing.Facing.{Facing}
 use Rattle.step_obstacles.specs.declared.facing.Facing.TheVariants as facing
 use Rattle.step_obstacles.specs.declared.facing.Met.{Met}
+use Rattle.step_obstacles.specs.declared.facing.MetRule.{MetRule}
 use Rattle.step_obstacles.specs.declared.facing.MovedDecl.{MovedDecl}
 use Rattle.step_obstacles.specs.declared.facing.Source.{Source}
 use Rattle.step_obstacles.specs.declared.window_search.Span.{Span}
@@ -151,6 +152,11 @@ pub record IsMet (w : Window) (m : Met) : Type 0 where
   pub item : IsItemOf w m.number m.item.now
   pub mask : m.mask ≡ item_mask m.item.now
   pub masks : AreMasksIn m.item.now m.masks.now
+
+-- a rule of a sheet that is looked at
+pub record IsMetRule (items : List Item) (m : MetRule) : Type 0 where
+  pub rule : IsRuleAt items m.item m.rule.now
+  pub masks : m.masks.now ≡ map (mask_in None) m.rule.now.decls
 
 -- the pairs of a declaration of a rule with something
 abbrev pub OfSelectors : RuleParts → Decl → (Pair → Hindrance) → Hindrance → Type 0

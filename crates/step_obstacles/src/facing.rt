@@ -65,6 +65,17 @@ pub(crate) struct Met<'a> {
     pub(crate) masks: &'a [u64],
 }
 
+/// A rule of a sheet that is looked at.
+#[derive(Clone, Copy)]
+pub(crate) struct MetRule<'a> {
+    /// The rule's number in the sheet.
+    pub(crate) item: u32,
+    /// The rule.
+    pub(crate) rule: &'a Rule,
+    /// The masks of its declarations.
+    pub(crate) masks: &'a [u64],
+}
+
 /// Another pair with its place and the specificity of its selector, or the kept item of this number.
 #[derive(Drop)]
 pub(crate) enum Facing<'a> {

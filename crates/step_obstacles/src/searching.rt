@@ -1,6 +1,6 @@
 //! The first that blocks of what moved pairs face, looked at one after the other.
 
-ghost use Rattle.std.specs.Prelude.{◌≡◌, ◌≢◌, ◌↔◌, ℕ, IfOk, IsTrue, None, Some, map, slice_get};
+ghost use Rattle.std.specs.Prelude.{◌≡◌, ◌≢◌, ◌↔◌, ℕ, IfOk, IsTrue, Some, slice_get};
 ghost use Rattle.css_model.specs.declared.sheet.DeclItem as declared_decl;
 ghost use Rattle.css_model.specs.declared.sheet.SelItem as declared_selector;
 ghost use Rattle.related_props.specs.Masks.{decl_mask, item_mask};
@@ -14,7 +14,7 @@ ghost use Rattle.window_order.specs.Weighing.{DeclsWeigh};
 
 use crate::answering::blocks;
 use crate::decl_masks::{mask_at, masks_in};
-use crate::facing::{DeclAt, Facing, Met, MovedDecl, Source};
+use crate::facing::{DeclAt, Facing, Met, MetRule, MovedDecl, Source};
 use crate::known::{Known, note, noted};
 use crate::rule_parts::{decl_count, decl_of, selector_count, selector_of};
 use crate::selector_masks::selector_mask;
@@ -301,28 +301,25 @@ fn with_number(
     known: &mut Known,
     window: &Window<'_>,
     moved: &MovedDecl<'_>,
-    rule: &Rule,
-    masks: &[u64],
-    item: u32,
+    met: &MetRule<'_>,
     number: u32,
 ) -> Result<Option<Obstacle>, AllocError>
     requires askable { turns.IsAskable window.now.items.now }
     requires moved { turns.IsMovedDecl window.now.items.now moved.now }
-    requires rule { turns.IsRuleAt window.now.items.now item rule.now }
-    requires masks { masks.now ≡ map (turns.mask_in None) rule.now.decls }
-    requires number { (g : declared_decl.DeclItem) × (slice_get rule.now.decls number ≡ Some g) }
+    requires met { turns.IsMetRule window.now.items.now met.now }
+    requires number { (g : declared_decl.DeclItem) × (slice_get met.now.rule.now.decls number ≡ Some g) }
     requires known { IsKnown window.now known.old }
     ensures stays { Stays pairs.old pairs.new }
-    ensures told { IfOk result (λ found. (g : declared_decl.DeclItem) → slice_get rule.now.decls number ≡ Some g →
-        IsToldOf pairs.new.answers window.now (turns.OfOther moved.now.at.rule.now moved.now.at.decl.now rule.now g.decl) found) }
+    ensures told { IfOk result (λ found. (g : declared_decl.DeclItem) → slice_get met.now.rule.now.decls number ≡ Some g →
+        IsToldOf pairs.new.answers window.now (turns.OfOther moved.now.at.rule.now moved.now.at.decl.now met.now.rule.now g.decl) found) }
     ensures known { IsKnown window.now known.new }
 {
     let other = DeclAt {
-        item,
-        rule,
+        item: met.item,
+        rule: met.rule,
         number,
-        decl: decl_of(rule, number),
-        mask: mask_at(masks, number),
+        decl: decl_of(met.rule, number),
+        mask: mask_at(met.masks, number),
     };
     with_other(alloc, pairs, known, window, moved, &other)
 }
@@ -334,25 +331,20 @@ fn with_rule(
     known: &mut Known,
     window: &Window<'_>,
     moved: &MovedDecl<'_>,
-    rule: &Rule,
-    masks: &[u64],
-    item: u32,
+    met: &MetRule<'_>,
 ) -> Result<Option<Obstacle>, AllocError>
     requires askable { turns.IsAskable window.now.items.now }
     requires moved { turns.IsMovedDecl window.now.items.now moved.now }
-    requires rule { turns.IsRuleAt window.now.items.now item rule.now }
-    requires masks { masks.now ≡ map (turns.mask_in None) rule.now.decls }
+    requires met { turns.IsMetRule window.now.items.now met.now }
     requires known { IsKnown window.now known.old }
     ensures stays { Stays pairs.old pairs.new }
     ensures told { IfOk result (λ found. IsToldOf pairs.new.answers window.now
-        (turns.OfRule moved.now.at.rule.now moved.now.at.decl.now rule.now) found) }
+        (turns.OfRule moved.now.at.rule.now moved.now.at.decl.now met.now.rule.now) found) }
     ensures known { IsKnown window.now known.new }
 {
-    let count = decl_count(rule);
+    let count = decl_count(met.rule);
     for number in 0..count {
-        if let Some(found) = with_number(
-            alloc, pairs, known, window, moved, rule, masks, item, number,
-        )? {
+        if let Some(found) = with_number(alloc, pairs, known, window, moved, met, number)? {
             return Ok(Some(found));
         }
     }
@@ -412,9 +404,14 @@ fn with_item(
     ensures known { IsKnown window.now known.new }
 {
     match met.item {
-        Item::Rule(rule) => with_rule(
-            alloc, pairs, known, window, moved, rule, met.masks, met.number,
-        ),
+        Item::Rule(rule) => {
+            let other = MetRule {
+                item: met.number,
+                rule,
+                masks: met.masks,
+            };
+            with_rule(alloc, pairs, known, window, moved, &other)
+        }
         Item::KeptRule(_) | Item::KeptBlock(_) => {
             with_kept(alloc, pairs, known, window, moved, met.item, met.number)
         }

@@ -9,3 +9,4 @@ pub mod Named
 pub mod Once
 pub mod Seconds
 pub mod Shares
+pub mod Viewed

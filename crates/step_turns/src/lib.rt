@@ -2,34 +2,18 @@
 #![tactic(auto)]
 
 mod apart;
+mod barriers;
+mod by_declarations;
+mod by_selectors;
 mod cuts;
-mod decl_partners;
-mod doubles;
-mod found;
-mod joins;
-mod known_apart;
-mod label_halves;
-mod late;
-mod later_labels;
-mod light;
-mod masks;
-mod naming;
-mod near;
 mod next;
-mod order;
 mod others;
-mod passes;
-mod past_walls;
-mod rule_cuts;
-mod scopes;
-mod selector_partners;
-mod shares;
-mod standing;
+mod queue;
+mod too_late;
 mod trying;
-mod uncut;
+mod view;
 
-pub use found::Found;
-pub use naming::step_of_lead;
+pub use barriers::{is_walled, stands_from};
 pub use next::{Looked, Seen, next_leads};
-pub use past_walls::is_walled;
-pub use standing::stands_from;
+pub use queue::{Found, step_of_lead};
+pub use view::View;

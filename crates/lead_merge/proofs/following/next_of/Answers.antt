@@ -14,8 +14,10 @@ pub next_leads-requires-clause-at : goal.next_leads-requires-clause-at
 next_leads-requires-clause-at c = label_of_owner _ c.args.source.now c.args.lead.now.owner c.home_of-at.result (subst (IsBoard c.args.source.now) (sym c.plan.view_is) c.requires)
     (λ label under. c.home_of-at.ensures label (subst (λ (xs : List ℕ). slice_get xs c.args.lead.now.owner ≡ Some label) (sym c.deref.ensures.value) under))
 
-pub next_leads-requires-clause-weighed : goal.next_leads-requires-clause-weighed
-next_leads-requires-clause-weighed c = (subst (IsBoard c.args.source.now) (sym c.plan.view_is) c.requires).weighed
+pub next_leads-requires-clause-view : goal.next_leads-requires-clause-view
+next_leads-requires-clause-view c =
+    let board = subst (IsBoard c.args.source.now) (sym c.plan.view_is) c.requires in
+    record { plannable = board.plannable; cover = board.covered; weighed = board.weighed }
 
 pub returns-clause-follows : goal.returns-clause-follows
 returns-clause-follows c = subst (λ (p : PlanParts). IfOk c.next_leads.result (λ l. Follows c.args.source.now p c.args.lead.now l.found)) c.plan.view_is

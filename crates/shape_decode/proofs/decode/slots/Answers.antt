@@ -6,8 +6,8 @@ use Rattle.shape_decode.specs.Read.{after_left, after_right, before_left, before
 
 pub returns-clause-few : goal.returns-clause-few
 returns-clause-few c =
-    let g = c.args.g in
-    let values = c.args.values.now in
+    let g = c.args.reading.now.g in
+    let values = c.args.reading.now.values.now in
     rw (c.in_ok-push_slots.ensures, c.new-slots.ensures.items)
-    (let w = slots_within (g.left + g.right) c.args.left.now c.args.right.now (true_nodes (suc g.right) values) (before_left g values) (after_left g values) (before_right g values) (after_right g values) 0 0 c.args.before in
+    (let w = slots_within (g.left + g.right) c.args.reading.now.left.now c.args.reading.now.right.now (true_nodes (suc g.right) values) (before_left g values) (after_left g values) (before_right g values) (after_right g values) 0 0 c.args.before in
     omega (arith, w, c.requires.small.left, c.requires.small.right))

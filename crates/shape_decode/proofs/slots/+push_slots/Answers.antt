@@ -8,8 +8,8 @@ use Rattle.shape_decode.specs.Laid.{lays_of}
 pub returns : goal.returns
 returns t c =
     subst (λ ss. OnOk c.push_slots.result (c.push_slots.new.slots.items ≡ ss))
-    (pushed_on c.args.g c.args.values.now c.args.left.now c.args.right.now c.args.slots.now.items c.push.new.self.items c.in_ok-slot.slot (lays_of c.in-Some.lays)
-    c.args.most c.args.i c.args.j c.args.before c.ahead-i.result c.ahead-j.result c.slot.inside.before c.requires.left c.requires.right
+    (pushed_on c.args.reading.now.g c.args.reading.now.values.now c.args.reading.now.left.now c.args.reading.now.right.now c.args.slots.now.items c.push.new.self.items c.in_ok-slot.slot (lays_of c.in-Some.lays)
+    c.args.most c.args.i c.args.j c.args.before c.ahead-i.result c.ahead-j.result c.slot.inside.before c.requires.reading.left c.requires.reading.right
     (let some : c.args.most ≢ 0 = c.if-most-eq0.false in some)
     c.in-Some.ensures.next
     (c.ahead-i.ensures ∙ ap (λ b. ahead b c.args.i) c.has_left.ensures)

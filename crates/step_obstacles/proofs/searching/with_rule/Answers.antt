@@ -8,24 +8,24 @@ pub with_number-requires-clause-number : goal.with_number-requires-clause-number
 with_number-requires-clause-number c =
     let count = c.decl_count-count.ensures in
     let less = c.loop-number-test.true in
-    let at = at_least c.args.rule.now.decls c.loop-number.number (omega (arith, count, less)) in
+    let at = at_least c.args.met.now.rule.now.decls c.loop-number.number (omega (arith, count, less)) in
     (at.0, at.1)
 
 pub returns-in-Some-clause-told : goal.returns-in-Some-clause-told
 returns-in-Some-clause-told c =
     let count = c.decl_count-count.ensures in
     let less = c.loop-number-test.true in
-    found_some c.args.window.now c.args.rule.now.decls (λ g by. OfOther c.args.moved.now.at.rule.now c.args.moved.now.at.decl.now c.args.rule.now g.decl by) c.with_number.new.pairs.answers c.loop-number.number c.in_ok-found.field-0 c.in-Some.found c.in-Some.is (omega (arith, count, less)) c.in_ok-found.ensures.told
+    found_some c.args.window.now c.args.met.now.rule.now.decls (λ g by. OfOther c.args.moved.now.at.rule.now c.args.moved.now.at.decl.now c.args.met.now.rule.now g.decl by) c.with_number.new.pairs.answers c.loop-number.number c.in_ok-found.field-0 c.in-Some.found c.in-Some.is (omega (arith, count, less)) c.in_ok-found.ensures.told
 
 pub loop-number-preserved : goal.loop-number-preserved
 loop-number-preserved c = record {
   stays = stays_on c.args.pairs.now c.loop-number.pairs c.with_number.new.pairs c.loop-number.invariant.stays c.with_number.ensures.stays;
   known = c.with_number.ensures.known;
-  pass = one_more_none c.args.window.now c.args.rule.now.decls (λ g by. OfOther c.args.moved.now.at.rule.now c.args.moved.now.at.decl.now c.args.rule.now g.decl by) c.loop-number.pairs c.with_number.new.pairs c.loop-number.number c.in_ok-found.field-0 c.in_default.is c.with_number.ensures.stays c.loop-number.invariant.pass c.in_ok-found.ensures.told;
+  pass = one_more_none c.args.window.now c.args.met.now.rule.now.decls (λ g by. OfOther c.args.moved.now.at.rule.now c.args.moved.now.at.decl.now c.args.met.now.rule.now g.decl by) c.loop-number.pairs c.with_number.new.pairs c.loop-number.number c.in_ok-found.field-0 c.in_default.is c.with_number.ensures.stays c.loop-number.invariant.pass c.in_ok-found.ensures.told;
 }
 
 pub returns-clause-told : goal.returns-clause-told
 returns-clause-told c =
     let count = c.decl_count-count.ensures in
     let more = c.loop-number-test.false in
-    all_done c.args.window.now c.args.rule.now.decls (λ g by. OfOther c.args.moved.now.at.rule.now c.args.moved.now.at.decl.now c.args.rule.now g.decl by) c.loop-number.pairs.answers c.loop-number.number (omega (arith, count, more)) c.loop-number.invariant.pass
+    all_done c.args.window.now c.args.met.now.rule.now.decls (λ g by. OfOther c.args.moved.now.at.rule.now c.args.moved.now.at.decl.now c.args.met.now.rule.now g.decl by) c.loop-number.pairs.answers c.loop-number.number (omega (arith, count, more)) c.loop-number.invariant.pass

@@ -11,5 +11,5 @@ abbrev pub invariant-loop-number : goal.invariant-loop-number
 invariant-loop-number l = record {
   stays : Stays l.fn.pairs l.pairs;
   known : IsKnown l.window l.known;
-  pass : AllPass l.pairs.answers l.window (Among (take l.number l.rule.decls) (λ g by. OfOther l.moved.at.rule.now l.moved.at.decl.now l.rule g.decl by));
+  pass : AllPass l.pairs.answers l.window (Among (take l.number l.met.rule.now.decls) (λ g by. OfOther l.moved.at.rule.now l.moved.at.decl.now l.met.rule.now g.decl by));
 }

@@ -1,0 +1,14 @@
+use Rattle.std.proofs.Common.{Option, ap, arith, subst}
+use Rattle.lead_plan.specs.declared.lead.Kind.TheVariants.{DeclJoinUp}
+use Rattle.lead_plan.specs.declared.lead.Lead.{Lead}
+use Rattle.step_turns.specs.LaterLabels.{AreLateFrom}
+use Rattle.step_turns.specs.Looking.{FoundParts}
+use Rattle.step_turns.proofs.by_declarations.are_late_from.Goals as goal
+
+pub returns-clause-late : goal.returns-clause-late
+returns-clause-late c = λ known. (
+  c.in-Some.most,
+  c.in-Some.is,
+  subst (λ (o : Option Lead). AreLateFrom o DeclJoinUp c.args.at c.args.label c.in-Some.most) (ap (λ (f : FoundParts). f.others) c.found.view_is)
+      (λ n later k few least side from. c.in-Some-most_beside.ensures n later k (omega (arith, few, c.if-limit-most.false)) least side from),
+)

@@ -1,0 +1,54 @@
+//! How much steps may save, at most, and come too late, by the labels of their items.
+
+ghost use Rattle.std.specs.Prelude.{◌≤◌, ℕ, IfSome};
+ghost use Rattle.lead_plan.specs.Told.{step_of_kind};
+ghost use Rattle.step_laws.specs.declared.step.Step as declared;
+ghost use Rattle.step_turns.specs.Late.{IsFrom};
+ghost use Rattle.step_turns.specs.LaterLabels.{AreLateFrom};
+ghost use Rattle.step_turns.specs.Looking.{ReachesLast};
+ghost use Rattle.plan_laws.specs.Wall.Holding.{turn_of};
+
+use crate::queue::order::is_sooner;
+use hold_laws::turns_are_ordered;
+use lead_plan::{Kind, Lead};
+use std::cmp::Reverse;
+
+/// How much a step may save, at most, and not come before the first of the others. `None` if this is not known.
+/// The step is of this kind with items of these labels, or ranks after such a step.
+pub(crate) fn most_behind(others: &Option<Lead>, kind: Kind, first: u64, second: u64) -> Option<u64>
+    ensures { IfSome result (λ most. (n : ℕ) (k : declared.Step) → n ≤ most → IsFrom (step_of_kind kind first second) k → ReachesLast others.now (turn_of n k)) }
+{
+    turns_are_ordered();
+    let Some(other) = others else {
+        return None;
+    };
+    let saving = other.saving.0;
+    let soonest = Lead {
+        saving: Reverse(saving),
+        kind,
+        first,
+        second,
+        owner: other.owner,
+        scope: other.scope,
+    };
+    if !is_sooner(&soonest, other) {
+        return Some(u64::from(saving));
+    }
+    if saving == 0 {
+        return None;
+    }
+    Some(u64::from(saving - 1))
+}
+
+/// How much a step of the item with the label `at` may save, at most, and not come before the first of the others.
+/// `None` if this is not known. The other item of the step has this label or a later one on the same side of `at`. The step is
+/// of this kind, or ranks after the one of this kind and these labels.
+pub(crate) fn most_beside(others: &Option<Lead>, kind: Kind, at: u64, label: u64) -> Option<u64>
+    ensures { IfSome result (AreLateFrom others.now kind at label) }
+{
+    if label < at {
+        most_behind(others, kind, label, at)
+    } else {
+        most_behind(others, kind, at, label)
+    }
+}
