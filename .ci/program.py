@@ -116,6 +116,8 @@ def try_words(tries):
         ("the name of a file", ["min", "site.css"], unexpected(b"site.css")),
         ("a budget too great", ["cmp", "a", "b", "--budget", "20001"],
             b"error: invalid value '20001' for '--budget <N>': 20001 is not in 0..=20000\n" + MORE),
+        ("a selector with a hyphen", ["cmp", "-a", "b"],
+            b"error: unexpected argument '-a' found\n\nUsage: cssmin cmp [OPTIONS] <LEFT> <RIGHT>\n" + MORE),
         ("a leading zero", ["cmp", "a", "b", "--budget", "07"], USAGE),
         ("a leading zero behind min", ["min", "--budget", "07"], USAGE),
         ("help and more", ["min", "--help", "--report"], USAGE),

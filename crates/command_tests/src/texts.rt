@@ -102,6 +102,27 @@ Usage: cssmin cmp <LEFT> <RIGHT>
 For more information, try '--help'.
 ",
     ),
+    // No tip to write `-- -a`, which is no form either.
+    (
+        "cssmin cmp -a b",
+        b"error: unexpected argument '-a' found
+
+Usage: cssmin cmp [OPTIONS] <LEFT> <RIGHT>
+
+For more information, try '--help'.
+",
+    ),
+    (
+        "cssmin cmp a b --lo",
+        b"error: unexpected argument '--lo' found
+
+  tip: a similar argument exists: '--log'
+
+Usage: cssmin cmp --log <LEFT> <RIGHT>
+
+For more information, try '--help'.
+",
+    ),
     (
         "cssmin cmp a b --budget 20001",
         b"error: invalid value '20001' for '--budget <N>': 20001 is not in 0..=20000

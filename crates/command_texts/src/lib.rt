@@ -5,5 +5,6 @@ mod commands;
 mod ended;
 mod purposes;
 mod texts;
+mod tips;
 
 pub use texts::{VERSION, help_text, refusal_text, version_text};

@@ -6,6 +6,7 @@ ghost use Rattle.command_texts.specs.Texts.{EndsLine, IsHelpOn, version_text};
 use crate::commands::program;
 use crate::ended::{begun, ended};
 use crate::purposes::purpose;
+use crate::tips::without_tip;
 use clap::Error;
 use clap::error::ErrorKind;
 use command_words::Topic;
@@ -33,7 +34,7 @@ fn text_of(alloc: Global, told: Option<Error>) -> Result<Vec<u8>, AllocError>
     match told {
         Some(error) => {
             let text = format!(in alloc; "{error}")?;
-            ended(text.as_bytes(), alloc)
+            ended(without_tip(alloc, text.as_str())?.as_bytes(), alloc)
         }
         None => ended(b"usage: cssmin COMMAND", alloc),
     }
@@ -81,8 +82,8 @@ pub fn version_text(alloc: Global) -> Result<Vec<u8>, AllocError>
     Ok(text)
 }
 
-/// Why words are refused, as bytes: `clap`'s text, or a line with the form of all words if it has none. The words are
-/// those after the program's name. The text ends with the end of a line. Tests compare some of these texts. `AllocError` if
+/// Why words are refused, as bytes: `clap`'s text without the tip to write a word after `--`, or a line with the form of
+/// all words if it has none. The words are those after the program's name. The text ends with the end of a line. Tests compare some of these texts. `AllocError` if
 /// memory runs out.
 pub fn refusal_text(alloc: Global, words: &Vec<String>) -> Result<Vec<u8>, AllocError>
     ensures { IfOk result (λ text. EndsLine text.items) }
