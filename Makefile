@@ -1,10 +1,12 @@
 # make            proves and builds the program, and puts it here as ./cssmin
 # make check      the whole gate: every proof, must-fail edit, test and program, and the process tried
 # make install    installs it below PREFIX (/usr/local), with its man page and completions for bash, zsh and fish
+# make library    proves and builds the library for C into dist/lib; make install-library installs it (library/library.mk)
+# make package    makes packages of it in dist/packages; make try-packages installs, runs and removes each (packages/packages.mk)
 # make examples   checks that the program gives the outputs beside the examples, and that both have the same winners
 # make bench      measures it, its reading of tokens and its answers for pairs, against wc -c on the same files
 # make sizes      prints the sizes of the examples, as they are and made smaller by it and by other tools
-# make recipes    tries the recipes for builds in examples/build
+# make recipes    tries the recipes for builds in examples/build, and the plugins in the tools that node finds
 
 PREFIX ?= /usr/local
 RT ?= rt
@@ -47,8 +49,12 @@ sizes: cssmin
 
 recipes: cssmin
 	node examples/build/try.mjs ./cssmin
+	CSSMIN=$(abspath cssmin) node --test bindings/node/tests/plugins.test.mjs
 
 clean:
-	rm -rf cssmin crates/*/out
+	rm -rf cssmin dist crates/*/out
+
+include library/library.mk
+include packages/packages.mk
 
 .PHONY: all check install examples bench sizes recipes clean

@@ -18,9 +18,9 @@ from definitions import GHOST_USE, STRING, WORD, Definitions, Scope, text_of
 PAGE = "docs/CLAIMS.md"
 SCRIPT = ".ci/claims.py"
 
-CRATE = re.compile(r"^(\w+):", re.M)
-GIVEN = re.compile(r"^pub use ([\w:]+?)::(?:\{([^}]*)\}|(\w+));|^pub (?:fn|struct|enum|trait|const|type) (\w+)", re.M)
-ITEM = re.compile(r"^(|    )(pub )?(fn|struct|enum|trait|const|type) (\w+)")
+CRATE = re.compile(r"^(\w+)(?: staticlib)?:", re.M)
+GIVEN = re.compile(r"^pub use ([\w:]+?)::(?:\{([^}]*)\}|(\w+));|^pub (?:extern \S+ )?(?:fn|struct|enum|trait|const|type) (\w+)", re.M)
+ITEM = re.compile(r"^(|    )(pub )?(?:extern \S+ )?(fn|struct|enum|trait|const|type) (\w+)")
 IMPL = re.compile(r"^impl(?:<.*?>)? (?:([\w:]+)(?:<.*?>)? for )?(\w+)(?:<.*>)? \{")
 TRAIT = re.compile(r"^pub trait (\w+)", re.M)
 GHOST_WORD = re.compile(r"^    ghost (?:output|from_gives) = ")

@@ -18,7 +18,7 @@ PAGE = "docs/ARCHITECTURE.md"
 SCRIPT = ".ci/crates.py"
 PROGRAM = "cssmin"
 
-LINE = re.compile(r"^(\w+):(.*)$", re.M)
+LINE = re.compile(r"^(\w+)(?: staticlib)?:(.*)$", re.M)
 
 
 def about(crate):
