@@ -16,7 +16,7 @@ import os
 import re
 import sys
 
-GIVEN = re.compile(r"^pub (?:use (?:\w+::)+(?:\{([^}]*)\}|(\w+));|(?:fn|struct|enum|trait|const|type) (\w+))", re.M)
+GIVEN = re.compile(r"^pub (?:use (?:\w+::)+(?:\{([^}]*)\}|(\w+));|(?:extern \S+ )?(?:fn|struct|enum|trait|const|type) (\w+))", re.M)
 QUOTED = re.compile(r"(?<!`)`([^`\n]+)`(?!`)")
 NAME = re.compile(r"[^\W\d][\w'’-]*")
 NAMES = re.compile(r"[^\W\d][\w']*(?:(?:::|\.)[^\W\d][\w']*)*(?:\(\))?")
@@ -26,6 +26,9 @@ PLACEHOLDER = re.compile(r"\b[A-Z]+\b(?=/)")
 OTHERS = ["docs/BELIEVE.md", "docs/ARCHITECTURE.md", "docs/THEORY.md", "docs/TRUST.md", "docs/USING.md"]
 # Words of CSS, HTML and scripts that the documents name.
 FOREIGN = {"background", "cssRules", "cssText", "gold", "method", "transparent"}
+# Where names are looked for.
+SPOKEN = ("crates/", "bindings/")
+BUILDS = ("crates.txt", "Makefile", "library/library.mk", "packages/packages.mk")
 ENDINGS = (".rt", ".antt", ".md", ".py", ".css", ".txt", ".edit", ".mjs")
 
 
@@ -85,11 +88,11 @@ def paths_of(files):
 
 
 def known_names(files):
-    """Every word of the crates' code, definitions and proofs, and of the files that build them."""
+    """Every word of the crates' code, definitions and proofs, of the files that build them, and of the bindings."""
     names = set()
     for file in files:
         names.update(NAME.findall(os.path.splitext(os.path.basename(file))[0]))
-        if file.startswith("crates/") and file.endswith((".rt", ".antt")) or file in ("crates.txt", "Makefile"):
+        if file.startswith(SPOKEN) and file.endswith((".rt", ".antt", ".mjs", ".mts", ".py")) or file in BUILDS:
             names.update(NAME.findall(text_of(file)))
     return names
 

@@ -254,7 +254,7 @@ def try_pages(tries):
     options = set(re.findall(r"--[a-z]+", "".join(helps)))
     for path in ["docs/cssmin.1", "completions/cssmin.bash", "completions/_cssmin", "completions/cssmin.fish"]:
         with open(path, encoding="utf-8") as file:
-            text = re.sub(r" -l (\w+)", r" --\1", file.read().replace("\\-", "-"))
+            text = re.sub(r"(?m)^(complete .*) -l (\w+)", r"\1 --\2", file.read().replace("\\-", "-"))
         tries.is_same(path, "the set of options", set(re.findall(r"--[a-z]+", text)), options)
         for word in commands:
             tries.is_same(path, f"whether it names {word}", re.search(rf"\b{word}\b", text) is not None, True)

@@ -1,16 +1,29 @@
 # Completion of cssmin for bash.
 _cssmin() {
-    local command=${COMP_WORDS[1]} words
+    local word=${COMP_WORDS[COMP_CWORD]} before=${COMP_WORDS[COMP_CWORD - 1]} words="" it
+    COMPREPLY=()
+    case $before in
+        *'<' | *'>')
+            compopt -o filenames 2>/dev/null
+            mapfile -t COMPREPLY < <(compgen -f -- "$word")
+            return
+            ;;
+        --budget | =) return ;;
+    esac
     if [ "$COMP_CWORD" = 1 ]; then
         words='min cmp dead style why same list lint inspect check trial help --help --version'
     else
-        case $command in
-            style|list|inspect|check|trial) words='--help' ;;
-            min) words='--budget --report --help' ;;
-            cmp) words='--budget --log --help' ;;
-            dead|why|same|lint) words='--budget --help' ;;
+        case ${COMP_WORDS[1]} in
+            min) words='--budget --report' ;;
+            cmp) words='--budget --log' ;;
+            dead | why | same | lint) words='--budget' ;;
+            style | list | inspect | check | trial) ;;
+            *) return ;;
         esac
+        # help alone, and no option twice
+        [ "$COMP_CWORD" = 2 ] && words+=' --help'
+        for it in "${COMP_WORDS[@]:2:COMP_CWORD-2}"; do words=" $words "; words=${words/ $it / }; done
     fi
-    COMPREPLY=($(compgen -W "$words" -- "${COMP_WORDS[COMP_CWORD]}"))
+    mapfile -t COMPREPLY < <(compgen -W "$words" -- "$word")
 }
 complete -F _cssmin cssmin

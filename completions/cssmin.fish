@@ -1,9 +1,17 @@
 # Completion of cssmin for fish.
+function __cssmin_command -d 'Whether the command is one of these'
+    set -l words (commandline -opc)
+    test (count $words) -ge 2; and contains -- $words[2] $argv
+end
+function __cssmin_follows -d 'Whether nothing but a command was written'
+    set -l words (commandline -opc)
+    test (count $words) -le 2; and not contains -- help $words
+end
 complete -c cssmin -f
-complete -c cssmin -n __fish_use_subcommand -a min -d 'Make a style sheet smaller, with the same winners on every legal page'
+complete -c cssmin -n __fish_use_subcommand -a min -d 'Make a style sheet smaller, with the same winners on each legal page'
 complete -c cssmin -n __fish_use_subcommand -a cmp -d 'Tell whether one element of a legal page can match two selectors'
 complete -c cssmin -n __fish_use_subcommand -a dead -d 'Tell which selectors of a style sheet match nothing on any legal page'
-complete -c cssmin -n __fish_use_subcommand -a style -d 'Tell which declarations win in a small page'
+complete -c cssmin -n __fish_use_subcommand -a style -d 'Tell which declarations win for an element of a small page'
 complete -c cssmin -n __fish_use_subcommand -a why -d 'Tell why a rule may not be moved to another one'
 complete -c cssmin -n __fish_use_subcommand -a same -d 'Compare which declarations win by two style sheets'
 complete -c cssmin -n __fish_use_subcommand -a list -d 'List the items of a style sheet, each with its number and its place'
@@ -11,9 +19,9 @@ complete -c cssmin -n __fish_use_subcommand -a lint -d 'Tell which selectors mat
 complete -c cssmin -n __fish_use_subcommand -a inspect -d 'List all declarations for an element of a small page, and which win'
 complete -c cssmin -n __fish_use_subcommand -a check -d 'Check a log that refutes a formula'
 complete -c cssmin -n __fish_use_subcommand -a trial -d 'Make a sheet and merge it'
-complete -c cssmin -n __fish_use_subcommand -a help -d 'Tell how it is used'
-complete -c cssmin -n __fish_use_subcommand -s V -l version -d 'Tell the version'
-complete -c cssmin -s h -l help -d 'Tell how it is used'
-complete -c cssmin -n '__fish_seen_subcommand_from min cmp dead why same lint' -l budget -x -d 'Give up after so many learned clauses'
-complete -c cssmin -n '__fish_seen_subcommand_from min' -l report -d 'Tell what was merged'
-complete -c cssmin -n '__fish_seen_subcommand_from cmp' -l log -d 'Write a log in the place of disjoint'
+complete -c cssmin -n __fish_use_subcommand -a help -d 'Print help'
+complete -c cssmin -n __fish_use_subcommand -s V -l version -d 'Print the version'
+complete -c cssmin -n __cssmin_follows -s h -l help -d 'Print help'
+complete -c cssmin -n '__cssmin_command min cmp dead why same lint; and not __fish_contains_opt budget' -l budget -x -d 'Give up on two selectors after so many learned clauses'
+complete -c cssmin -n '__cssmin_command min; and not __fish_contains_opt report' -l report -d 'List what blocks further steps'
+complete -c cssmin -n '__cssmin_command cmp; and not __fish_contains_opt log' -l log -d 'Write a log instead of disjoint'
