@@ -4,7 +4,7 @@ ghost use Rattle.std.specs.Prelude.{◌↔◌, IsTrue};
 ghost use Rattle.lead_plan.specs.Once.{StandOnce};
 
 use css_model::DeclItem;
-use step_savings::has_decl;
+use rule_parts::has_decl;
 
 /// Whether no two of the declarations are the same. It compares each with each. It takes no memory.
 pub fn are_decls_different(decls: &[DeclItem]) -> bool

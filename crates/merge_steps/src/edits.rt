@@ -7,11 +7,12 @@ ghost use Rattle.order_laws.specs.Slots.{new_items};
 ghost use Rattle.step_laws.specs.StepEdits as kinds;
 ghost use Rattle.step_laws.specs.Steps.{edit_of};
 
-use crate::parts::{
-    both_decls, both_selectors, decls, other_decls, other_selectors, push_left, selectors, shared,
-    without_decls,
-};
+use crate::parts::{push_left, without_decls};
 use css_model::{Item, Rule};
+use rule_parts::{
+    both_decls, both_selectors, copied_decls, copied_selectors, other_decls, other_selectors,
+    shared,
+};
 use std::alloc::{AllocError, Global};
 use std::marker::Model;
 use step_laws::Step;
@@ -65,7 +66,7 @@ fn cut_decl(alloc: Global, item: u32, decl: u32, rule: &Rule) -> Result<Vec<Chan
     requires { decl < length rule.now.decls }
     ensures { IfOk result (λ changes. changes.items ≡ (kinds.cut_decl item decl rule.now).changes) }
 {
-    let selectors = selectors(alloc, &rule.selectors)?;
+    let selectors = copied_selectors(alloc, &rule.selectors)?;
     let decls = other_decls(alloc, &rule.decls, decl)?;
     let by = push_left(Vec::new(alloc), Rule { selectors, decls })?;
     one_change(alloc, item, by)
@@ -76,7 +77,7 @@ fn cut_selector(alloc: Global, item: u32, sel: u32, rule: &Rule) -> Result<Vec<C
     ensures { IfOk result (λ changes. changes.items ≡ (kinds.cut_selector item sel rule.now).changes) }
 {
     let selectors = other_selectors(alloc, &rule.selectors, sel)?;
-    let decls = decls(alloc, &rule.decls)?;
+    let decls = copied_decls(alloc, &rule.decls)?;
     let by = push_left(Vec::new(alloc), Rule { selectors, decls })?;
     one_change(alloc, item, by)
 }
@@ -90,7 +91,7 @@ fn join_selectors_up(
 ) -> Result<Vec<Change>, AllocError>
     ensures { IfOk result (λ changes. changes.items ≡ (kinds.join_selectors_up x y upper.now lower.now).changes) }
 {
-    let selectors = selectors(alloc, &upper.selectors)?;
+    let selectors = copied_selectors(alloc, &upper.selectors)?;
     let decls = both_decls(alloc, upper, lower)?;
     let above = vec![in alloc; Item::Rule(Rule { selectors, decls })]?;
     two_changes(alloc, x, above, y, Vec::new(alloc))
@@ -105,7 +106,7 @@ fn join_selectors_down(
 ) -> Result<Vec<Change>, AllocError>
     ensures { IfOk result (λ changes. changes.items ≡ (kinds.join_selectors_down x y upper.now lower.now).changes) }
 {
-    let selectors = selectors(alloc, &lower.selectors)?;
+    let selectors = copied_selectors(alloc, &lower.selectors)?;
     let decls = both_decls(alloc, upper, lower)?;
     let below = vec![in alloc; Item::Rule(Rule { selectors, decls })]?;
     two_changes(alloc, x, Vec::new(alloc), y, below)
@@ -121,7 +122,7 @@ fn join_decls_up(
     ensures { IfOk result (λ changes. changes.items ≡ (kinds.join_decls_up x y upper.now lower.now).changes) }
 {
     let selectors = both_selectors(alloc, upper, lower)?;
-    let decls = decls(alloc, &upper.decls)?;
+    let decls = copied_decls(alloc, &upper.decls)?;
     let above = vec![in alloc; Item::Rule(Rule { selectors, decls })]?;
     two_changes(alloc, x, above, y, Vec::new(alloc))
 }
@@ -136,7 +137,7 @@ fn join_decls_down(
     ensures { IfOk result (λ changes. changes.items ≡ (kinds.join_decls_down x y upper.now lower.now).changes) }
 {
     let selectors = both_selectors(alloc, upper, lower)?;
-    let decls = decls(alloc, &lower.decls)?;
+    let decls = copied_decls(alloc, &lower.decls)?;
     let below = vec![in alloc; Item::Rule(Rule { selectors, decls })]?;
     two_changes(alloc, x, Vec::new(alloc), y, below)
 }

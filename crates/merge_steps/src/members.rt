@@ -7,7 +7,7 @@ ghost use Rattle.order_laws.specs.Members as members;
 ghost use Rattle.step_laws.specs.Steps.{HaveSameDecls};
 
 use css_model::{DeclItem, Rule, SelItem};
-use step_savings::{has_decl, has_selector, is_same_decl};
+use rule_parts::{has_decl, has_selector, is_same_decl};
 
 /// Whether each of the selectors is among the others.
 fn are_selectors_among(items: &[SelItem], others: &[SelItem]) -> bool

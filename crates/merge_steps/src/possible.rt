@@ -12,8 +12,8 @@ ghost use Rattle.step_laws.specs.Steps.{AreDeclsAmong, HasStep, MayShare, decls_
 
 use crate::members::{have_same_decls, have_same_selectors, is_a_decl_among};
 use css_model::{Decl, DeclItem, Item, MAX_ITEMS, Rule, SelItem, Selector, Sheet};
+use rule_parts::{are_decls_among, has_decl, has_selector};
 use step_laws::Step;
-use step_savings::{are_decls_among, has_decl, has_selector};
 
 /// Whether an item is a rule with this pair.
 fn is_in_item(item: &Item, selector: &Selector, decl: &Decl) -> bool

@@ -6,13 +6,12 @@ ghost use Rattle.css_model.specs.declared.sheet.Item.TheVariants as item;
 ghost use Rattle.css_model.specs.Sheets.StyleRule as style;
 ghost use Rattle.order_laws.specs.Members as members;
 ghost use Rattle.step_laws.specs.RuleParting as parting;
-ghost use Rattle.step_laws.specs.StepEdits as edits;
 ghost use Rattle.plan_board.specs.Putting.{HaveNoneInCommon, items_in};
 ghost use Rattle.step_savings.specs.Apart.{AreApart};
 
 use css_model::{DeclItem, Rule, SelItem};
+use rule_parts::{has_decl, has_selector};
 use std::alloc::{AllocError, Global};
-use step_savings::{has_decl, has_selector};
 
 /// The rules that a step puts instead of one rule.
 #[derive(Debug, Drop)]
@@ -190,95 +189,6 @@ pub(crate) fn widened_down(
     } = lower;
     drop(gone);
     let selectors = all_selectors(alloc, above, below, apart)?;
-    Ok(Rule { selectors, decls })
-}
-
-/// Returns copies of the selectors.
-fn selectors(alloc: Global, items: &[SelItem]) -> Result<Vec<SelItem>, AllocError>
-    ensures { IfOk result (λ copies. copies.items ≡ items.now) }
-{
-    let mut copies = Vec::new(alloc);
-    for item in items {
-        copies.push(item.copy()?)?;
-    }
-    Ok(copies)
-}
-
-/// Returns `into` with copies of those of the selectors that are not among the others after its own.
-fn push_new_selectors(
-    into: Vec<SelItem>,
-    items: &[SelItem],
-    others: &[SelItem],
-) -> Result<Vec<SelItem>, AllocError>
-    ensures { IfOk result (λ kept. kept.items ≡ into.items ++ filter (λ s. not (members.has_selector others.now s.selector)) items.now) }
-{
-    let mut kept = into;
-    let mut rest = items;
-    'rest: while let Some((first, behind)) = rest.split_first() {
-        if !has_selector(others, &first.selector) {
-            kept.push(first.copy()?)?;
-        }
-        rest = behind;
-    }
-    Ok(kept)
-}
-
-/// Returns copies of the selectors of the upper rule, then of those of the lower one that the upper one lacks.
-fn both_selectors(alloc: Global, upper: &Rule, lower: &Rule) -> Result<Vec<SelItem>, AllocError>
-    ensures { IfOk result (λ both. both.items ≡ parting.both_selectors upper.now lower.now) }
-{
-    let first = selectors(alloc, &upper.selectors)?;
-    push_new_selectors(first, &lower.selectors, &upper.selectors)
-}
-
-/// Returns copies of those of the declarations that are among the others.
-fn decls_among(
-    alloc: Global,
-    items: &[DeclItem],
-    others: &[DeclItem],
-) -> Result<Vec<DeclItem>, AllocError>
-    ensures { IfOk result (λ kept. kept.items ≡ filter (λ d. members.has_decl others.now d.decl) items.now) }
-{
-    let mut kept = Vec::new(alloc);
-    let mut rest = items;
-    'rest: while let Some((first, behind)) = rest.split_first() {
-        if has_decl(others, &first.decl) {
-            kept.push(first.copy()?)?;
-        }
-        rest = behind;
-    }
-    Ok(kept)
-}
-
-/// Returns copies of the declarations, each once, at its last place.
-fn each_last(alloc: Global, items: &[DeclItem]) -> Result<Vec<DeclItem>, AllocError>
-    ensures { IfOk result (λ last. last.items ≡ parting.each_last items.now) }
-{
-    let mut last = Vec::new(alloc);
-    let mut rest = items;
-    'rest: while let Some((first, behind)) = rest.split_first() {
-        if !has_decl(behind, &first.decl) {
-            last.push(first.copy()?)?;
-        }
-        rest = behind;
-    }
-    Ok(last)
-}
-
-/// Returns copies of the declarations of the lower rule that the upper one has too, each once, at its last place.
-fn common_decls(alloc: Global, upper: &Rule, lower: &Rule) -> Result<Vec<DeclItem>, AllocError>
-    ensures { IfOk result (λ common. common.items ≡ parting.common_decls upper.now lower.now) }
-{
-    let common = decls_among(alloc, &lower.decls, &upper.decls)?;
-    each_last(alloc, &common)
-}
-
-/// Returns a rule with the common declarations of two rules and the selectors of both.
-pub(crate) fn shared(alloc: Global, upper: &Rule, lower: &Rule) -> Result<Rule, AllocError>
-    ensures { IfOk result (λ r. r ≡ edits.shared upper.now lower.now) }
-{
-    let selectors = both_selectors(alloc, upper, lower)?;
-    let decls = common_decls(alloc, upper, lower)?;
     Ok(Rule { selectors, decls })
 }
 

@@ -19,11 +19,12 @@ ghost use Rattle.plan_board.specs.JoinedMasks as masks;
 use crate::marked::MarkedSheet;
 use crate::marks::Mark;
 use crate::parts::{
-    Left, above_left, joined_down, joined_up, left_of, shared, widened_down, widened_up,
-    without_decl, without_decls, without_selector,
+    Left, above_left, joined_down, joined_up, left_of, widened_down, widened_up, without_decl,
+    without_decls, without_selector,
 };
 use css_model::Rule;
 use item_masks::ItemMask;
+use rule_parts::shared;
 use std::alloc::{AllocError, Global};
 use step_laws::Step;
 use step_savings::items_of;

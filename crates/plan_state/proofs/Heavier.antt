@@ -27,7 +27,7 @@ use Rattle.step_laws.specs.RuleParting.{both_selectors, common_decls, each_last,
 use Rattle.step_laws.specs.Sizes.{rule_weight, size, weight}
 use Rattle.step_laws.specs.StepEdits.{AreRules}
 use Rattle.step_laws.specs.Steps.{IsStep}
-use Rattle.step_savings.proofs.ForCallers.{weight-append, weight-filter}
+use Rattle.rule_parts.proofs.ForCallers.{weight-append, weight-filter}
 
 -- ---- Parts of lists
 

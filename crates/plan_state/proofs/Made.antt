@@ -20,7 +20,7 @@ use Rattle.step_laws.specs.declared.step.Step.TheVariants.{JoinSelUp, JoinSelDow
 use Rattle.step_laws.specs.RuleParting.{both_selectors}
 use Rattle.step_laws.specs.Sizes.{weight}
 use Rattle.step_laws.specs.Steps.{first_item, last_item}
-use Rattle.step_savings.proofs.ForCallers.{weight-append}
+use Rattle.rule_parts.proofs.ForCallers.{weight-append}
 use Rattle.step_savings.specs.Weighing.{IsWeighable}
 
 -- what holds of a rule that can be weighed holds of the item that it is

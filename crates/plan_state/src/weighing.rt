@@ -17,11 +17,12 @@ ghost use Rattle.step_savings.specs.Weighing.{IsWeighable};
 use css_model::{Item, MAX_BYTES, Rule};
 use lead_plan::{RuleWeight, RuleWeights, are_decls_different};
 use plan_board::Board;
+use rule_parts::{decls_weight, selectors_weight};
 use saved_bytes::KnownLengths;
 use smallvec::SmallVec;
 use std::alloc::AllocError;
 use step_laws::Step;
-use step_savings::{decls_weight, items_of, selectors_weight};
+use step_savings::items_of;
 
 /// If a rule has more declarations than this, it is not known whether it has each once.
 const MANY: usize = 64;

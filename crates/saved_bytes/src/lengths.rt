@@ -9,9 +9,9 @@ ghost use Rattle.saved_bytes.specs.Lengths.{AreKnown, text_of_piece};
 
 use css_model::{DeclItem, Item, Piece, Rule, SelItem, Sheet};
 use css_print::{decl_len, selector_len};
+use rule_parts::Lengths;
 use std::alloc::{AllocError, Global};
 use std::marker::Model;
-use step_savings::Lengths;
 
 /// The length of the printed text of a selector that begins at a place and ends before `behind`.
 #[derive(Clone, Copy, Debug, Drop)]

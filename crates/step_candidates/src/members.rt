@@ -4,7 +4,7 @@ ghost use Rattle.std.specs.Prelude.{◌≡◌, ◌↔◌, ◌+◌, ◌<◌, IsTr
 ghost use Rattle.std.specs.List.{Contains, remove};
 
 use css_model::{Decl, DeclItem, SelItem, Selector};
-use step_savings::{has_decl, has_selector};
+use rule_parts::{has_decl, has_selector};
 
 /// Returns whether a selector is among these.
 pub(crate) fn is_selector_among(items: &[SelItem], selector: &Selector) -> bool

@@ -5,8 +5,8 @@ ghost use Rattle.step_obstacles.specs.Turns as turns;
 
 use css_model::{Decl, DeclItem, Item, Rule};
 use related_props::decl_mask;
+use rule_parts::has_decl;
 use std::alloc::{AllocError, Global};
-use step_savings::has_decl;
 
 /// Whether a declaration is in another rule too, if one is given.
 pub(crate) fn is_common(with: Option<&Rule>, decl: &Decl) -> bool

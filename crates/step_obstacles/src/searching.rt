@@ -24,8 +24,8 @@ use item_masks::ItemMask;
 use obstacles::{Obstacle, PairPlace};
 use overlap::Pairs;
 use related_props::{related, related_is_reflexive};
+use rule_parts::is_same_decl;
 use std::alloc::{AllocError, Global};
-use step_savings::is_same_decl;
 use window_order::{KnownPair, PairRef, Window, unknown_pair, weighs_kept};
 
 /// The place of the pair of a selector of this number.

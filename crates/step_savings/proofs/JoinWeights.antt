@@ -1,12 +1,13 @@
 -- What two rules weigh more than the one that a join makes of them.
-use Rattle.std.proofs.Common.{◌≡◌, ℕ, ◌+◌, not, List, ◌++◌, arith}
+use Rattle.std.proofs.Common.{◌≡◌, ℕ, ◌+◌, not, List, ◌++◌, sym, ap₂, ◌∙◌, arith}
 use Rattle.std.specs.List.{filter}
+use Rattle.css_model.specs.declared.sheet.SelItem.{SelItem}
 use Rattle.css_model.specs.Sheets.Printed.{printed_selector, printed_declaration}
 use Rattle.css_model.specs.Sheets.RuleParts.{RuleParts}
 use Rattle.order_laws.specs.Members.{has_selector}
 use Rattle.step_laws.specs.RuleParting.{both_selectors}
 use Rattle.step_laws.specs.Sizes.{weight, rule_weight}
-use Rattle.step_savings.proofs.PartWeights.{weight-append, weight-parted}
+use Rattle.rule_parts.proofs.ForCallers.{weight-append, weight-parted}
 use Rattle.step_savings.specs.Weighing.{both_weight}
 
 pub upper_selectors_weigh : (source : List ℕ) (u l : RuleParts) (n : ℕ) → n ≡ weight (printed_selector source) l.selectors →
@@ -36,3 +37,8 @@ upper_decls_weigh source u l n m a b = omega (arith, a, b, selectors_weigh sourc
 pub lower_decls_weigh : (source : List ℕ) (u l : RuleParts) (n m : ℕ) → n ≡ weight (printed_selector source) (filter (λ s. has_selector u.selectors s.selector) l.selectors) →
     m ≡ weight (printed_declaration source) u.decls → n + m + rule_weight source (record { selectors = both_selectors u l; decls = l.decls }) ≡ both_weight source u l
 lower_decls_weigh source u l n m a b = omega (arith, a, b, selectors_weigh source u l)
+
+-- the selectors of both, as the code adds them
+pub both_weigh : (source : List ℕ) (us ls : List SelItem) (n m : ℕ) → n ≡ weight (printed_selector source) us → m ≡ weight (printed_selector source) (filter (λ s. not (has_selector us s.selector)) ls) →
+    n + m ≡ weight (printed_selector source) (us ++ filter (λ s. not (has_selector us s.selector)) ls)
+both_weigh source us ls n m a b = ap₂ (λ (i j : ℕ). i + j) a b ∙ sym (weight-append (printed_selector source) us (filter (λ s. not (has_selector us s.selector)) ls))

@@ -1,14 +1,12 @@
 -- Rules whose parts can be weighed.
-use Rattle.std.specs.Prelude.{ℕ, ◌+◌, ◌≤◌, ◌&&◌, not, if◌then◌else◌, List, [], ◌∷◌}
+use Rattle.std.specs.Prelude.{ℕ, ◌+◌, ◌≤◌, List}
 use Rattle.std.specs.List.{AllByRecursion}
-use Rattle.css_model.specs.declared.sheet.DeclItem.{DeclItem}
 use Rattle.css_model.specs.declared.sheet.Item.{Item}
 use Rattle.css_model.specs.Sheets.Limits.{max_bytes}
 use Rattle.css_model.specs.Sheets.Printed.{printed_selector, printed_declaration}
 use Rattle.css_model.specs.Sheets.RuleParts.{RuleParts}
 use Rattle.css_model.specs.Sheets.Sound.{IsSoundSelector, IsSoundDeclaration}
 use Rattle.step_savings.specs.declared.savings.Parts.{Parts}
-use Rattle.order_laws.specs.Members.{has_decl}
 use Rattle.step_laws.specs.RuleParting.{rule_or_none, without_decls}
 use Rattle.step_laws.specs.Sizes.{weight, rule_weight, rules_weight, brought_weight}
 use Rattle.step_laws.specs.declared.step.Step.{Step}
@@ -25,11 +23,6 @@ pub record IsWeighable (source : List ℕ) (r : RuleParts) : Type 0 where
   pub decls : AllByRecursion (IsSoundDeclaration source) r.decls
   pub small_selectors : weight (printed_selector source) r.selectors ≤ max_bytes
   pub small_decls : weight (printed_declaration source) r.decls ≤ max_bytes
-
--- the declarations of a list that are among others, each once, where it stands last
-abbrev pub last_common : List DeclItem → List DeclItem → List DeclItem
-last_common others [] = []
-last_common others (d ∷ ds) = if has_decl others d.decl && not (has_decl ds d.decl) then d ∷ last_common others ds else last_common others ds
 
 -- what is left of a rule without what it has in common with another one
 abbrev pub rest_of : RuleParts → RuleParts → List Item

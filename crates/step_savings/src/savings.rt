@@ -16,13 +16,12 @@ ghost use Rattle.step_laws.specs.Sizes as sizes;
 ghost use Rattle.step_laws.specs.StepEdits as kinds;
 ghost use Rattle.step_laws.specs.Steps.{HasStep, IsStep, edit_of};
 
-use crate::members::are_decls_among;
 use crate::rules::{items_of, rule_at};
-use crate::weights::{
-    Lengths, common_decls_weight, decls_among_weight, decls_weight, new_selectors_weight,
-    selectors_among_weight, selectors_weight,
-};
 use css_model::{DeclItem, Rule, SelItem, Sheet};
+use rule_parts::{
+    Lengths, are_decls_among, common_decls_weight, decls_among_weight, decls_weight,
+    new_selectors_weight, selectors_among_weight, selectors_weight,
+};
 use step_laws::Step;
 
 /// The parts of a rule.
@@ -64,7 +63,7 @@ fn more_selectors_weight<L: Lengths>(lengths: &L, upper: &Parts, lower: &Parts, 
 }
 
 /// The weight of the selectors of the upper rule, and of those of the lower one that the upper one lacks.
-#[tactic(auto, using(crate::proofs::PartWeights::both_weigh))]
+#[tactic(auto, using(crate::proofs::JoinWeights::both_weigh))]
 fn both_selectors_weight<L: Lengths>(lengths: &L, upper: &Parts, lower: &Parts, apart: bool) -> u64
     requires upper { weighing.IsWeighable (L.source lengths.now) (weighing.rule_of upper.now) }
     requires lower { weighing.IsWeighable (L.source lengths.now) (weighing.rule_of lower.now) }

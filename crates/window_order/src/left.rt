@@ -15,7 +15,7 @@ use crate::pair::PairRef;
 use crate::standing::decl_before;
 use css_model::{Decl, DeclItem, SelItem, Selector};
 use item_masks::ItemMask;
-use step_savings::{has_decl, has_selector};
+use rule_parts::{has_decl, has_selector};
 
 /// Selectors that are in rules of a sheet.
 #[derive(Clone, Copy)]

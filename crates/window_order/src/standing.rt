@@ -7,7 +7,7 @@ ghost use Rattle.window_order.specs.Standing as standing;
 
 use crate::pair::PairRef;
 use css_model::{Decl, DeclItem, Item, Rule};
-use step_savings::{has_decl, has_selector, is_same_decl};
+use rule_parts::{has_decl, has_selector, is_same_decl};
 
 /// Whether a pair is in a rule. The shorter list is looked through first.
 fn is_in_rule(rule: &Rule, p: &PairRef<'_>) -> bool

@@ -16,13 +16,12 @@ ghost use Rattle.step_turns.specs.Shares.{IsKept, IsNumbered, among_weight, new_
 ghost use Rattle.step_turns.specs.Viewed.{ArePartners, IsView};
 
 use crate::apart::masks::has_own_family;
-use crate::cuts::possible::find_rule;
 use crate::view::{Partners, View};
 use css_model::{DeclItem, Rule};
 use lead_plan::are_decls_different;
 use plan_board::Board;
+use rule_parts::{Lengths, are_decls_among, decls_weight, find_rule, has_decl, selectors_weight};
 use saved_bytes::KnownLengths;
-use step_savings::{Lengths, are_decls_among, decls_weight, has_decl, selectors_weight};
 
 /// What the declarations that are among others weigh, together with `more`, if that is above a limit.
 /// It looks at them only until it is known not to be.

@@ -1,8 +1,7 @@
 //! Whether a step is one of a board's sheet, with tables of its rules.
 
-ghost use Rattle.std.specs.Prelude.{◌≡◌, ◌↔◌, ◌+◌, ◌≤◌, ◌<◌, IfNone, IfSome, IsTrue, Some, true, drop, length, map, slice_get};
+ghost use Rattle.std.specs.Prelude.{◌≡◌, ◌↔◌, ◌+◌, ◌≤◌, ◌<◌, IfNone, IfSome, IsTrue, true, drop, length, map};
 ghost use Rattle.std.specs.List.{Contains, remove};
-ghost use Rattle.css_model.specs.declared.sheet.Item.TheVariants as item;
 ghost use Rattle.css_model.specs.Documents.SelectorParts.{SelectorParts};
 ghost use Rattle.css_model.specs.declared.sheet.Decl as declared;
 ghost use Rattle.css_model.specs.Sheets.Limits.{max_items};
@@ -15,26 +14,15 @@ ghost use Rattle.step_laws.specs.Steps.{HasStep, decls_of};
 ghost use Rattle.step_turns.specs.Marked.{rules_of};
 ghost use Rattle.step_turns.specs.Once.{DeclsStandOnce, PartsStandOnce, SelectorsStandOnce};
 
-use css_model::{Decl, DeclItem, Item, Rule, SelItem, Selector, Sheet};
+use css_model::{Decl, DeclItem, Rule, SelItem, Selector};
 use merge_steps::is_step;
 use plan_board::Board;
+use rule_parts::{find_rule, has_decl, has_selector};
 use rule_tables::{
     LabelledRules, Tables, decl_cuts_are_told, labelled_rules_stand, rules_are_labelled,
     selector_cuts_are_told,
 };
 use step_laws::Step;
-use step_savings::{has_decl, has_selector};
-
-/// The rule of this number, if there is one.
-pub(crate) fn find_rule(sheet: &Sheet, number: u32) -> Option<&Rule>
-    ensures some { IfSome result (λ rule. slice_get sheet.now.items number ≡ Some (item.Rule rule.now)) }
-    ensures none { IfNone result ((r : RuleParts) → slice_get sheet.now.items number ≡ Some (item.Rule r) → ⊥) }
-{
-    match sheet.items.get(number as usize) {
-        Some(Item::Rule(rule)) => Some(rule),
-        _ => None,
-    }
-}
 
 /// The rule with a label, if there is one.
 fn rule_with(board: &Board, label: u64) -> Option<&Rule>

@@ -16,7 +16,6 @@ ghost use Rattle.step_turns.specs.Looking.{ReachesLast};
 ghost use Rattle.step_turns.specs.Viewed.{ArePartners, IsView};
 ghost use Rattle.plan_laws.specs.Wall.Holding.{turn_of};
 
-use crate::cuts::possible::find_rule;
 use crate::queue::found::Found;
 use crate::queue::order::label_of;
 use crate::too_late::by_labels::most_behind;
@@ -25,8 +24,8 @@ use crate::view::{Partners, View};
 use css_model::{DeclItem, SelItem};
 use lead_plan::{Kind, Lead};
 use plan_board::Board;
+use rule_parts::{Lengths, find_rule};
 use saved_bytes::KnownLengths;
-use step_savings::Lengths;
 
 /// What is left of `most` without the weight of these selectors, if this is known.
 fn without_selectors(source: &KnownLengths<'_>, items: &[SelItem], most: u64) -> Option<u64>

@@ -1,0 +1,4 @@
+mod LastCommon
+mod PartWeights
+mod ToldApart
+pub mod ForCallers

@@ -1,0 +1,10 @@
+use Rattle.std.proofs.Common.{◌≡◌, length}
+use Rattle.order_laws.specs.Members as members
+use Rattle.rule_parts.proofs.members.has_selector.Given as goal
+
+-- it is not among the first ones
+abbrev pub invariant-rest : goal.invariant-rest
+invariant-rest l = members.has_selector l.rest l.selector ≡ members.has_selector l.initial.rest l.selector
+
+abbrev pub decreases-rest : goal.decreases-rest
+decreases-rest l = length l.rest

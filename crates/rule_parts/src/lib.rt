@@ -1,0 +1,20 @@
+//! Parts of rules: whether selectors and declarations are the same or among others, copies of them, and what they weigh.
+#![tactic(auto)]
+
+mod copies;
+mod finding;
+mod members;
+mod sameness;
+mod weights;
+
+pub use copies::{
+    both_decls, both_selectors, copied_decls, copied_selectors, other_decls, other_selectors,
+    shared,
+};
+pub use finding::find_rule;
+pub use members::{are_decls_among, has_decl, has_selector};
+pub use sameness::is_same_decl;
+pub use weights::{
+    Lengths, common_decls_weight, decls_among_weight, decls_weight, new_selectors_weight,
+    selectors_among_weight, selectors_weight,
+};
