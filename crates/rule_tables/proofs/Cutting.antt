@@ -19,6 +19,7 @@ use Rattle.order_laws.specs.Edits.{Change, Moved, slots_from, edited, whole_rule
 use Rattle.order_laws.specs.Members.{has_selector, has_decl}
 use Rattle.order_laws.specs.Slots.{new_items}
 use Rattle.rule_tables.specs.Cutting.{AreTold, DeclCutsAreTold, SelectorCutsAreTold}
+use Rattle.rule_tables.specs.Losing.{CanLoseDecl, CanLoseSelector, DeclIsSpare, SelectorIsSpare}
 use Rattle.rule_tables.specs.Pairs.{AnotherHasBoth}
 use Rattle.rule_tables.specs.Tables.{labelled}
 use Rattle.rule_tables.proofs.OtherRules.{StandsWith, stands_with}
@@ -143,7 +144,7 @@ not_removed (x ∷ items) (suc n) zero r p other at in_rule = (has_append (x ∷
 not_removed (x ∷ items) (suc n) (suc j) r p other at in_rule =
     (has_append (x ∷ []) (remove items n) p).1 (inr (not_removed items n j r p (λ e. other (ap suc e)) at in_rule))
 
-got : (xs : List ℕ) (i : ℕ) → i < length xs → (x : ℕ) × (slice_get xs i ≡ Some x)
+got : {X : Type 0} (xs : List X) (i : ℕ) → i < length xs → (x : X) × (slice_get xs i ≡ Some x)
 got [] i less = absurd (omega (arith, less))
 got (x ∷ xs) zero less = (x, refl)
 got (x ∷ xs) (suc i) less = got xs i (omega (arith, less))
@@ -201,8 +202,9 @@ same_rule items n r q a b = cc
 
 -- ---- Cuts
 
-pub decl_cuts_are_told : DeclCutsAreTold
-decl_cuts_are_told items labels n own i r d told at own_at part = (there, back)
+decl_spare : (items : List Item) (labels : List ℕ) (n own i : ℕ) (r : RuleParts) (d : DeclItem) → AreTold items labels →
+    slice_get items n ≡ Some (Rule r) → slice_get labels n ≡ Some own → slice_get r.decls i ≡ Some d → HasStep items (CutDecl n i) ↔ DeclIsSpare (labelled items labels) own r i d
+decl_spare items labels n own i r d told at own_at part = (there, back)
   where
     left : RuleParts
     left = record { selectors = r.selectors; decls = remove r.decls i }
@@ -244,8 +246,9 @@ decl_cuts_are_told items labels n own i r d told at own_at part = (there, back)
         each p w (inl g) = inl ((left_is left p).1 (w.0, g))
         each p w (inr same) = beside_it p w same h
 
-pub selector_cuts_are_told : SelectorCutsAreTold
-selector_cuts_are_told items labels n own i r s told at own_at part = (there, back)
+selector_spare : (items : List Item) (labels : List ℕ) (n own i : ℕ) (r : RuleParts) (s : SelItem) → AreTold items labels →
+    slice_get items n ≡ Some (Rule r) → slice_get labels n ≡ Some own → slice_get r.selectors i ≡ Some s → HasStep items (CutSel n i) ↔ SelectorIsSpare (labelled items labels) own r i s
+selector_spare items labels n own i r s told at own_at part = (there, back)
   where
     left : RuleParts
     left = record { selectors = remove r.selectors i; decls = r.decls }
@@ -286,3 +289,27 @@ selector_cuts_are_told items labels n own i r s told at own_at part = (there, ba
         each : (p : Pair) → InRule r p → Contains (sels (remove r.selectors i)) p.selector ⊎ (s.selector ≡ p.selector) → HasPair (rule_or_none left) p ⊎ HasPair (remove items n) p
         each p w (inl g) = inl ((left_is left p).1 (g, w.1))
         each p w (inr same) = beside_it p w same h
+
+-- ---- The part that is cut is there
+
+pub decl_cuts_are_told : DeclCutsAreTold
+decl_cuts_are_told items labels n own i r told at own_at = (there, back)
+  where
+    there : HasStep items (CutDecl n i) → CanLoseDecl (labelled items labels) own r i
+    there (e, cut) =
+        let w : (d : DeclItem) × (slice_get r.decls i ≡ Some d) = got r.decls i (subst (λ (q : RuleParts). i < length q.decls) (same_rule items n cut.rule r cut.rule_at at) cut.part) in
+        (w.0, w.1, (decl_spare items labels n own i r w.0 told at own_at w.1).0 (e, cut))
+
+    back : CanLoseDecl (labelled items labels) own r i → HasStep items (CutDecl n i)
+    back (d, part, spare) = (decl_spare items labels n own i r d told at own_at part).1 spare
+
+pub selector_cuts_are_told : SelectorCutsAreTold
+selector_cuts_are_told items labels n own i r told at own_at = (there, back)
+  where
+    there : HasStep items (CutSel n i) → CanLoseSelector (labelled items labels) own r i
+    there (e, cut) =
+        let w : (s : SelItem) × (slice_get r.selectors i ≡ Some s) = got r.selectors i (subst (λ (q : RuleParts). i < length q.selectors) (same_rule items n cut.rule r cut.rule_at at) cut.part) in
+        (w.0, w.1, (selector_spare items labels n own i r w.0 told at own_at w.1).0 (e, cut))
+
+    back : CanLoseSelector (labelled items labels) own r i → HasStep items (CutSel n i)
+    back (s, part, spare) = (selector_spare items labels n own i r s told at own_at part).1 spare

@@ -2,6 +2,7 @@ pub mod Cutting
 pub mod Digests
 pub mod Entries
 pub mod Labels
+pub mod Losing
 pub mod Pairs
 pub mod Places
 pub mod StepPartners

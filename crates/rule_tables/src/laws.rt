@@ -19,14 +19,14 @@ pub fn labelled_rules_stand()
     ensures { LabelledRulesStand }
 {}
 
-/// A declaration of a rule can be cut exactly where it is in the rule again, or each of its pairs is in a rule with
-/// another label. Each item has a label of its own.
+/// A declaration of a rule can be cut exactly where the rule can lose it: it is in the rule again, or each of its pairs is
+/// in a rule with another label. Each item has a label of its own.
 pub fn decl_cuts_are_told()
     ensures { DeclCutsAreTold }
 {}
 
-/// A selector of a rule can be cut exactly where it is in the rule again, or each of its pairs is in a rule with
-/// another label. Each item has a label of its own.
+/// A selector of a rule can be cut exactly where the rule can lose it: it is in the rule again, or each of its pairs is in a
+/// rule with another label. Each item has a label of its own.
 pub fn selector_cuts_are_told()
     ensures { SelectorCutsAreTold }
 {}

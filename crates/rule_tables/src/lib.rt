@@ -6,6 +6,8 @@ mod entries;
 mod label_lists;
 mod labels;
 mod laws;
+mod losing;
+mod members;
 mod pairs;
 mod partners;
 mod tables;
@@ -16,5 +18,7 @@ pub use laws::{
     decl_cuts_are_told, labelled_rules_stand, rules_are_labelled, selector_cuts_are_told,
     steps_have_partners,
 };
+pub use losing::{can_lose_decl, can_lose_selector};
+pub use members::has_both;
 pub use pairs::LabelledRules;
 pub use tables::Tables;

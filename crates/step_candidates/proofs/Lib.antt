@@ -1,4 +1,3 @@
 mod AddedSteps
-mod PartTests
 mod RankedSteps
 mod RuleNumbers

@@ -1,19 +1,16 @@
 -- Rules by their numbers.
-use Rattle.std.proofs.Common.{◌≡◌, ◌↔◌, ℕ, zero, suc, ◌+◌, ◌<◌, Bool, true, false, List, Option, Some, None, IfSome, IfNone, length, refl, sym, ap, subst, ◌∙◌, true≢false, arith}
+use Rattle.std.proofs.Common.{◌≡◌, ◌↔◌, ℕ, zero, suc, ◌+◌, ◌<◌, List, Option, Some, None, length, sym, ap, subst, ◌∙◌, arith}
 use Rattle.std.specs.Prelude.{slice_get}
 use Rattle.std.specs.List.{Contains, range_with_len}
 use Rattle.std.proofs.lemmas.List.FromFn.{length-range_with_len}
 use Rattle.std.proofs.lemmas.Option.{slice_get_within}
-use Rattle.css_model.specs.declared.sheet.Decl.{Decl}
 use Rattle.css_model.specs.declared.sheet.Item.{Item}
 use Rattle.css_model.specs.declared.sheet.Item.TheVariants.{Rule}
-use Rattle.css_model.specs.Documents.SelectorParts.{SelectorParts}
 use Rattle.css_model.specs.Sheets.RuleParts.{RuleParts}
 use Rattle.cascade_laws.proofs.ForCallers.{some-same}
 use Rattle.rule_tables.specs.Cutting.{AreTold}
-use Rattle.rule_tables.specs.Pairs.{HasBoth, LabelHasBoth}
 use Rattle.rule_tables.specs.StepPartners.{LabelledRulesStand, RulesAreLabelled}
-use Rattle.rule_tables.specs.Tables.{Labelled, with_label}
+use Rattle.rule_tables.specs.Tables.{with_label}
 use Rattle.step_candidates.specs.Numbered.{numbered, numbers}
 
 -- ---- Numbers
@@ -59,25 +56,3 @@ module _ (stand : LabelledRulesStand) (are_labelled : RulesAreLabelled) (items :
 
   pub no_rule : ((r : RuleParts) → slice_get items label ≡ Some (Rule r) → ⊥) → (r : RuleParts) → Contains (numbered items) (with_label r label) → ⊥
   no_rule none r h = none r (at_number r h)
-
--- ---- Whether the rule with a label has a pair
-
-pub pair_of_rule : (rules : List Labelled) (label : ℕ) (s : SelectorParts) (d : Decl) (q : RuleParts) (b : Bool) → ((r : RuleParts) → Contains rules (with_label r label) ↔ (r ≡ q)) →
-    ((b ≡ true) ↔ HasBoth q s d) → (b ≡ true) ↔ LabelHasBoth rules label s d
-pair_of_rule rules label s d q b one both = (
-  λ h. (q, (one q).1 refl, both.0 h),
-  λ (r, in_list, has). both.1 (subst (λ (p : RuleParts). HasBoth p s d) ((one r).0 in_list) has),
-)
-
-pub pair_of_none : (rules : List Labelled) (label : ℕ) (s : SelectorParts) (d : Decl) → ((r : RuleParts) → Contains rules (with_label r label) → ⊥) → (false ≡ true) ↔ LabelHasBoth rules label s d
-pair_of_none rules label s d none = (λ h. absurd (true≢false (sym h)), λ (r, in_list, has). absurd (none r in_list))
-
--- ---- What a look-up gave
-
-pub some_then : {X : Type 0} (o : Option X) (P Q : X → Type 0) → ((x : X) → P x → Q x) → IfSome o P → IfSome o Q
-some_then None P Q f h = h
-some_then (Some x) P Q f h = f x h
-
-pub none_then : {X P Q : Type 0} (o : Option X) → (P → Q) → IfNone o P → IfNone o Q
-none_then None f h = f h
-none_then (Some x) f h = h

@@ -4,7 +4,6 @@
 mod candidates;
 mod cuts;
 mod found;
-mod members;
 mod numbered;
 mod sifting;
 mod trying;

@@ -1,17 +1,15 @@
 //! A sheet with tables of its rules. Each rule has its number as its label.
 
-ghost use Rattle.std.specs.Prelude.{◌≡◌, ◌↔◌, ◌≤◌, IfNone, IfOk, IfSome, IsTrue, Some, length, slice_get};
+ghost use Rattle.std.specs.Prelude.{◌≡◌, ◌↔◌, ◌≤◌, IfNone, IfOk, IfSome, Some, length, slice_get};
 ghost use Rattle.std.specs.List.{Contains};
 ghost use Rattle.css_model.specs.declared.sheet.Item.TheVariants as item;
 ghost use Rattle.css_model.specs.Sheets.Limits.{max_items};
 ghost use Rattle.css_model.specs.Sheets.RuleParts.{RuleParts};
-ghost use Rattle.rule_tables.specs.Pairs as pairs;
 ghost use Rattle.rule_tables.specs.Tables.{with_label};
 ghost use Rattle.step_candidates.specs.Numbered as spec;
 
-use crate::members::{is_decl_among, is_selector_among};
 use css_model::{Decl, Item, Rule, Selector, Sheet};
-use rule_tables::{LabelledRules, Tables, labelled_rules_stand, rules_are_labelled};
+use rule_tables::{LabelledRules, Tables, has_both, labelled_rules_stand, rules_are_labelled};
 use saved_bytes::KnownLengths;
 use std::alloc::{AllocError, Global};
 
@@ -58,13 +56,6 @@ fn rule_with(sheet: &Sheet, label: u64) -> Option<&Rule>
     rules_are_labelled();
     labelled_rules_stand();
     find_rule(sheet, label)
-}
-
-/// Returns whether a rule has both a selector and a declaration.
-fn has_both(rule: &Rule, selector: &Selector, decl: &Decl) -> bool
-    ensures { IsTrue result ↔ pairs.HasBoth rule.now selector.now decl.now }
-{
-    is_selector_among(&rule.selectors, selector) && is_decl_among(&rule.decls, decl)
 }
 
 impl LabelledRules for Numbered<'_> {

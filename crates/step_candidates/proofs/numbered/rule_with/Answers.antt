@@ -1,4 +1,5 @@
-use Rattle.step_candidates.proofs.RuleNumbers.{no_rule, none_then, some_then, the_rule}
+use Rattle.rule_tables.proofs.ForCallers.{none_then, some_then}
+use Rattle.step_candidates.proofs.RuleNumbers.{no_rule, the_rule}
 use Rattle.step_candidates.proofs.numbered.rule_with.Goals as goal
 
 pub returns-clause-some : goal.returns-clause-some

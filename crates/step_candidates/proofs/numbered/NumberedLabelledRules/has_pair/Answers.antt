@@ -1,5 +1,5 @@
 use Rattle.step_candidates.specs.Numbered.{numbered}
-use Rattle.step_candidates.proofs.RuleNumbers.{pair_of_none, pair_of_rule}
+use Rattle.rule_tables.proofs.ForCallers.{pair_of_none, pair_of_rule}
 use Rattle.step_candidates.proofs.numbered.NumberedLabelledRules.has_pair.Goals as goal
 
 pub returns-in-Some : goal.returns-in-Some

@@ -6,7 +6,7 @@ use Rattle.css_model.specs.Sheets.RuleParts.{RuleParts}
 use Rattle.saved_bytes.specs.Savings.{IsSaving}
 use Rattle.step_laws.specs.declared.step.Step.TheVariants.{Share}
 use Rattle.step_laws.specs.Sizes.{weight}
-use Rattle.step_turns.proofs.Rules.{some_then}
+use Rattle.rule_tables.proofs.ForCallers.{some_then}
 use Rattle.step_turns.proofs.Sharing.{saves_none, saves_rest, weighable}
 use Rattle.step_turns.proofs.by_declarations.shares.saving_of.Goals as goal
 use Rattle.step_turns.specs.Shares.{among_weight}

@@ -1,56 +1,24 @@
-use Rattle.std.proofs.Common.{◌≡◌, ◌↔◌, true, List, Some, map, ap, subst, ◌∙◌}
+use Rattle.std.proofs.Common.{◌≡◌, List, Some, subst}
 use Rattle.std.specs.Prelude.{slice_get}
-use Rattle.std.specs.List.{Contains, remove}
-use Rattle.css_model.specs.declared.sheet.Decl.{Decl}
-use Rattle.css_model.specs.declared.sheet.DeclItem.{DeclItem}
+use Rattle.css_model.specs.declared.sheet.SelItem.{SelItem}
 use Rattle.css_model.specs.declared.sheet.Item.{Item}
 use Rattle.css_model.specs.declared.sheet.Item.TheVariants.{Rule}
-use Rattle.css_model.specs.declared.sheet.SelItem.{SelItem}
-use Rattle.css_model.specs.Sheets.RuleParts.{RuleParts}
 use Rattle.plan_board.specs.MarkList.{labels_of}
-use Rattle.rule_tables.specs.Pairs.{AnotherHasBoth}
-use Rattle.step_turns.specs.Marked.{rules_of}
 use Rattle.step_turns.proofs.Differing.{once_removed}
-use Rattle.step_turns.proofs.Rules.{got, one_first, one_second}
 use Rattle.step_turns.proofs.Telling.{there_of, told}
 use Rattle.step_turns.proofs.cuts.possible.can_cut_selector.Goals as goal
 
-pub is_selector_again-requires-clause-once : goal.is_selector_again-requires-clause-once
-is_selector_again-requires-clause-once c = λ once again.
+pub can_lose_selector-requires-clause-once : goal.can_lose_selector-requires-clause-once
+can_lose_selector-requires-clause-once c = λ once lost part.
     let at : slice_get c.args.board.now.items c.args.number ≡ Some (Rule c.in-Some.rule.now) =
     subst (λ (xs : List Item). slice_get xs c.args.number ≡ Some (Rule c.in-Some.rule.now)) c.sheet.ensures c.in-Some.ensures.some in
-    let part : slice_get c.in-Some.rule.now.selectors c.args.sel ≡ Some c.in-Some-get.cut.now =
-    subst (λ (xs : List SelItem). slice_get xs c.args.sel ≡ Some c.in-Some-get.cut.now) (c.deref.ensures.value ∙ ap (λ (r : RuleParts). r.selectors) c.rule.view_is)
-    (got c.deref.result.now c.args.sel c.in-Some-get.cut.now c.in-Some-get.ensures.lookup.3.0 c.in-Some-get.ensures.lookup.3.1) in
-    once_removed (λ (x : SelItem). x.selector) c.in-Some.rule.now.selectors c.args.sel c.in-Some-get.cut.now (c.requires.once once c.in-Some.rule.now at) part
-    (subst (λ (xs : List SelItem). Contains (map (λ (x : SelItem). x.selector) (remove xs c.args.sel)) c.in-Some-get.cut.now.selector) (c.deref-2.ensures.value ∙ ap (λ (r : RuleParts). r.selectors) c.rule.view_is) again)
-
-pub returns-then-is_selector_again : goal.returns-then-is_selector_again
-returns-then-is_selector_again c =
-    let at : slice_get c.args.board.now.items c.args.number ≡ Some (Rule c.in-Some.rule.now) =
-    subst (λ (xs : List Item). slice_get xs c.args.number ≡ Some (Rule c.in-Some.rule.now)) c.sheet.ensures c.in-Some.ensures.some in
-    let part : slice_get c.in-Some.rule.now.selectors c.args.sel ≡ Some c.in-Some-get.cut.now =
-    subst (λ (xs : List SelItem). slice_get xs c.args.sel ≡ Some c.in-Some-get.cut.now) (c.deref.ensures.value ∙ ap (λ (r : RuleParts). r.selectors) c.rule.view_is)
-    (got c.deref.result.now c.args.sel c.in-Some-get.cut.now c.in-Some-get.ensures.lookup.3.0 c.in-Some-get.ensures.lookup.3.1) in
-    let law = c.selector_cuts_are_told.ensures c.args.board.now.items (labels_of c.args.board.now.marks) c.args.number c.mark-own.result.label c.args.sel c.in-Some.rule.now c.in-Some-get.cut.now
-    (told c.args.board.now.items c.args.board.now.marks c.args.board.now.next c.marks-marks.ensures.are_marks c.marks-marks.ensures.as_many) at
-    (there_of (λ x. x.label) c.args.board.now.marks c.args.number c.mark-own.result c.mark-own.ensures) part in
-    let again : (c.is_selector_again.result ≡ true) ↔ Contains (map (λ (x : SelItem). x.selector) (remove c.in-Some.rule.now.selectors c.args.sel)) c.in-Some-get.cut.now.selector =
-    subst (λ (xs : List SelItem). (c.is_selector_again.result ≡ true) ↔ Contains (map (λ (x : SelItem). x.selector) (remove xs c.args.sel)) c.in-Some-get.cut.now.selector) (c.deref-2.ensures.value ∙ ap (λ (r : RuleParts). r.selectors) c.rule.view_is) c.is_selector_again.ensures in
-    one_first c.is_selector_again.result again law c.if-is_selector_again.true
+    once_removed (λ (x : SelItem). x.selector) c.in-Some.rule.now.selectors c.args.sel lost (c.requires.once once c.in-Some.rule.now at) part
 
 pub returns : goal.returns
 returns c =
     let at : slice_get c.args.board.now.items c.args.number ≡ Some (Rule c.in-Some.rule.now) =
     subst (λ (xs : List Item). slice_get xs c.args.number ≡ Some (Rule c.in-Some.rule.now)) c.sheet.ensures c.in-Some.ensures.some in
-    let part : slice_get c.in-Some.rule.now.selectors c.args.sel ≡ Some c.in-Some-get.cut.now =
-    subst (λ (xs : List SelItem). slice_get xs c.args.sel ≡ Some c.in-Some-get.cut.now) (c.deref.ensures.value ∙ ap (λ (r : RuleParts). r.selectors) c.rule.view_is)
-    (got c.deref.result.now c.args.sel c.in-Some-get.cut.now c.in-Some-get.ensures.lookup.3.0 c.in-Some-get.ensures.lookup.3.1) in
-    let law = c.selector_cuts_are_told.ensures c.args.board.now.items (labels_of c.args.board.now.marks) c.args.number c.mark-own.result.label c.args.sel c.in-Some.rule.now c.in-Some-get.cut.now
+    let law = c.selector_cuts_are_told.ensures c.args.board.now.items (labels_of c.args.board.now.marks) c.args.number c.mark-own.result.label c.args.sel c.in-Some.rule.now
     (told c.args.board.now.items c.args.board.now.marks c.args.board.now.next c.marks-marks.ensures.are_marks c.marks-marks.ensures.as_many) at
-    (there_of (λ x. x.label) c.args.board.now.marks c.args.number c.mark-own.result c.mark-own.ensures) part in
-    let again : (c.is_selector_again.result ≡ true) ↔ Contains (map (λ (x : SelItem). x.selector) (remove c.in-Some.rule.now.selectors c.args.sel)) c.in-Some-get.cut.now.selector =
-    subst (λ (xs : List SelItem). (c.is_selector_again.result ≡ true) ↔ Contains (map (λ (x : SelItem). x.selector) (remove xs c.args.sel)) c.in-Some-get.cut.now.selector) (c.deref-2.ensures.value ∙ ap (λ (r : RuleParts). r.selectors) c.rule.view_is) c.is_selector_again.ensures in
-    let others : (c.all_stand_with_selector.result ≡ true) ↔ ((s : Decl) → Contains (map (λ (x : DeclItem). x.decl) c.in-Some.rule.now.decls) s → AnotherHasBoth (rules_of c.args.board.now) c.mark-own.result.label c.in-Some-get.cut.now.selector s) =
-    subst (λ (xs : List DeclItem). (c.all_stand_with_selector.result ≡ true) ↔ ((s : Decl) → Contains (map (λ (x : DeclItem). x.decl) xs) s → AnotherHasBoth (rules_of c.args.board.now) c.mark-own.result.label c.in-Some-get.cut.now.selector s)) (c.deref-3.ensures.value ∙ ap (λ (r : RuleParts). r.decls) c.rule.view_is) c.all_stand_with_selector.ensures in
-    one_second c.is_selector_again.result again law c.if-is_selector_again.false c.all_stand_with_selector.result others
+    (there_of (λ x. x.label) c.args.board.now.marks c.args.number c.mark-own.result c.mark-own.ensures) in
+    (λ yes. law.1 (c.can_lose_selector.ensures.0 yes), λ has. c.can_lose_selector.ensures.1 (law.0 has))

@@ -3,7 +3,8 @@ use Rattle.std.specs.Prelude.{slice_get}
 use Rattle.css_model.specs.declared.sheet.Item.{Item}
 use Rattle.css_model.specs.declared.sheet.Item.TheVariants.{Rule}
 use Rattle.css_model.specs.Sheets.RuleParts.{RuleParts}
-use Rattle.step_turns.proofs.Rules.{no_label, no_rule, none_then, some_then, the_rule}
+use Rattle.rule_tables.proofs.ForCallers.{none_then, some_then}
+use Rattle.step_turns.proofs.Rules.{no_label, no_rule, the_rule}
 use Rattle.step_turns.proofs.cuts.possible.rule_with.Goals as goal
 
 pub returns-in-Some-clause-some : goal.returns-in-Some-clause-some

@@ -1,5 +1,5 @@
 use Rattle.std.proofs.Common.{◌<◌, ℕ, subst, sym}
-use Rattle.step_turns.proofs.Rules.{none_then, some_then}
+use Rattle.rule_tables.proofs.ForCallers.{none_then, some_then}
 use Rattle.step_turns.proofs.Telling.{label_index, label_within, number_lacks}
 use Rattle.step_turns.proofs.queue.naming.item_number.Goals as goal
 

@@ -1,5 +1,5 @@
 use Rattle.step_turns.proofs.NamedSteps.{names_none, tested_none}
-use Rattle.step_turns.proofs.Rules.{none_then}
+use Rattle.rule_tables.proofs.ForCallers.{none_then}
 use Rattle.step_turns.proofs.queue.naming.step_of_lead.Goals as goal
 
 pub returns-in_default-clause-none : goal.returns-in_default-clause-none

@@ -1,5 +1,5 @@
 use Rattle.step_turns.specs.Marked.{rules_of}
-use Rattle.step_turns.proofs.Rules.{pair_of_none, pair_of_rule}
+use Rattle.rule_tables.proofs.ForCallers.{pair_of_none, pair_of_rule}
 use Rattle.step_turns.proofs.cuts.possible.BoardRulesLabelledRules.has_pair.Goals as goal
 
 pub returns-in-Some : goal.returns-in-Some

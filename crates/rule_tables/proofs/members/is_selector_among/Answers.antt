@@ -2,7 +2,7 @@ use Rattle.std.proofs.Common.{◌≡◌, ◌↔◌, Bool, true, map, subst, sym}
 use Rattle.std.specs.List.{Contains}
 use Rattle.css_model.specs.declared.sheet.SelItem.{SelItem}
 use Rattle.order_laws.proofs.ForCallers.{has_selector_is}
-use Rattle.step_candidates.proofs.members.is_selector_among.Goals as goal
+use Rattle.rule_tables.proofs.members.is_selector_among.Goals as goal
 
 pub returns : goal.returns
 returns c =

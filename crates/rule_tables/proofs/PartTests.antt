@@ -4,6 +4,7 @@ use Rattle.std.specs.Prelude.{get_or, slice_get}
 use Rattle.std.specs.List.{Contains, remove}
 use Rattle.std.proofs.lemmas.List.{map-append}
 use Rattle.std.proofs.lemmas.List.Elements.{Contains-append_cases, Contains-append_left, Contains-append_right}
+use Rattle.cascade_laws.proofs.ForCallers.{some-same}
 use Rattle.list_facts.proofs.Members.{Contains-cons_cases, Contains-here, Contains-nil, Contains-there}
 
 -- ---- Tests one after the other
@@ -74,3 +75,7 @@ pub got : {X : Type 0} (xs : List X) (i : ℕ) (x : X) → i < length xs → ((d
 got [] i x less is = absurd (omega (arith, less))
 got (y ∷ xs) zero x less is = ap Some (sym (is y))
 got (y ∷ xs) (suc i) x less is = got xs i x (omega (arith, less)) is
+
+-- what holds of the element of a number
+pub held_is : {X : Type 0} (P : X → Type 0) (xs : List X) (i : ℕ) (x : X) → slice_get xs i ≡ Some x → ((y : X) × (slice_get xs i ≡ Some y) × P y) ↔ P x
+held_is P xs i x at = (λ (y, is, p). subst P (some-same (sym is ∙ at)) p, λ p. (x, at, p))

@@ -1,8 +1,8 @@
 use Rattle.std.proofs.Common.{◌≡◌, ◌↔◌, ◌+◌, true, List, map, refl, subst, sym, true≢false}
 use Rattle.std.specs.List.{Contains}
 use Rattle.css_model.specs.declared.sheet.SelItem.{SelItem}
-use Rattle.step_turns.proofs.Rules.{one_second, others_are}
-use Rattle.step_turns.proofs.cuts.possible.is_selector_again.Goals as goal
+use Rattle.rule_tables.proofs.PartTests.{one_second, others_are}
+use Rattle.rule_tables.proofs.members.is_selector_again.Goals as goal
 
 pub returns : goal.returns
 returns c =
