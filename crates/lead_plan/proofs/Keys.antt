@@ -12,60 +12,26 @@ use Rattle.std.proofs.lemmas.Bool.Decides.{nat_tests}
 use Rattle.std.proofs.lemmas.List.Elements.{All-contains}
 use Rattle.css_model.specs.Cascade.Winner.{exceeds}
 use Rattle.hold_laws.specs.Leads as held
-use Rattle.lead_plan.specs.contracts.lead.KindOrd.TheImpl as kind_ord
 use Rattle.lead_plan.specs.contracts.lead.LeadOrd.TheImpl as lead_ord
 use Rattle.lead_plan.specs.contracts.lead.ScopeOrd.TheImpl as scope_ord
-use Rattle.lead_plan.specs.declared.lead.Kind.{Kind}
-use Rattle.lead_plan.specs.declared.lead.Kind.TheVariants.{DeclCut, SelCut, SelJoinUp, SelJoinDown, DeclJoinUp, DeclJoinDown, Sharing}
+use Rattle.step_kinds.specs.declared.kind.Kind.{Kind}
+use Rattle.step_kinds.specs.StepsByKind.{kind_number, step_of_kind}
+use Rattle.step_kinds.proofs.ForCallers.{kind_cmp, kinds_compare, same_kind, rank_of}
 use Rattle.lead_plan.specs.declared.lead.Lead.{Lead}
 use Rattle.lead_plan.specs.declared.lead.Scope.{Scope}
 use Rattle.lead_plan.specs.declared.lead.Scope.TheVariants.{Alone, Owned, Ups, Downs}
-use Rattle.lead_plan.specs.Told.{step_of_kind, lead_told}
+use Rattle.lead_plan.specs.Told.{lead_told}
 use Rattle.list_facts.proofs.Members.{Contains-here, Contains-there, Contains-nil, Contains-cons_cases}
 use Rattle.order_laws.proofs.ForCallers.{map_from}
 use Rattle.plan_laws.specs.Cover.{IsSooner}
 use Rattle.hold_laws.specs.Turns.{TurnsAreOrdered}
 use Rattle.step_laws.specs.Steps.{rank}
 
-abbrev kind_cmp : Kind → Kind → Ordering
-kind_cmp = (kind_ord.ghosts).cmp
-
 abbrev scope_cmp : Scope → Scope → Ordering
 scope_cmp = (scope_ord.ghosts).cmp
 
 abbrev pub lead_cmp : Lead → Lead → Ordering
 lead_cmp = (lead_ord.ghosts).cmp
-
--- ---- Kinds
-
-abbrev pub kind_number : Kind → ℕ
-kind_number DeclCut = 0
-kind_number SelCut = 1
-kind_number SelJoinUp = 2
-kind_number SelJoinDown = 3
-kind_number DeclJoinUp = 4
-kind_number DeclJoinDown = 5
-kind_number Sharing = 6
-
-kinds : (a b : Kind) → kind_cmp a b ≡ nat_cmp (kind_number a) (kind_number b)
-kinds DeclCut DeclCut = refl
-kinds SelCut SelCut = refl
-kinds SelJoinUp SelJoinUp = refl
-kinds SelJoinDown SelJoinDown = refl
-kinds DeclJoinUp DeclJoinUp = refl
-kinds DeclJoinDown DeclJoinDown = refl
-kinds Sharing Sharing = refl
-kinds a b = refl
-
-same_kind : (a b : Kind) → kind_number a ≡ kind_number b → a ≡ b
-same_kind DeclCut DeclCut e = refl
-same_kind SelCut SelCut e = refl
-same_kind SelJoinUp SelJoinUp e = refl
-same_kind SelJoinDown SelJoinDown e = refl
-same_kind DeclJoinUp DeclJoinUp e = refl
-same_kind DeclJoinDown DeclJoinDown e = refl
-same_kind Sharing Sharing e = refl
-same_kind a b e = absurd (omega (arith, e))
 
 -- ---- Scopes
 
@@ -88,15 +54,6 @@ same_scope Owned Owned e = refl
 same_scope Ups Ups e = refl
 same_scope Downs Downs e = refl
 same_scope a b e = absurd (omega (arith, e))
-
-pub rank_of : (k : Kind) (x y : ℕ) → rank (step_of_kind k x y) ≡ kind_number k ∷ x ∷ y ∷ []
-rank_of DeclCut x y = refl
-rank_of SelCut x y = refl
-rank_of SelJoinUp x y = refl
-rank_of SelJoinDown x y = refl
-rank_of DeclJoinUp x y = refl
-rank_of DeclJoinDown x y = refl
-rank_of Sharing x y = refl
 
 -- ---- The order of leads
 
@@ -128,7 +85,7 @@ not_before a b less (inr (equal, over)) = false≢true last.1
     by_kind = sym (ap (λ z. ordering_then z (ordering_then (kind_cmp a.kind b.kind) (ordering_then (nat_cmp a.first b.first) (ordering_then (nat_cmp a.second b.second) (ordering_then (nat_cmp a.owner b.owner) (scope_cmp a.scope b.scope)))))) (same b.saving.0 a.saving.0 equal)) ∙ less
 
     by_number : ordering_then (nat_cmp (kind_number a.kind) (kind_number b.kind)) (ordering_then (nat_cmp a.first b.first) (ordering_then (nat_cmp a.second b.second) (ordering_then (nat_cmp a.owner b.owner) (scope_cmp a.scope b.scope)))) ≡ Less
-    by_number = subst (λ (z : Ordering). ordering_then z (ordering_then (nat_cmp a.first b.first) (ordering_then (nat_cmp a.second b.second) (ordering_then (nat_cmp a.owner b.owner) (scope_cmp a.scope b.scope)))) ≡ Less) (kinds a.kind b.kind) by_kind
+    by_number = subst (λ (z : Ordering). ordering_then z (ordering_then (nat_cmp a.first b.first) (ordering_then (nat_cmp a.second b.second) (ordering_then (nat_cmp a.owner b.owner) (scope_cmp a.scope b.scope)))) ≡ Less) (kinds_compare a.kind b.kind) by_kind
 
     ranks : exceeds (kind_number a.kind ∷ a.first ∷ a.second ∷ []) (kind_number b.kind ∷ b.first ∷ b.second ∷ []) ≡ true
     ranks = subst (λ (xs : List ℕ). exceeds xs (kind_number b.kind ∷ b.first ∷ b.second ∷ []) ≡ true) (rank_of a.kind a.first a.second)
@@ -158,7 +115,7 @@ same_lead a b e =
     let g = then_equal (nat_cmp a.second b.second) (ordering_then (nat_cmp a.owner b.owner) (scope_cmp a.scope b.scope)) f.1 in
     let o = then_equal (nat_cmp a.owner b.owner) (scope_cmp a.scope b.scope) g.1 in
     let saving : a.saving.0 ≡ b.saving.0 = sym (is_same b.saving.0 a.saving.0 s.0) in
-    let kind : a.kind ≡ b.kind = same_kind a.kind b.kind (is_same (kind_number a.kind) (kind_number b.kind) (sym (kinds a.kind b.kind) ∙ k.0)) in
+    let kind : a.kind ≡ b.kind = same_kind a.kind b.kind (is_same (kind_number a.kind) (kind_number b.kind) (sym (kinds_compare a.kind b.kind) ∙ k.0)) in
     let first : a.first ≡ b.first = is_same a.first b.first f.0 in
     let second : a.second ≡ b.second = is_same a.second b.second g.0 in
     let owner : a.owner ≡ b.owner = is_same a.owner b.owner o.0 in

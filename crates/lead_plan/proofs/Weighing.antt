@@ -6,25 +6,20 @@ use Rattle.std.specs.Ordering.{match_ordering}
 use Rattle.std.specs.BTreeSet.{insert_key}
 use Rattle.std.proofs.lemmas.Bool.{cond_both, cond-false}
 use Rattle.css_model.specs.Cascade.Winner.{exceeds}
-use Rattle.lead_plan.specs.declared.lead.Kind.{Kind}
-use Rattle.lead_plan.specs.declared.lead.Kind.TheVariants.{DeclCut, SelCut, SelJoinUp, SelJoinDown, DeclJoinUp, DeclJoinDown, Sharing}
+use Rattle.step_kinds.specs.declared.kind.Kind.{Kind}
+use Rattle.step_kinds.specs.StepsByKind.{kind_number, step_of_kind}
+use Rattle.step_kinds.proofs.ForCallers.{few_kinds, rank_of}
 use Rattle.lead_plan.specs.declared.lead.Lead.{Lead}
-use Rattle.lead_plan.specs.Told.{step_of_kind, scope_told, lead_told}
+use Rattle.lead_plan.specs.Told.{scope_told, lead_told}
 use Rattle.lead_plan.specs.Weights.{weight_of, is_alone, weight, room, total}
-use Rattle.lead_plan.proofs.Keys.{kind_number, rank_of, exceeding, lead_cmp, told_all}
+use Rattle.lead_plan.proofs.Keys.{exceeding, lead_cmp, told_all}
 use Rattle.plan_laws.specs.Cover.{IsSooner}
 use Rattle.step_laws.specs.Steps.{rank}
 
 -- ---- One lead
 
-few_kinds : (k : Kind) → kind_number k ≤ 6
-few_kinds DeclCut = omega arith
-few_kinds SelCut = omega arith
-few_kinds SelJoinUp = omega arith
-few_kinds SelJoinDown = omega arith
-few_kinds DeclJoinUp = omega arith
-few_kinds DeclJoinDown = omega arith
-few_kinds Sharing = omega arith
+at_most_six : (k : Kind) → kind_number k ≤ 6
+at_most_six k = let h : kind_number k < 7 = few_kinds k in omega (arith, h)
 
 abbrev number : ℕ → ℕ → ℕ → ℕ → ℕ
 number n k x y = ((n * 7 + (6 - k)) * 2 ^ 64 + (2 ^ 64 - (x + 1))) * 2 ^ 64 + (2 ^ 64 - y)
@@ -68,10 +63,10 @@ numbers_less : (one other : Lead) → one.first < 2 ^ 64 → one.second < 2 ^ 64
 numbers_less one other c d e f sooner = which sooner
   where
     a : kind_number one.kind ≤ 6
-    a = few_kinds one.kind
+    a = at_most_six one.kind
 
     b : kind_number other.kind ≤ 6
-    b = few_kinds other.kind
+    b = at_most_six other.kind
 
     which : IsSooner (lead_told one).turn (lead_told other).turn → number other.saving.0 (kind_number other.kind) other.first other.second < number one.saving.0 (kind_number one.kind) one.first one.second
     which (inl less) = by_saving one.saving.0 other.saving.0 (kind_number one.kind) (kind_number other.kind) one.first one.second other.first other.second a b c d e f less

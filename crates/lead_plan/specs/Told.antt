@@ -1,25 +1,11 @@
 -- What a lead of the code says.
-use Rattle.std.specs.Prelude.{ℕ}
 use Rattle.hold_laws.specs.Leads as held
 use Rattle.hold_laws.specs.Scopes as scopes
-use Rattle.lead_plan.specs.declared.lead.Kind.{Kind}
-use Rattle.lead_plan.specs.declared.lead.Kind.TheVariants.{DeclCut, SelCut, SelJoinUp, SelJoinDown, DeclJoinUp, DeclJoinDown, Sharing}
 use Rattle.lead_plan.specs.declared.lead.Lead.{Lead}
 use Rattle.lead_plan.specs.declared.lead.Scope.{Scope}
 use Rattle.lead_plan.specs.declared.lead.Scope.TheVariants.{Alone, Owned, Ups, Downs}
-use Rattle.step_laws.specs.declared.step.Step.{Step}
-use Rattle.step_laws.specs.declared.step.Step.TheVariants.{CutDecl, CutSel, JoinSelUp, JoinSelDown, JoinDeclUp, JoinDeclDown, Share}
+use Rattle.step_kinds.specs.StepsByKind.{step_of_kind}
 use Rattle.plan_laws.specs.Wall.Holding.{turn_of}
-
--- the step of a kind, of these two items or of a part of an item
-abbrev pub step_of_kind : Kind → ℕ → ℕ → Step
-step_of_kind DeclCut n i = CutDecl n i
-step_of_kind SelCut n i = CutSel n i
-step_of_kind SelJoinUp x y = JoinSelUp x y
-step_of_kind SelJoinDown x y = JoinSelDown x y
-step_of_kind DeclJoinUp x y = JoinDeclUp x y
-step_of_kind DeclJoinDown x y = JoinDeclDown x y
-step_of_kind Sharing x y = Share x y
 
 -- the steps that a lead leads beside its own
 abbrev pub scope_told : Scope → scopes.Scope

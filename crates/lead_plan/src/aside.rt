@@ -5,12 +5,13 @@ ghost use Rattle.std.specs.List.{Contains};
 ghost use Rattle.lead_plan.specs.Asides as spec;
 ghost use Rattle.lead_plan.specs.declared.aside.Entry as declared;
 
-use crate::lead::{Kind, Lead, Scope};
+use crate::lead::{Lead, Scope};
 use std::alloc::{AllocError, Global};
 use std::cmp::Reverse;
 use std::collections::BTreeSet;
 use std::marker::Model;
 use std::ops::Range;
+use step_kinds::Kind;
 
 /// A lead that is set aside, under the digests of a pair that blocks its step. Those of one pair are side by side.
 #[derive(Clone, Copy, Debug, PartialEq, Eq, PartialOrd, Ord, Drop)]

@@ -7,25 +7,7 @@ ghost use Rattle.lead_plan.specs.Weights.{is_alone, room, weight};
 ghost use Rattle.plan_laws.specs.Cover.{IsSooner};
 
 use std::cmp::Reverse;
-
-/// The kinds of steps, in the order of steps.
-#[derive(Clone, Copy, Debug, PartialEq, Eq, PartialOrd, Ord, Drop)]
-pub enum Kind {
-    /// Cuts a declaration of a rule.
-    DeclCut,
-    /// Cuts a selector of a rule.
-    SelCut,
-    /// Joins two rules with the same selectors: the lower one moves up.
-    SelJoinUp,
-    /// Joins two rules with the same selectors: the upper one moves down.
-    SelJoinDown,
-    /// Joins two rules with the same declarations: the lower one moves up.
-    DeclJoinUp,
-    /// Joins two rules with the same declarations: the upper one moves down.
-    DeclJoinDown,
-    /// Makes a rule of common declarations of two rules.
-    Sharing,
-}
+use step_kinds::Kind;
 
 /// Which steps a lead leads beside its own.
 #[derive(Clone, Copy, Debug, PartialEq, Eq, PartialOrd, Ord, Drop)]

@@ -4,6 +4,7 @@ ghost use Rattle.std.specs.Prelude.{◌≡◌, ◌↔◌, ◌≤◌, ◌<◌, �
 ghost use Rattle.std.specs.List.{AllPairs, Contains};
 ghost use Rattle.css_model.specs.Sheets.Limits.{max_bytes, max_items};
 ghost use Rattle.merge_steps.specs.Listing as listing;
+ghost use Rattle.step_kinds.specs.StepsByKind.{kind_number};
 ghost use Rattle.step_laws.specs.Sizes.{part_count};
 ghost use Rattle.step_laws.specs.Steps.{HasStep, StandsBefore};
 ghost use Rattle.step_laws.specs.declared.step.Step as declared;
@@ -11,64 +12,17 @@ ghost use Rattle.step_laws.specs.declared.step.Step as declared;
 use crate::possible::is_step;
 use css_model::{Item, Sheet};
 use std::alloc::{AllocError, Global};
+use step_kinds::{Kind, step_of};
 use step_laws::Step;
-
-/// The kinds of steps.
-#[derive(Clone, Copy, Debug, PartialEq, Eq)]
-enum Kind {
-    CutDecl,
-    CutSel,
-    JoinSelUp,
-    JoinSelDown,
-    JoinDeclUp,
-    JoinDeclDown,
-    Share,
-}
-
-/// The step of this kind and these numbers.
-fn step_of(kind: Kind, first: u32, second: u32) -> Step
-    ensures { result ≡ listing.step_of kind first second }
-{
-    match kind {
-        Kind::CutDecl => Step::CutDecl {
-            item: first,
-            decl: second,
-        },
-        Kind::CutSel => Step::CutSel {
-            item: first,
-            sel: second,
-        },
-        Kind::JoinSelUp => Step::JoinSelUp {
-            upper: first,
-            lower: second,
-        },
-        Kind::JoinSelDown => Step::JoinSelDown {
-            upper: first,
-            lower: second,
-        },
-        Kind::JoinDeclUp => Step::JoinDeclUp {
-            upper: first,
-            lower: second,
-        },
-        Kind::JoinDeclDown => Step::JoinDeclDown {
-            upper: first,
-            lower: second,
-        },
-        Kind::Share => Step::Share {
-            upper: first,
-            lower: second,
-        },
-    }
-}
 
 /// How many second numbers a step of this kind and first number may have.
 fn seconds(items: &[Item], kind: Kind, first: u32) -> usize
     ensures { result ≡ listing.seconds items.now kind first }
 {
     match (kind, items.get(first as usize)) {
-        (Kind::CutDecl, Some(Item::Rule(rule))) => rule.decls.len(),
-        (Kind::CutSel, Some(Item::Rule(rule))) => rule.selectors.len(),
-        (Kind::CutDecl | Kind::CutSel, _) => 0,
+        (Kind::DeclCut, Some(Item::Rule(rule))) => rule.decls.len(),
+        (Kind::SelCut, Some(Item::Rule(rule))) => rule.selectors.len(),
+        (Kind::DeclCut | Kind::SelCut, _) => 0,
         _ => items.len(),
     }
 }
@@ -82,8 +36,8 @@ fn push_step(
     first: u32,
     second: u32,
 ) -> Result<(), AllocError>
-    requires { listing.ListsTo sheet.now.items (listing.number_of kind) first second found.old.items }
-    ensures { OnOk result (listing.ListsTo sheet.now.items (listing.number_of kind) first (second + 1) found.new.items) }
+    requires { listing.ListsTo sheet.now.items (kind_number kind) first second found.old.items }
+    ensures { OnOk result (listing.ListsTo sheet.now.items (kind_number kind) first (second + 1) found.new.items) }
 {
     let step = step_of(kind, first, second);
     if is_step(sheet, &step) {
@@ -97,8 +51,8 @@ fn push_step(
 fn push_row(found: &mut Vec<Step>, sheet: &Sheet, kind: Kind, first: u32) -> Result<(), AllocError>
     requires few_items { length sheet.now.items ≤ max_items }
     requires few_parts { part_count sheet.now.items ≤ max_bytes }
-    requires lists { listing.ListsTo sheet.now.items (listing.number_of kind) first 0 found.old.items }
-    ensures { OnOk result (listing.ListsTo sheet.now.items (listing.number_of kind) (first + 1) 0 found.new.items) }
+    requires lists { listing.ListsTo sheet.now.items (kind_number kind) first 0 found.old.items }
+    ensures { OnOk result (listing.ListsTo sheet.now.items (kind_number kind) (first + 1) 0 found.new.items) }
 {
     let limit = seconds(&sheet.items, kind, first) as u32;
     for second in 0..limit {
@@ -112,8 +66,8 @@ fn push_row(found: &mut Vec<Step>, sheet: &Sheet, kind: Kind, first: u32) -> Res
 fn push_kind(found: &mut Vec<Step>, sheet: &Sheet, kind: Kind) -> Result<(), AllocError>
     requires few_items { length sheet.now.items ≤ max_items }
     requires few_parts { part_count sheet.now.items ≤ max_bytes }
-    requires lists { listing.ListsTo sheet.now.items (listing.number_of kind) 0 0 found.old.items }
-    ensures { OnOk result (listing.ListsTo sheet.now.items (listing.number_of kind + 1) 0 0 found.new.items) }
+    requires lists { listing.ListsTo sheet.now.items (kind_number kind) 0 0 found.old.items }
+    ensures { OnOk result (listing.ListsTo sheet.now.items (kind_number kind + 1) 0 0 found.new.items) }
 {
     let items = sheet.items.as_slice();
     let limit = items.len() as u32;
@@ -134,12 +88,12 @@ pub fn steps(alloc: Global, sheet: &Sheet) -> Result<Vec<Step>, AllocError>
     ensures ascends { IfOk result (λ list. AllPairs StandsBefore list.items) }
 {
     let mut found = Vec::new(alloc);
-    push_kind(&mut found, sheet, Kind::CutDecl)?;
-    push_kind(&mut found, sheet, Kind::CutSel)?;
-    push_kind(&mut found, sheet, Kind::JoinSelUp)?;
-    push_kind(&mut found, sheet, Kind::JoinSelDown)?;
-    push_kind(&mut found, sheet, Kind::JoinDeclUp)?;
-    push_kind(&mut found, sheet, Kind::JoinDeclDown)?;
-    push_kind(&mut found, sheet, Kind::Share)?;
+    push_kind(&mut found, sheet, Kind::DeclCut)?;
+    push_kind(&mut found, sheet, Kind::SelCut)?;
+    push_kind(&mut found, sheet, Kind::SelJoinUp)?;
+    push_kind(&mut found, sheet, Kind::SelJoinDown)?;
+    push_kind(&mut found, sheet, Kind::DeclJoinUp)?;
+    push_kind(&mut found, sheet, Kind::DeclJoinDown)?;
+    push_kind(&mut found, sheet, Kind::Sharing)?;
     Ok(found)
 }

@@ -12,60 +12,17 @@ use Rattle.std.proofs.lemmas.List.Kept.{AllPairs-cons}
 use Rattle.list_facts.proofs.Members.{Contains-cons_cases, Contains-here, Contains-nil, Contains-there}
 use Rattle.css_model.specs.Cascade.Winner.{exceeds}
 use Rattle.rule_tables.specs.Entries.{Puts}
-use Rattle.step_candidates.specs.contracts.found.KindOrd.TheImpl as kind_ord
 use Rattle.step_candidates.specs.contracts.found.RankedOrd.TheImpl as ranked_ord
-use Rattle.step_candidates.specs.declared.found.Kind.{Kind}
-use Rattle.step_candidates.specs.declared.found.Kind.TheVariants as kinds
 use Rattle.step_candidates.specs.declared.found.Ranked.{Ranked}
-use Rattle.step_candidates.specs.Ranking.{ranked_step, step_by}
+use Rattle.step_candidates.specs.Ranking.{ranked_step}
+use Rattle.step_kinds.specs.declared.kind.Kind.{Kind}
+use Rattle.step_kinds.specs.StepsByKind.{kind_number, step_of_kind}
+use Rattle.step_kinds.proofs.ForCallers.{kind_cmp, kinds_compare, same_kind, rank_of}
 use Rattle.step_laws.specs.declared.step.Step.{Step}
 use Rattle.step_laws.specs.Steps.{StandsBefore, rank}
 
-abbrev kind_cmp : Kind → Kind → Ordering
-kind_cmp = (kind_ord.ghosts).cmp
-
 abbrev pub ranked_cmp : Ranked → Ranked → Ordering
 ranked_cmp = (ranked_ord.ghosts).cmp
-
--- ---- Kinds
-
-abbrev kind_number : Kind → ℕ
-kind_number kinds.CutDecl = 0
-kind_number kinds.CutSel = 1
-kind_number kinds.JoinSelUp = 2
-kind_number kinds.JoinSelDown = 3
-kind_number kinds.JoinDeclUp = 4
-kind_number kinds.JoinDeclDown = 5
-kind_number kinds.Share = 6
-
-by_numbers : (a b : Kind) → kind_cmp a b ≡ nat_cmp (kind_number a) (kind_number b)
-by_numbers kinds.CutDecl kinds.CutDecl = refl
-by_numbers kinds.CutSel kinds.CutSel = refl
-by_numbers kinds.JoinSelUp kinds.JoinSelUp = refl
-by_numbers kinds.JoinSelDown kinds.JoinSelDown = refl
-by_numbers kinds.JoinDeclUp kinds.JoinDeclUp = refl
-by_numbers kinds.JoinDeclDown kinds.JoinDeclDown = refl
-by_numbers kinds.Share kinds.Share = refl
-by_numbers a b = refl
-
-same_kind : (a b : Kind) → kind_number a ≡ kind_number b → a ≡ b
-same_kind kinds.CutDecl kinds.CutDecl e = refl
-same_kind kinds.CutSel kinds.CutSel e = refl
-same_kind kinds.JoinSelUp kinds.JoinSelUp e = refl
-same_kind kinds.JoinSelDown kinds.JoinSelDown e = refl
-same_kind kinds.JoinDeclUp kinds.JoinDeclUp e = refl
-same_kind kinds.JoinDeclDown kinds.JoinDeclDown e = refl
-same_kind kinds.Share kinds.Share e = refl
-same_kind a b e = absurd (omega (arith, e))
-
-rank_of : (kind : Kind) (x y : ℕ) → rank (step_by kind x y) ≡ kind_number kind ∷ x ∷ y ∷ []
-rank_of kinds.CutDecl x y = refl
-rank_of kinds.CutSel x y = refl
-rank_of kinds.JoinSelUp x y = refl
-rank_of kinds.JoinSelDown x y = refl
-rank_of kinds.JoinDeclUp x y = refl
-rank_of kinds.JoinDeclDown x y = refl
-rank_of kinds.Share x y = refl
 
 -- ---- The order
 
@@ -81,8 +38,8 @@ same_step : (a b : Ranked) → ranked_cmp a b ≡ Equal → ranked_step a ≡ ra
 same_step a b e =
     let k = then_equal (kind_cmp a.kind b.kind) (ordering_then (nat_cmp a.first b.first) (nat_cmp a.second b.second)) e in
     let f = then_equal (nat_cmp a.first b.first) (nat_cmp a.second b.second) k.1 in
-    ap (λ (kind : Kind). step_by kind a.first a.second) (same_kind a.kind b.kind (is_same (kind_number a.kind) (kind_number b.kind) (sym (by_numbers a.kind b.kind) ∙ k.0)))
-    ∙ ap₂ (step_by b.kind) (is_same a.first b.first f.0) (is_same a.second b.second f.1)
+    ap (λ (kind : Kind). step_of_kind kind a.first a.second) (same_kind a.kind b.kind (is_same (kind_number a.kind) (kind_number b.kind) (sym (kinds_compare a.kind b.kind) ∙ k.0)))
+    ∙ ap₂ (step_of_kind b.kind) (is_same a.first b.first f.0) (is_same a.second b.second f.1)
 
 exceeds_by : (k x y k' x' y' : ℕ) → ordering_then (nat_cmp k k') (ordering_then (nat_cmp x x') (nat_cmp y y')) ≡ Less → exceeds (k' ∷ x' ∷ y' ∷ []) (k ∷ x ∷ y ∷ []) ≡ true
 exceeds_by k x y k' x' y' less = grind (arith, nat_tests)
@@ -91,7 +48,7 @@ stands_before : (a b : Ranked) → ranked_cmp a b ≡ Less → StandsBefore (ran
 stands_before a b less =
     ap₂ exceeds (rank_of b.kind b.first b.second) (rank_of a.kind a.first a.second)
     ∙ exceeds_by (kind_number a.kind) a.first a.second (kind_number b.kind) b.first b.second
-    (ap (λ (o : Ordering). ordering_then o (ordering_then (nat_cmp a.first b.first) (nat_cmp a.second b.second))) (sym (by_numbers a.kind b.kind)) ∙ less)
+    (ap (λ (o : Ordering). ordering_then o (ordering_then (nat_cmp a.first b.first) (nat_cmp a.second b.second))) (sym (kinds_compare a.kind b.kind)) ∙ less)
 
 all_before : (a : Ranked) (keys : List Ranked) → AllByRecursion (λ b. ranked_cmp a b ≡ Less) keys → All (StandsBefore (ranked_step a)) (map ranked_step keys)
 all_before a keys all = All-map (StandsBefore (ranked_step a)) ranked_step keys

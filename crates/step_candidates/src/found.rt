@@ -9,19 +9,8 @@ ghost use Rattle.step_laws.specs.Steps.{StandsBefore};
 use std::alloc::{AllocError, Global};
 use std::collections::BTreeSet;
 use std::marker::Model;
+use step_kinds::{Kind, kind_of, step_of};
 use step_laws::Step;
-
-/// The kinds of steps, in their order.
-#[derive(Clone, Copy, Debug, PartialEq, Eq, PartialOrd, Ord)]
-enum Kind {
-    CutDecl,
-    CutSel,
-    JoinSelUp,
-    JoinSelDown,
-    JoinDeclUp,
-    JoinDeclDown,
-    Share,
-}
 
 /// A step by its kind and its two numbers. The order is that of steps.
 #[derive(Clone, Copy, Debug, PartialEq, Eq, PartialOrd, Ord)]
@@ -35,56 +24,11 @@ struct Ranked {
 fn rank_of(step: &Step) -> Ranked
     ensures { ranking.ranked_step result ≡ step.now }
 {
-    let (kind, first, second) = match *step {
-        Step::CutDecl { item, decl } => (Kind::CutDecl, item, decl),
-        Step::CutSel { item, sel } => (Kind::CutSel, item, sel),
-        Step::JoinSelUp { upper, lower } => (Kind::JoinSelUp, upper, lower),
-        Step::JoinSelDown { upper, lower } => (Kind::JoinSelDown, upper, lower),
-        Step::JoinDeclUp { upper, lower } => (Kind::JoinDeclUp, upper, lower),
-        Step::JoinDeclDown { upper, lower } => (Kind::JoinDeclDown, upper, lower),
-        Step::Share { upper, lower } => (Kind::Share, upper, lower),
-    };
+    let (kind, first, second) = kind_of(step);
     Ranked {
         kind,
         first,
         second,
-    }
-}
-
-/// Returns the step of a kind and two numbers.
-fn step_of(ranked: &Ranked) -> Step
-    ensures { result ≡ ranking.ranked_step ranked.now }
-{
-    let (first, second) = (ranked.first, ranked.second);
-    match ranked.kind {
-        Kind::CutDecl => Step::CutDecl {
-            item: first,
-            decl: second,
-        },
-        Kind::CutSel => Step::CutSel {
-            item: first,
-            sel: second,
-        },
-        Kind::JoinSelUp => Step::JoinSelUp {
-            upper: first,
-            lower: second,
-        },
-        Kind::JoinSelDown => Step::JoinSelDown {
-            upper: first,
-            lower: second,
-        },
-        Kind::JoinDeclUp => Step::JoinDeclUp {
-            upper: first,
-            lower: second,
-        },
-        Kind::JoinDeclDown => Step::JoinDeclDown {
-            upper: first,
-            lower: second,
-        },
-        Kind::Share => Step::Share {
-            upper: first,
-            lower: second,
-        },
     }
 }
 
@@ -95,7 +39,7 @@ fn steps_of(alloc: Global, list: &[Ranked]) -> Result<Vec<Step>, AllocError>
     let mut steps = Vec::with_capacity(alloc, list.len())?;
     let mut rest = list;
     'rest: while let Some((first, behind)) = rest.split_first() {
-        steps.push(step_of(first))?;
+        steps.push(step_of(first.kind, first.first, first.second))?;
         rest = behind;
     }
     Ok(steps)

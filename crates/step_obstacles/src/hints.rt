@@ -10,7 +10,7 @@ const NEAR: u32 = 16;
 
 /// Which pairs of a rule a step moves, and where to.
 #[derive(Clone, Copy, Debug)]
-pub(crate) enum Way {
+pub(crate) enum Move {
     /// All, as they are elsewhere too.
     Away,
     /// All, up to another rule.
@@ -29,7 +29,7 @@ pub(crate) struct Mover {
     /// Where its first declaration begins in the source.
     decl: u32,
     /// What of it is moved.
-    way: Way,
+    way: Move,
 }
 
 /// What blocked a step.
@@ -59,17 +59,17 @@ pub(crate) fn no_hints(alloc: Global) -> Hints {
 }
 
 /// What a step moves of a rule.
-pub(crate) fn way_of(step: &Step) -> Way {
+pub(crate) fn move_of(step: &Step) -> Move {
     match *step {
-        Step::CutDecl { .. } | Step::CutSel { .. } => Way::Away,
-        Step::JoinSelUp { .. } | Step::JoinDeclUp { .. } => Way::Up,
-        Step::JoinSelDown { .. } | Step::JoinDeclDown { .. } => Way::Down,
-        Step::Share { .. } => Way::Common,
+        Step::CutDecl { .. } | Step::CutSel { .. } => Move::Away,
+        Step::JoinSelUp { .. } | Step::JoinDeclUp { .. } => Move::Up,
+        Step::JoinSelDown { .. } | Step::JoinDeclDown { .. } => Move::Down,
+        Step::Share { .. } => Move::Common,
     }
 }
 
 /// A rule that is moved in this way.
-pub(crate) fn mover_of(rule: &Rule, way: Way) -> Mover {
+pub(crate) fn mover_of(rule: &Rule, way: Move) -> Mover {
     let selector = match rule.selectors.first() {
         Some(item) => item.piece.start,
         None => 0,
@@ -86,12 +86,12 @@ pub(crate) fn mover_of(rule: &Rule, way: Way) -> Mover {
 }
 
 /// A number of its own for each way.
-fn number_of(way: Way) -> usize {
+fn number_of(way: Move) -> usize {
     match way {
-        Way::Away => 0,
-        Way::Up => 1,
-        Way::Down => 2,
-        Way::Common => 3,
+        Move::Away => 0,
+        Move::Up => 1,
+        Move::Down => 2,
+        Move::Common => 3,
     }
 }
 

@@ -25,7 +25,7 @@ use crate::behind::{rule_is_behind, takes_rule};
 use crate::decl_masks::{bits_of, masks_of};
 use crate::facing::Source;
 use crate::hinted::by_hint;
-use crate::hints::{Hints, Way, hint_of, mover_of, note_found, way_of};
+use crate::hints::{Hints, Move, hint_of, move_of, mover_of, note_found};
 use crate::left_parts::left_by;
 use crate::selector_masks::selector_masks_of;
 use crate::specificities::specificities_of;
@@ -189,8 +189,8 @@ fn moved_of(step: &Step) -> Moved
 }
 
 /// Whether what is moved in this way is nearer to the last item of the window than to the first.
-fn is_from_below(way: Way) -> bool {
-    !matches!(way, Way::Down)
+fn is_from_below(way: Move) -> bool {
+    !matches!(way, Move::Down)
 }
 
 /// What blocks of the pairs of the rule of this number. A cut takes most rules whose pairs are all below; then no item
@@ -310,7 +310,7 @@ fn by_moved(
     span: Span,
     sheet: &Sheet,
     moved: &Moved,
-    way: Way,
+    way: Move,
 ) -> Result<Option<Obstacle>, AllocError>
     requires askable { turns.IsAskable sheet.now.items }
     requires items { window.now.items.now ≡ sheet.now.items }
@@ -371,6 +371,6 @@ pub(crate) fn step_obstacle(
         span,
         sheet,
         &moved,
-        way_of(step),
+        move_of(step),
     )
 }

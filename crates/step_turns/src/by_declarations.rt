@@ -5,7 +5,7 @@
 ghost use Rattle.std.specs.Prelude.{◌≡◌, ◌≢◌, ℕ, ◌<◌, IfSome, OnOk, Some, length, true};
 ghost use Rattle.std.specs.List.{Contains};
 ghost use Rattle.std.specs.List.Sorted.{IsStrictlyIncreasing};
-ghost use Rattle.lead_plan.specs.declared.lead.Kind.TheVariants as lead_kinds;
+ghost use Rattle.step_kinds.specs.declared.kind.Kind.TheVariants as lead_kinds;
 ghost use Rattle.step_laws.specs.declared.step.Step as declared;
 ghost use Rattle.step_laws.specs.Steps.{first_item, last_item};
 ghost use Rattle.step_savings.specs.Apart.{RulesApart};
@@ -27,8 +27,8 @@ use crate::queue::found::Found;
 use crate::too_late::by_labels::most_beside;
 use crate::too_late::by_weights::{is_known_once, is_light, is_within};
 use crate::view::{Owner, Partners, View};
-use lead_plan::Kind;
 use std::alloc::AllocError;
+use step_kinds::Kind;
 
 /// What the steps by declarations of the owner and a rule above it save at most, if this is known.
 /// It holds if each declaration of the owner is in it once.

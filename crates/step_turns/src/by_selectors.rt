@@ -7,7 +7,7 @@ ghost use Rattle.std.specs.List.{Contains};
 ghost use Rattle.std.specs.List.Sorted.{IsStrictlyIncreasing};
 ghost use Rattle.hold_laws.specs.declared.way.Way.TheVariants as ways;
 ghost use Rattle.lead_laws.specs.BoardWalls.{IsPastWall};
-ghost use Rattle.lead_plan.specs.declared.lead.Kind.TheVariants as lead_kinds;
+ghost use Rattle.step_kinds.specs.declared.kind.Kind.TheVariants as lead_kinds;
 ghost use Rattle.step_laws.specs.declared.step.Step as declared;
 ghost use Rattle.step_laws.specs.declared.step.Step.TheVariants as kinds;
 ghost use Rattle.step_turns.specs.Kinds.{IsSelectorJoin};
@@ -24,8 +24,9 @@ use crate::too_late::by_labels::most_beside;
 use crate::too_late::by_parts::selector_joins_are_late;
 use crate::trying::try_both;
 use crate::view::{Attempt, Owner, Partners, View};
-use lead_plan::{Heaviest, Kind};
+use lead_plan::Heaviest;
 use std::alloc::AllocError;
+use step_kinds::Kind;
 use step_laws::Step;
 
 /// Whether the joins by selectors of the item with the label `at` and others are known to come too late.

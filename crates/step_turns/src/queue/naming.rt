@@ -3,7 +3,7 @@
 ghost use Rattle.std.specs.Prelude.{◌≡◌, ℕ, ◌≤◌, ◌<◌, ◌^◌, IfNone, IfSome, length, slice_index};
 ghost use Rattle.css_model.specs.Sheets.Limits.{max_items};
 ghost use Rattle.hold_laws.specs.Turns.{named};
-ghost use Rattle.lead_plan.specs.Told.{lead_told, step_of_kind};
+ghost use Rattle.lead_plan.specs.Told.{lead_told};
 ghost use Rattle.order_laws.specs.Edits.{Edit};
 ghost use Rattle.plan_laws.specs.Plannable.{IsPlannable};
 ghost use Rattle.rule_tables.specs.Tables.{Cover};
@@ -17,47 +17,12 @@ ghost use Rattle.step_turns.specs.Seconds.{HasSecond, second_name};
 
 use crate::apart::known::is_known_apart;
 use crate::cuts::possible::is_step_of;
-use lead_plan::{Kind, Lead};
+use lead_plan::Lead;
 use plan_board::Board;
 use rule_tables::Tables;
 use saved_bytes::{KnownLengths, saved_if_apart};
+use step_kinds::{Kind, step_of};
 use step_laws::{Step, parts_are_few};
-
-/// The step of a kind and these numbers.
-fn step_of(kind: Kind, first: u32, second: u32) -> Step
-    ensures { result ≡ step_of_kind kind first second }
-{
-    match kind {
-        Kind::DeclCut => Step::CutDecl {
-            item: first,
-            decl: second,
-        },
-        Kind::SelCut => Step::CutSel {
-            item: first,
-            sel: second,
-        },
-        Kind::SelJoinUp => Step::JoinSelUp {
-            upper: first,
-            lower: second,
-        },
-        Kind::SelJoinDown => Step::JoinSelDown {
-            upper: first,
-            lower: second,
-        },
-        Kind::DeclJoinUp => Step::JoinDeclUp {
-            upper: first,
-            lower: second,
-        },
-        Kind::DeclJoinDown => Step::JoinDeclDown {
-            upper: first,
-            lower: second,
-        },
-        Kind::Sharing => Step::Share {
-            upper: first,
-            lower: second,
-        },
-    }
-}
 
 /// A number as the number of a part, if it is less than 2^32.
 fn part_number(number: u64) -> Option<u32>

@@ -1,34 +1,20 @@
 //! The order of leads, and the turn of a step by the labels of its items.
 
-ghost use Rattle.std.specs.Prelude.{◌≡◌, ◌↔◌, ◌∷◌, [], ℕ, ◌<◌, IsTrue, length, slice_index};
+ghost use Rattle.std.specs.Prelude.{◌≡◌, ◌↔◌, ◌∷◌, [], ◌<◌, IsTrue, length, slice_index};
 ghost use Rattle.css_model.specs.Cascade.Winner.{exceeds};
 ghost use Rattle.hold_laws.specs.Turns.{named};
-ghost use Rattle.lead_plan.specs.Told.{lead_told, step_of_kind};
+ghost use Rattle.lead_plan.specs.Told.{lead_told};
 ghost use Rattle.plan_laws.specs.Cover.{IsSooner};
-ghost use Rattle.step_laws.specs.Steps.{HasStep, rank};
+ghost use Rattle.step_laws.specs.Steps.{HasStep};
 ghost use Rattle.plan_board.specs.MarkList.{labels_of};
 ghost use Rattle.step_turns.specs.Seconds.{HasItem, second_name};
 
 use crate::view::View;
-use lead_plan::{Kind, Lead};
+use lead_plan::Lead;
 use plan_board::Board;
 use std::cmp::Reverse;
+use step_kinds::{Kind, kind_number, kind_of};
 use step_laws::Step;
-
-/// The number of a kind in their order.
-fn kind_number(kind: Kind) -> u8
-    ensures { (x y : ℕ) → rank (step_of_kind kind x y) ≡ result ∷ x ∷ y ∷ [] }
-{
-    match kind {
-        Kind::DeclCut => 0,
-        Kind::SelCut => 1,
-        Kind::SelJoinUp => 2,
-        Kind::SelJoinDown => 3,
-        Kind::DeclJoinUp => 4,
-        Kind::DeclJoinDown => 5,
-        Kind::Sharing => 6,
-    }
-}
 
 /// Whether three numbers come before three others. The first that differs decides.
 #[tactic(auto, using(std::proofs::lemmas::Bool::Decides::nat_tests))]
@@ -53,21 +39,6 @@ pub(crate) fn is_sooner(one: &Lead, other: &Lead) -> bool
         (kind_number(one.kind), one.first, one.second),
         (kind_number(other.kind), other.first, other.second),
     )
-}
-
-/// The kind of a step, and its two numbers.
-fn kind_of(step: &Step) -> (Kind, u32, u32)
-    ensures { step.now ≡ step_of_kind result.0 result.1 result.2 }
-{
-    match *step {
-        Step::CutDecl { item, decl } => (Kind::DeclCut, item, decl),
-        Step::CutSel { item, sel } => (Kind::SelCut, item, sel),
-        Step::JoinSelUp { upper, lower } => (Kind::SelJoinUp, upper, lower),
-        Step::JoinSelDown { upper, lower } => (Kind::SelJoinDown, upper, lower),
-        Step::JoinDeclUp { upper, lower } => (Kind::DeclJoinUp, upper, lower),
-        Step::JoinDeclDown { upper, lower } => (Kind::DeclJoinDown, upper, lower),
-        Step::Share { upper, lower } => (Kind::Sharing, upper, lower),
-    }
 }
 
 /// The label of the item of this number.

@@ -1,7 +1,7 @@
 //! How much steps may save, at most, and come too late, by the labels of their items.
 
 ghost use Rattle.std.specs.Prelude.{◌≤◌, ℕ, IfSome};
-ghost use Rattle.lead_plan.specs.Told.{step_of_kind};
+ghost use Rattle.step_kinds.specs.StepsByKind.{step_of_kind};
 ghost use Rattle.step_laws.specs.declared.step.Step as declared;
 ghost use Rattle.step_turns.specs.Late.{IsFrom};
 ghost use Rattle.step_turns.specs.LaterLabels.{AreLateFrom};
@@ -10,8 +10,9 @@ ghost use Rattle.plan_laws.specs.Wall.Holding.{turn_of};
 
 use crate::queue::order::is_sooner;
 use hold_laws::turns_are_ordered;
-use lead_plan::{Kind, Lead};
+use lead_plan::Lead;
 use std::cmp::Reverse;
+use step_kinds::Kind;
 
 /// How much a step may save, at most, and not come before the first of the others. `None` if this is not known.
 /// The step is of this kind with items of these labels, or ranks after such a step.

@@ -6,7 +6,7 @@ ghost use Rattle.std.specs.List.{AllByRecursion};
 ghost use Rattle.css_model.specs.Sheets.Limits.{max_bytes};
 ghost use Rattle.css_model.specs.Sheets.Printed.{printed_declaration, printed_selector};
 ghost use Rattle.css_model.specs.Sheets.Sound.{IsSoundDeclaration, IsSoundSelector};
-ghost use Rattle.lead_plan.specs.Told.{step_of_kind};
+ghost use Rattle.step_kinds.specs.StepsByKind.{step_of_kind};
 ghost use Rattle.plan_board.specs.MarkList.{labels_of};
 ghost use Rattle.step_laws.specs.declared.step.Step as declared;
 ghost use Rattle.step_laws.specs.declared.step.Step.TheVariants as kinds;
@@ -22,10 +22,11 @@ use crate::too_late::by_labels::most_behind;
 use crate::too_late::by_weights::weight_at;
 use crate::view::{Partners, View};
 use css_model::{DeclItem, SelItem};
-use lead_plan::{Kind, Lead};
+use lead_plan::Lead;
 use plan_board::Board;
 use rule_parts::{Lengths, find_rule};
 use saved_bytes::KnownLengths;
+use step_kinds::Kind;
 
 /// What is left of `most` without the weight of these selectors, if this is known.
 fn without_selectors(source: &KnownLengths<'_>, items: &[SelItem], most: u64) -> Option<u64>

@@ -13,8 +13,9 @@ use crate::queue::found::Found;
 use crate::queue::order::label_of;
 use crate::too_late::by_labels::most_behind;
 use crate::view::{Partners, View};
-use lead_plan::{Kind, RuleWeight};
+use lead_plan::RuleWeight;
 use plan_board::Board;
+use step_kinds::Kind;
 
 /// Whether a step that saves at most this may come too late, by what the first of the others saves.
 pub(crate) fn is_within(found: &Found, most: u64) -> bool {

@@ -2,13 +2,14 @@ use Rattle.std.proofs.Common.{◌+◌, ◌∷◌, ◌++◌, [], List, sym, ap, s
 use Rattle.std.proofs.lemmas.Bool.{false≢true}
 use Rattle.merge_steps.proofs.listing.push_step.Goals as goal
 use Rattle.merge_steps.proofs.Rows.{pushed, skipped}
-use Rattle.merge_steps.specs.Listing.{ListsTo, number_of}
+use Rattle.merge_steps.specs.Listing.{ListsTo}
+use Rattle.step_kinds.specs.StepsByKind.{kind_number}
 use Rattle.step_laws.specs.declared.step.Step.{Step}
 use Rattle.step_laws.specs.Steps.{HasStep}
 
 pub returns-in_ok-push : goal.returns-in_ok-push
 returns-in_ok-push c =
-    subst (λ (list : List Step). ListsTo c.args.sheet.now.items (number_of c.args.kind) c.args.first (c.args.second + 1) list)
+    subst (λ (list : List Step). ListsTo c.args.sheet.now.items (kind_number c.args.kind) c.args.first (c.args.second + 1) list)
     (sym (c.in_ok-push.ensures.items ∙ ap (λ (k : Step). c.args.found.now.items ++ k ∷ []) c.step_of-step.ensures))
     (pushed c.args.sheet.now.items c.args.found.now.items c.args.kind c.args.first c.args.second c.requires
     (subst (HasStep c.args.sheet.now.items) c.step_of-step.ensures (c.is_step.ensures.0 c.if-is_step.true)))

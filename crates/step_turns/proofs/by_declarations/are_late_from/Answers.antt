@@ -1,5 +1,5 @@
 use Rattle.std.proofs.Common.{Option, ap, arith, subst}
-use Rattle.lead_plan.specs.declared.lead.Kind.TheVariants.{DeclJoinUp}
+use Rattle.step_kinds.specs.declared.kind.Kind.TheVariants.{DeclJoinUp}
 use Rattle.lead_plan.specs.declared.lead.Lead.{Lead}
 use Rattle.step_turns.specs.LaterLabels.{AreLateFrom}
 use Rattle.step_turns.specs.Looking.{FoundParts}

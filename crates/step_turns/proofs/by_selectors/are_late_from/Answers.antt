@@ -1,6 +1,6 @@
 use Rattle.std.proofs.Common.{◌≤◌, Option, ap, arith, subst}
 use Rattle.std.proofs.lemmas.Bool.{leb-true}
-use Rattle.lead_plan.specs.declared.lead.Kind.TheVariants.{SelJoinUp}
+use Rattle.step_kinds.specs.declared.kind.Kind.TheVariants.{SelJoinUp}
 use Rattle.lead_plan.specs.declared.lead.Lead.{Lead}
 use Rattle.step_turns.specs.LaterLabels.{AreLateFrom}
 use Rattle.step_turns.specs.Looking.{FoundParts}

@@ -1,0 +1,2 @@
+mod KindNumbers
+pub mod ForCallers
