@@ -36,13 +36,11 @@ examples: cssmin
 	for sheet in $(SHEETS); do CSSMIN=./cssmin examples/same/same.sh $$sheet $${sheet%.css}.min.css || exit 1; done
 
 bench: cssmin
-	cd crates/token_count && $(RT) run </dev/null
-	cd crates/pair_count && $(RT) run </dev/null
-	cd crates/solve_count && $(RT) run </dev/null
+	cd crates/bench_counts && $(RT) run -- pairs </dev/null
 	python3 bench/min.py ./cssmin $(SHEETS)
 	python3 bench/slow.py ./cssmin
-	python3 bench/tokens.py crates/token_count/out/token_count
-	python3 bench/pairs.py crates/pair_count/out/pair_count $(SHEETS)
+	python3 bench/tokens.py crates/bench_counts/out/bench_counts
+	python3 bench/pairs.py crates/bench_counts/out/bench_counts $(SHEETS)
 
 sizes: cssmin
 	python3 bench/sizes.py ./cssmin $(SHEETS)

@@ -3,7 +3,7 @@
 
 usage: python3 bench/formulas.py PROGRAM SOLVER [FILE..]
 
-PROGRAM is `solve_count`, SOLVER is called as minisat is. Each FILE is a DIMACS file or a log of
+PROGRAM is `bench_counts`, SOLVER is called as minisat is. Each FILE is a DIMACS file or a log of
 `cssmin cmp LEFT RIGHT --log`, of which the formula counts; with none, formulas with three literals a clause
 are drawn. For each it prints the processor time of both, without that of an empty formula, the ratio of the
 times, the clauses of the ledger (0 where there is a model), and the conflicts of SOLVER.
@@ -33,10 +33,10 @@ def timed(words, text=""):
 
 def counted(program, body):
     """How many clauses PROGRAM learned for a formula, and its time for one answer."""
-    start = timed([program], f"0\n{body}")[1]
-    once, took = timed([program], f"1\n{body}")
+    start = timed([program, "formulas"], f"0\n{body}")[1]
+    once, took = timed([program, "formulas"], f"1\n{body}")
     times = max(1, min(1000, int(SECONDS / max(took - start, 0.0001))))
-    took = timed([program], f"{times}\n{body}")[1] - start
+    took = timed([program, "formulas"], f"{times}\n{body}")[1] - start
     return int(re.search(r"learned ([0-9]+)", once)[1]), max(took, 0) / times
 
 

@@ -4,8 +4,8 @@
 usage: python3 bench/pairs.py PROGRAM SHEET..
        python3 bench/pairs.py --hard CSSMIN [SEED]
 
-PROGRAM is `pair_count`, which reads a sheet from standard input and asks for every ordered pair of its
-selectors whether they meet. For each sheet, and for all together, it runs both programs in turn and
+PROGRAM is `bench_counts`, which with the word `pairs` reads a sheet from standard input and asks for every
+ordered pair of its selectors whether they meet. For each sheet, and for all together, it runs both programs in turn and
 prints what PROGRAM counted, the median of the times, the ratio of the medians, and how many pairs
 PROGRAM answers in a second of its own time beyond that of an empty sheet.
 
@@ -35,13 +35,13 @@ MOST_BUDGET = 20_000
 def counts(program, path):
     """How many pairs meet, are apart, and are not compared."""
     with open(path, "rb") as sheet:
-        text = subprocess.run([program], stdin=sheet, stdout=subprocess.PIPE, check=True, text=True).stdout
+        text = subprocess.run([program, "pairs"], stdin=sheet, stdout=subprocess.PIPE, check=True, text=True).stdout
     return [int(word) for word in re.findall(r"[0-9]+", text)]
 
 
 def medians(program, path):
     """The medians of the times of PROGRAM and of `wc -c` on a sheet."""
-    pairs = [(one_run([program], path)[0], one_run(["wc", "-c"], path)[0]) for _ in range(ROUNDS)]
+    pairs = [(one_run([program, "pairs"], path)[0], one_run(["wc", "-c"], path)[0]) for _ in range(ROUNDS)]
     return [statistics.median(times) for times in zip(*pairs)]
 
 
@@ -49,7 +49,7 @@ def tell(name, start, meet, apart, outside, ours, theirs):
     beyond = ours - start
     speed = f"{(meet + apart + outside) / beyond:9,.0f} pairs/s" if beyond > 0 else "no time to measure"
     print(
-        f"{name:18} {meet:6} meet {apart:6} apart {outside:4} outside  pair_count {ours * 1000:7.2f} ms  "
+        f"{name:18} {meet:6} meet {apart:6} apart {outside:4} outside  bench_counts {ours * 1000:7.2f} ms  "
         f"wc -c {theirs * 1000:6.2f} ms  ratio {ours / theirs:6.1f}  {speed}"
     )
 

@@ -3,7 +3,8 @@
 
 usage: python3 bench/tokens.py PROGRAM
 
-PROGRAM is `token_count`, which reads a sheet from standard input and prints how many tokens it has.
+PROGRAM is `bench_counts`, which with the word `tokens` reads a sheet from standard input and prints how many
+tokens it has.
 For texts of 1 MiB, ordinary and hostile ones, it runs both programs in turn and prints the median of
 their times, the ratio of the medians, and how much of the text PROGRAM reads in a second of its own
 time beyond that of an empty text.
@@ -43,7 +44,7 @@ def medians(program, text):
     with tempfile.NamedTemporaryFile("w", suffix=".css", encoding="utf-8") as sheet:
         sheet.write(text)
         sheet.flush()
-        pairs = [(one_run([program], sheet.name)[0], one_run(["wc", "-c"], sheet.name)[0]) for _ in range(ROUNDS)]
+        pairs = [(one_run([program, "tokens"], sheet.name)[0], one_run(["wc", "-c"], sheet.name)[0]) for _ in range(ROUNDS)]
     return [statistics.median(times) for times in zip(*pairs)]
 
 
@@ -58,7 +59,7 @@ def main():
         beyond = ours - start
         speed = f"{len(text.encode()) / MIB / beyond:7.0f} MiB/s" if beyond > 0 else "no time to measure"
         print(
-            f"{name:18} token_count {ours * 1000:7.2f} ms  wc -c {theirs * 1000:6.2f} ms  "
+            f"{name:18} bench_counts {ours * 1000:7.2f} ms  wc -c {theirs * 1000:6.2f} ms  "
             f"ratio {ours / theirs:6.1f}  {speed}"
         )
 

@@ -1,0 +1,4 @@
+mod Asked
+mod Bounds
+mod Known
+mod Profile

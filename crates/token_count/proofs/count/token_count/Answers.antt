@@ -1,9 +1,0 @@
-use Rattle.std.proofs.Common.{arith}
-use Rattle.token_count.proofs.Bounds.{few}
-use Rattle.token_count.proofs.count.token_count.Goals as goal
-
-pub overflow_add-count : goal.overflow_add-count
-overflow_add-count c =
-    let h = few c.args.source.now in
-    let e = c.tokens.invariant.1 in
-    omega (arith, h, e, c.requires)
