@@ -232,18 +232,17 @@ fn saving_steps_after(
     step: &Step,
 ) -> (Vec<Step>, Vec<Step>) {
     let sheet = sheet(rt, alloc, source);
-    let mut candidates = Candidates::new(alloc, &sheet, source).expect(rt, "memory");
+    let candidates = Candidates::new(alloc, &sheet, source).expect(rt, "memory");
     let before = Vec::from_slice(alloc, candidates.saving_steps()).expect(rt, "memory");
     let is_step = is_step(&sheet, step);
     assert!(rt; is_step);
     if saving(&sheet, source, step) < 0 {
         return (Vec::new(alloc), Vec::new(alloc));
     }
-    candidates
-        .change(alloc, &sheet, source, step)
-        .expect(rt, "memory");
-    let after = Vec::from_slice(alloc, candidates.saving_steps()).expect(rt, "memory");
-    (before, after)
+    let stepped = after(rt, alloc, source, &sheet, step);
+    let candidates = Candidates::new(alloc, &stepped, source).expect(rt, "memory");
+    let then = Vec::from_slice(alloc, candidates.saving_steps()).expect(rt, "memory");
+    (before, then)
 }
 
 #[test]

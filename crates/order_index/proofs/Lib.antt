@@ -1,7 +1,6 @@
 mod AfterSteps
 mod Afterwards
 mod Around
-mod ChangedMasks
 mod Listing
 mod Masked
 mod Parts

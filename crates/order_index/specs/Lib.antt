@@ -1,3 +1,2 @@
 pub mod Afterwards
-pub mod ChangedMasks
 pub mod Listed

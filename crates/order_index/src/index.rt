@@ -1,6 +1,6 @@
 //! An index of the order of a sheet.
 
-ghost use Rattle.std.specs.Prelude.{◌≡◌, ◌≤◌, IfOk, OnErr, OnOk, map, nat_le, nat_lt, take, drop};
+ghost use Rattle.std.specs.Prelude.{◌≡◌, ◌≤◌, IfOk, map, nat_le, nat_lt, take, drop};
 ghost use Rattle.std.specs.List.{AllByRecursion, flat_map, prefix_len};
 ghost use Rattle.std.specs.List.Sorted.{IsNonDecreasingBy};
 ghost use Rattle.item_masks.specs.Masks.{item_mask};
@@ -17,11 +17,9 @@ ghost use Rattle.step_laws.specs.Steps.{HasStep, IsStep};
 
 use crate::entries::entries;
 use crate::marked::{Marked, MarkedKept, all_marked, list_kept};
-use crate::masks::changed_masks;
 use crate::step_window::{StepWindow, find_window};
 use css_model::Sheet;
 use item_masks::{ItemMask, item_masks};
-use merge_steps::changes;
 use order_laws::{listed_is_reversed, listed_stands_last, order_is_decided, weighing_is_decided};
 use overlap::Pairs;
 use plan_laws::{steps_have_windows, windows_tell_pairs};
@@ -83,16 +81,12 @@ impl<'a> Model for Index<'a> {
 }
 
 impl<'a> Index<'a> {
-    /// The index of a sheet whose items have these masks.
-    fn with_masks(
-        alloc: Global,
-        sheet: &'a Sheet,
-        masks: Vec<ItemMask>,
-    ) -> Result<Index<'a>, AllocError>
-        requires { masks.items ≡ map item_mask sheet.now.items }
+    /// Returns the index of a sheet. `Err(AllocError)` if memory is short.
+    pub fn new(alloc: Global, sheet: &'a Sheet) -> Result<Index<'a>, AllocError>
         ensures { IfOk result (λ index. index ≡ sheet.now.items) }
     {
         let items = sheet.items.as_slice();
+        let masks = item_masks(alloc, items)?;
         let last = last_pairs(alloc, None, items)?;
         let pairs = all_marked(alloc, &last)?;
         let kept = list_kept(alloc, items)?;
@@ -102,39 +96,6 @@ impl<'a> Index<'a> {
             kept,
             masks,
         })
-    }
-
-    /// The index of a sheet. `AllocError` where memory is short.
-    pub fn new(alloc: Global, sheet: &'a Sheet) -> Result<Index<'a>, AllocError>
-        ensures { IfOk result (λ index. index ≡ sheet.now.items) }
-    {
-        let masks = item_masks(alloc, &sheet.items)?;
-        Index::with_masks(alloc, sheet, masks)
-    }
-
-    /// The masks of the items after a step of the sheet.
-    #[tactic(auto, using(crate::proofs::ChangedMasks::edited_masked))]
-    fn masks_after(&self, alloc: Global, step: &Step) -> Result<Vec<ItemMask>, AllocError>
-        requires { HasStep self.now step.now }
-        ensures { IfOk result (λ masks. (e : Edit) → IsStep self.now step.now e → masks.items ≡ map item_mask (edited e self.now)) }
-    {
-        let sheet = self.sheet;
-        let changes = changes(alloc, sheet, step)?;
-        changed_masks(alloc, &changes, &self.masks)
-    }
-
-    /// Makes it the index of `next`, the sheet after one of its sheet's steps. The masks of the items that stay are
-    /// kept. The pairs and the kept items are listed anew: the time is that of the whole sheet. `AllocError` where
-    /// memory is short; then the index is as it was.
-    pub fn change(&mut self, alloc: Global, next: &'a Sheet, step: &Step) -> Result<(), AllocError>
-        requires is_step { HasStep self.old step.now }
-        requires made { (e : Edit) → IsStep self.old step.now e → next.now.items ≡ edited e self.old }
-        ensures changed { OnOk result (self.new ≡ next.now.items) }
-        ensures kept { OnErr result (self.new ≡ self.old) }
-    {
-        let masks = self.masks_after(alloc, step)?;
-        *self = Index::with_masks(alloc, next, masks)?;
-        Ok(())
     }
 
     /// The pairs that are last in the window of a step.

@@ -4,7 +4,6 @@
 mod entries;
 mod index;
 mod marked;
-mod masks;
 mod step_window;
 mod turning;
 

@@ -1,8 +1,7 @@
 -- Which steps of a sheet save something (own).
-use Rattle.std.specs.Prelude.{◌↔◌, ℕ, ◌<◌, ◌≤◌, List}
+use Rattle.std.specs.Prelude.{◌↔◌, ℕ, ◌<◌, List}
 use Rattle.std.specs.List.{AllPairs, Contains}
 use Rattle.css_model.specs.declared.sheet.Item.{Item}
-use Rattle.css_model.specs.Sheets.Limits.{max_bytes}
 use Rattle.order_laws.specs.Edits.{Edit, edited}
 use Rattle.step_laws.specs.declared.step.Step.{Step}
 use Rattle.step_laws.specs.Sizes.{size}
@@ -18,7 +17,3 @@ pub record IsSavingStep (source : List ℕ) (items : List Item) (k : Step) : Typ
 pub record AreSavingSteps (source : List ℕ) (items : List Item) (list : List Step) : Type 0 where
   pub exact : (k : Step) → Contains list k ↔ IsSavingStep source items k
   pub ascends : AllPairs StandsBefore list
-
--- the sheet after a step prints within the limit too
-abbrev pub Fits : List ℕ → List Item → Step → Type 0
-Fits source items k = (e : Edit) → IsStep items k e → size source (edited e items) ≤ max_bytes
