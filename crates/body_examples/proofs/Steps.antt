@@ -10,13 +10,13 @@ use Rattle.css_model.specs.declared.sheet.Item.{Item}
 use Rattle.css_model.specs.declared.sheet.Item.TheVariants.{Rule}
 use Rattle.css_model.specs.Sheets.Limits.{max_bytes}
 use Rattle.css_model.specs.Sheets.Sheet.{sheet_of}
-use Rattle.hold_laws.specs.Scopes.{Downs}
-use Rattle.hold_laws.specs.Ways.{IsMove, scope_of}
-use Rattle.hold_laws.specs.declared.way.Way.TheVariants.{Down, Up}
+use Rattle.pending_laws.specs.Scopes.{Downs}
+use Rattle.pending_laws.specs.Ways.{IsMove, scope_of}
+use Rattle.pending_laws.specs.declared.way.Way.TheVariants.{Down, Up}
 use Rattle.merge_steps.specs.Standing.{is_decl_again, is_decl_elsewhere}
 use Rattle.order_laws.specs.Edits.{edited}
 use Rattle.plan_laws.specs.Window.Beside.{beside_end, beside_first}
-use Rattle.plan_state.specs.Greeting.{first_lead}
+use Rattle.planner_state.specs.Enqueuing.{first_candidate}
 use Rattle.rule_tables.specs.Entries.{entry}
 use Rattle.step_laws.specs.declared.step.Step.TheVariants as steps
 use Rattle.step_laws.specs.RuleParting.{rule_or_none}
@@ -108,15 +108,15 @@ receiver_alone_is_left_out = refl
 mover_is_looked_at : beside_end (steps.JoinSelUp 1 4) ≡ 5
 mover_is_looked_at = refl
 
--- ---- Leads
+-- ---- Candidates
 
--- all joins of an item down are set aside at once
-downs_are_led_together : scope_of Down ≡ Downs
-downs_are_led_together = refl
+-- all joins of an item down are on the watch list at once
+downs_go_together : scope_of Down ≡ Downs
+downs_go_together = refl
 
--- a new item leads before all that saves something
-new_item_leads_first : (first_lead 3).turn.saving ≡ max_bytes + 1
-new_item_leads_first = refl
+-- the candidate of a new item comes before all that saves something
+new_item_comes_first : (first_candidate 3).priority.saving ≡ max_bytes + 1
+new_item_comes_first = refl
 
-entry_has_its_digest : entry 5 9 ≡ record { digest = 5; label = 9 }
+entry_has_its_digest : entry 5 9 ≡ record { digest = 5; order_key = 9 }
 entry_has_its_digest = refl

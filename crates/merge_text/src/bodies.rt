@@ -10,10 +10,10 @@ ghost use Rattle.opened_merge_laws.specs.Plans.{AreBodyPlans, IsBodyPlan};
 ghost use Rattle.step_laws.specs.Free.{AreAmong};
 
 use css_model::Sheet;
-use lead_merge::{Merged, merge};
 use media_groups::Media;
 use merge_laws::read_is_plannable;
 use obstacles::Obstacles;
+use planner::{Merged, merge};
 use print_laws::printed_is_no_longer;
 use std::alloc::{AllocError, Global};
 

@@ -1,7 +1,5 @@
 -- The sheet after a step, where its text is within the limit.
-use Rattle.std.proofs.Common.{◌≡◌, ◌≤◌, ℕ, List, length, sym, subst, arith}
-use Rattle.std.proofs.lemmas.Int.{ints}
-use Rattle.std.specs.Prelude.{ℤ, pos, ◌-ℤ◌, ◌≤ℤ◌}
+use Rattle.std.proofs.Common.{◌≡◌, ◌≤◌, ℕ, List, length, sym, subst}
 use Rattle.css_model.specs.declared.sheet.Item.{Item}
 use Rattle.css_model.specs.Sheets.Limits.{max_bytes, max_items}
 use Rattle.css_model.specs.Sheets.Sound.{IsSound}
@@ -31,6 +29,3 @@ pub plannable_after : StepsMakeOf → EachIsMadeOfItself → (source : List ℕ)
 plannable_after make itself source items new k plannable has applied short =
     let made : IsMadeOf source items new = made_after make itself source items new k plannable has applied in
     record { read = plannable.read; sound = made.sound; few_items = made.few_items; short = short }
-
-pub no_longer : (m n most : ℕ) (saved : ℤ) → saved ≡ pos m -ℤ pos n → pos 0 ≤ℤ saved → m ≤ most → n ≤ most
-no_longer m n most saved is none_lost short = omega (arith, ints)

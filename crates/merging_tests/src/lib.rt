@@ -12,6 +12,8 @@ mod moves;
 #[cfg(test)]
 mod pairs;
 #[cfg(test)]
+mod plain;
+#[cfg(test)]
 mod reports;
 #[cfg(test)]
 mod sheets;

@@ -1,5 +1,6 @@
-//! What sheets become, worked by hand; and that the plan by turns that lead is the plan by a look at each step.
+//! What sheets become, worked by hand; and that the plan by candidates is the plan by a look at each step.
 
+use crate::plain::merged;
 use crate::sheets::{DOWN, PAGE, UP, sheet};
 use cnf::NO_LIMIT;
 use merge_plan::plan;
@@ -197,9 +198,8 @@ fn plans_are_those_of_the_plain_loop(rt: HostRuntime) {
         let old = sheet(&rt, alloc, &source);
         let mut pairs = Pairs::new(alloc, NO_LIMIT);
         let planned = plan(alloc, &mut pairs, &source, &old).expect(&rt, "memory");
-        let mut obstacles = PairObstacles::new(alloc, Pairs::new(alloc, NO_LIMIT));
-        let plain = plain_plan::merge(alloc, &mut obstacles, &source, old).expect(&rt, "memory");
-        assert!(rt; planned.sheet == plain.sheet, "at {rules}");
-        assert_eq!(rt; (planned.taken, plain.taken), (taken, taken), "at {rules}");
+        let (merged, steps) = merged(&rt, alloc, &source, old);
+        assert!(rt; planned.sheet == merged, "at {rules}");
+        assert_eq!(rt; (planned.taken, steps), (taken, taken), "at {rules}");
     }
 }

@@ -15,7 +15,7 @@ use Rattle.order_laws.specs.Edits.{Edit}
 use Rattle.step_laws.specs.declared.step.Step.{Step}
 use Rattle.step_laws.specs.Free.{Answered}
 use Rattle.step_laws.specs.Steps.{IsStep}
-use Rattle.plan_laws.specs.Wall.Holding.{Hindrance, OfPair, OfKept, Hinders}
+use Rattle.plan_laws.specs.Barrier.Hindering.{Hindrance, OfPair, OfKept, Hinders}
 
 -- a pair stands at a place: its selector and its declaration have these numbers in the rule of this number
 pub record IsAt (items : List Item) (place : PairPlace) (p : Pair) : Type 0 where

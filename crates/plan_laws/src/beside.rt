@@ -1,6 +1,6 @@
 //! What one step leaves of another one.
 
-ghost use Rattle.plan_laws.specs.Wall.SideBySide.{SavingsGoOn, StepsAreSideBySide, StepsComeBack};
+ghost use Rattle.plan_laws.specs.Barrier.SideBySide.{SavingsGoOn, StepsAreSideBySide, StepsComeBack};
 
 use order_laws::unmoved_keep_their_order;
 use step_laws::{cuts_rearrange, steps_rearrange, steps_weigh};

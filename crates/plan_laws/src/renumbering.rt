@@ -1,6 +1,6 @@
 //! What becomes of a step of a sheet while a step of other rules is taken.
 
-ghost use Rattle.plan_laws.specs.Wall.Renumbering.{
+ghost use Rattle.plan_laws.specs.Barrier.Renumbering.{
   EditsCommute,
   HindrancesGoOn,
   ItemsStay,

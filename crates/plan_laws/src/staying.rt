@@ -1,6 +1,6 @@
 //! What stays while other items of a sheet come and go.
 
-ghost use Rattle.plan_laws.specs.Wall.Staying.{
+ghost use Rattle.plan_laws.specs.Barrier.Staying.{
   HindrancesStay,
   KeptHindrancesStay,
   OtherRulesDoNotCount,

@@ -21,9 +21,9 @@ use Rattle.order_laws.specs.Slots.{new_items}
 use Rattle.rule_tables.specs.Cutting.{AreTold, DeclCutsAreTold, SelectorCutsAreTold}
 use Rattle.rule_tables.specs.Losing.{CanLoseDecl, CanLoseSelector, DeclIsSpare, SelectorIsSpare}
 use Rattle.rule_tables.specs.Pairs.{AnotherHasBoth}
-use Rattle.rule_tables.specs.Tables.{labelled}
+use Rattle.rule_tables.specs.Tables.{order_keyed}
 use Rattle.rule_tables.proofs.OtherRules.{StandsWith, stands_with}
-use Rattle.rule_tables.proofs.StepRules.{rules_are_labelled}
+use Rattle.rule_tables.proofs.StepRules.{rules_are_order_keyed}
 use Rattle.step_laws.specs.declared.step.Step.TheVariants.{CutDecl, CutSel}
 use Rattle.step_laws.specs.RuleParting.{item_if_any, rule_or_none}
 use Rattle.step_laws.specs.StepEdits.{one_change, cut_decl, cut_selector}
@@ -113,7 +113,7 @@ goes_is items n by m r at = (there, back)
         which (inl g) = here (each p ((has_rule r p).0 g))
         which (inr g) = around w.above by w.below p g
 
--- ---- Pairs of other items, and of rules with other labels
+-- ---- Pairs of other items, and of rules with other order keys
 
 -- a rule of another number has the pair
 abbrev IsBeside : List Item → ℕ → Pair → Type 0
@@ -149,17 +149,17 @@ got [] i less = absurd (omega (arith, less))
 got (x ∷ xs) zero less = (x, refl)
 got (x ∷ xs) (suc i) less = got xs i (omega (arith, less))
 
-module _ (items : List Item) (labels : List ℕ) (told : AreTold items labels) (n own : ℕ) (own_at : slice_get labels n ≡ Some own) (s : SelectorParts) (d : Decl) where
-  another : IsBeside items n (record { selector = s; decl = d }) → AnotherHasBoth (labelled items labels) own s d
+module _ (items : List Item) (order_keys : List ℕ) (told : AreTold items order_keys) (n own : ℕ) (own_at : slice_get order_keys n ≡ Some own) (s : SelectorParts) (d : Decl) where
+  another : IsBeside items n (record { selector = s; decl = d }) → AnotherHasBoth (order_keyed items order_keys) own s d
   another (j, other, r, at, in_rule) =
       let within : j < length items = slice_get_within items j (Rule r) at in
-      let l : (x : ℕ) × (slice_get labels j ≡ Some x) = got labels j (let same : length labels ≡ length items = told.beside in omega (arith, within, same)) in
-      (l.0, (λ e. other (told.once j n own (l.1 ∙ ap (λ (x : ℕ). Some x) e) own_at)), (r, rules_are_labelled items labels j r l.0 at l.1, in_rule))
+      let l : (x : ℕ) × (slice_get order_keys j ≡ Some x) = got order_keys j (let same : length order_keys ≡ length items = told.beside in omega (arith, within, same)) in
+      (l.0, (λ e. other (told.once j n own (l.1 ∙ ap (λ (x : ℕ). Some x) e) own_at)), (r, rules_are_order_keyed items order_keys j r l.0 at l.1, in_rule))
 
-  of_another : AnotherHasBoth (labelled items labels) own s d → HasPair (remove items n) (record { selector = s; decl = d })
-  of_another (label, other, (r, in_list, has)) =
-      let w : StandsWith items labels r label = stands_with items labels r label in_list in
-      not_removed items n w.0 r (record { selector = s; decl = d }) (λ e. other (let f : Some label ≡ Some own = sym w.2 ∙ ap (slice_get labels) e ∙ own_at in some-same f)) w.1 has
+  of_another : AnotherHasBoth (order_keyed items order_keys) own s d → HasPair (remove items n) (record { selector = s; decl = d })
+  of_another (order_key, other, (r, in_list, has)) =
+      let w : StandsWith items order_keys r order_key = stands_with items order_keys r order_key in_list in
+      not_removed items n w.0 r (record { selector = s; decl = d }) (λ e. other (let f : Some order_key ≡ Some own = sym w.2 ∙ ap (slice_get order_keys) e ∙ own_at in some-same f)) w.1 has
 
 -- ---- What is left of a rule
 
@@ -202,14 +202,14 @@ same_rule items n r q a b = cc
 
 -- ---- Cuts
 
-decl_spare : (items : List Item) (labels : List ℕ) (n own i : ℕ) (r : RuleParts) (d : DeclItem) → AreTold items labels →
-    slice_get items n ≡ Some (Rule r) → slice_get labels n ≡ Some own → slice_get r.decls i ≡ Some d → HasStep items (CutDecl n i) ↔ DeclIsSpare (labelled items labels) own r i d
-decl_spare items labels n own i r d told at own_at part = (there, back)
+decl_spare : (items : List Item) (order_keys : List ℕ) (n own i : ℕ) (r : RuleParts) (d : DeclItem) → AreTold items order_keys →
+    slice_get items n ≡ Some (Rule r) → slice_get order_keys n ≡ Some own → slice_get r.decls i ≡ Some d → HasStep items (CutDecl n i) ↔ DeclIsSpare (order_keyed items order_keys) own r i d
+decl_spare items order_keys n own i r d told at own_at part = (there, back)
   where
     left : RuleParts
     left = record { selectors = r.selectors; decls = remove r.decls i }
 
-    there : HasStep items (CutDecl n i) → Contains (decls (remove r.decls i)) d.decl ⊎ ((s : SelectorParts) → Contains (selectors_of r) s → AnotherHasBoth (labelled items labels) own s d.decl)
+    there : HasStep items (CutDecl n i) → Contains (decls (remove r.decls i)) d.decl ⊎ ((s : SelectorParts) → Contains (selectors_of r) s → AnotherHasBoth (order_keyed items order_keys) own s d.decl)
     there (e, cut) = by (has_decl (remove r.decls i) d.decl) refl
       where
         each : (p : Pair) → InRule r p → HasPair (rule_or_none left) p ⊎ HasPair (remove items n) p
@@ -217,15 +217,15 @@ decl_spare items labels n own i r d told at own_at part = (there, back)
             (subst (λ (q : RuleParts). (p : Pair) → HasPair items p → HasPair (edited (cut_decl n i q) items) p) (same_rule items n cut.rule r cut.rule_at at) cut.no_pair_goes)
 
         by : (b : Bool) → has_decl (remove r.decls i) d.decl ≡ b →
-            Contains (decls (remove r.decls i)) d.decl ⊎ ((s : SelectorParts) → Contains (selectors_of r) s → AnotherHasBoth (labelled items labels) own s d.decl)
+            Contains (decls (remove r.decls i)) d.decl ⊎ ((s : SelectorParts) → Contains (selectors_of r) s → AnotherHasBoth (order_keyed items order_keys) own s d.decl)
         by true g = inl ((has_decl_is (remove r.decls i) d.decl).0 g)
         by false g = inr (λ s h. stood s (each (record { selector = s; decl = d.decl }) (h, has_here (λ f. f.decl) r.decls i d part)))
           where
-            stood : (s : SelectorParts) → HasPair (rule_or_none left) (record { selector = s; decl = d.decl }) ⊎ HasPair (remove items n) (record { selector = s; decl = d.decl }) → AnotherHasBoth (labelled items labels) own s d.decl
+            stood : (s : SelectorParts) → HasPair (rule_or_none left) (record { selector = s; decl = d.decl }) ⊎ HasPair (remove items n) (record { selector = s; decl = d.decl }) → AnotherHasBoth (order_keyed items order_keys) own s d.decl
             stood s (inl k) = absurd (let e : true ≡ false = sym ((has_decl_is (remove r.decls i) d.decl).1 ((left_is left (record { selector = s; decl = d.decl })).0 k).1) ∙ g in cc)
-            stood s (inr k) = another items labels told n own own_at s d.decl (beside items n (record { selector = s; decl = d.decl }) k)
+            stood s (inr k) = another items order_keys told n own own_at s d.decl (beside items n (record { selector = s; decl = d.decl }) k)
 
-    back : Contains (decls (remove r.decls i)) d.decl ⊎ ((s : SelectorParts) → Contains (selectors_of r) s → AnotherHasBoth (labelled items labels) own s d.decl) → HasStep items (CutDecl n i)
+    back : Contains (decls (remove r.decls i)) d.decl ⊎ ((s : SelectorParts) → Contains (selectors_of r) s → AnotherHasBoth (order_keyed items order_keys) own s d.decl) → HasStep items (CutDecl n i)
     back h = (
       cut_decl n i r,
       record {
@@ -237,23 +237,23 @@ decl_spare items labels n own i r d told at own_at part = (there, back)
       },
     )
       where
-        beside_it : (p : Pair) → InRule r p → d.decl ≡ p.decl → Contains (decls (remove r.decls i)) d.decl ⊎ ((s : SelectorParts) → Contains (selectors_of r) s → AnotherHasBoth (labelled items labels) own s d.decl) →
+        beside_it : (p : Pair) → InRule r p → d.decl ≡ p.decl → Contains (decls (remove r.decls i)) d.decl ⊎ ((s : SelectorParts) → Contains (selectors_of r) s → AnotherHasBoth (order_keyed items order_keys) own s d.decl) →
             HasPair (rule_or_none left) p ⊎ HasPair (remove items n) p
         beside_it p w same (inl g) = inl ((left_is left p).1 (w.0, subst (Contains (decls (remove r.decls i))) same g))
-        beside_it p w same (inr g) = inr (subst (λ (f : Decl). HasPair (remove items n) (record { selector = p.selector; decl = f })) same (of_another items labels told n own own_at p.selector d.decl (g p.selector w.0)))
+        beside_it p w same (inr g) = inr (subst (λ (f : Decl). HasPair (remove items n) (record { selector = p.selector; decl = f })) same (of_another items order_keys told n own own_at p.selector d.decl (g p.selector w.0)))
 
         each : (p : Pair) → InRule r p → Contains (decls (remove r.decls i)) p.decl ⊎ (d.decl ≡ p.decl) → HasPair (rule_or_none left) p ⊎ HasPair (remove items n) p
         each p w (inl g) = inl ((left_is left p).1 (w.0, g))
         each p w (inr same) = beside_it p w same h
 
-selector_spare : (items : List Item) (labels : List ℕ) (n own i : ℕ) (r : RuleParts) (s : SelItem) → AreTold items labels →
-    slice_get items n ≡ Some (Rule r) → slice_get labels n ≡ Some own → slice_get r.selectors i ≡ Some s → HasStep items (CutSel n i) ↔ SelectorIsSpare (labelled items labels) own r i s
-selector_spare items labels n own i r s told at own_at part = (there, back)
+selector_spare : (items : List Item) (order_keys : List ℕ) (n own i : ℕ) (r : RuleParts) (s : SelItem) → AreTold items order_keys →
+    slice_get items n ≡ Some (Rule r) → slice_get order_keys n ≡ Some own → slice_get r.selectors i ≡ Some s → HasStep items (CutSel n i) ↔ SelectorIsSpare (order_keyed items order_keys) own r i s
+selector_spare items order_keys n own i r s told at own_at part = (there, back)
   where
     left : RuleParts
     left = record { selectors = remove r.selectors i; decls = r.decls }
 
-    there : HasStep items (CutSel n i) → Contains (sels (remove r.selectors i)) s.selector ⊎ ((d : Decl) → Contains (decls_of r) d → AnotherHasBoth (labelled items labels) own s.selector d)
+    there : HasStep items (CutSel n i) → Contains (sels (remove r.selectors i)) s.selector ⊎ ((d : Decl) → Contains (decls_of r) d → AnotherHasBoth (order_keyed items order_keys) own s.selector d)
     there (e, cut) = by (has_selector (remove r.selectors i) s.selector) refl
       where
         each : (p : Pair) → InRule r p → HasPair (rule_or_none left) p ⊎ HasPair (remove items n) p
@@ -261,15 +261,15 @@ selector_spare items labels n own i r s told at own_at part = (there, back)
             (subst (λ (q : RuleParts). (p : Pair) → HasPair items p → HasPair (edited (cut_selector n i q) items) p) (same_rule items n cut.rule r cut.rule_at at) cut.no_pair_goes)
 
         by : (b : Bool) → has_selector (remove r.selectors i) s.selector ≡ b →
-            Contains (sels (remove r.selectors i)) s.selector ⊎ ((d : Decl) → Contains (decls_of r) d → AnotherHasBoth (labelled items labels) own s.selector d)
+            Contains (sels (remove r.selectors i)) s.selector ⊎ ((d : Decl) → Contains (decls_of r) d → AnotherHasBoth (order_keyed items order_keys) own s.selector d)
         by true g = inl ((has_selector_is (remove r.selectors i) s.selector).0 g)
         by false g = inr (λ d h. stood d (each (record { selector = s.selector; decl = d }) (has_here (λ t. t.selector) r.selectors i s part, h)))
           where
-            stood : (d : Decl) → HasPair (rule_or_none left) (record { selector = s.selector; decl = d }) ⊎ HasPair (remove items n) (record { selector = s.selector; decl = d }) → AnotherHasBoth (labelled items labels) own s.selector d
+            stood : (d : Decl) → HasPair (rule_or_none left) (record { selector = s.selector; decl = d }) ⊎ HasPair (remove items n) (record { selector = s.selector; decl = d }) → AnotherHasBoth (order_keyed items order_keys) own s.selector d
             stood d (inl k) = absurd (let e : true ≡ false = sym ((has_selector_is (remove r.selectors i) s.selector).1 ((left_is left (record { selector = s.selector; decl = d })).0 k).0) ∙ g in cc)
-            stood d (inr k) = another items labels told n own own_at s.selector d (beside items n (record { selector = s.selector; decl = d }) k)
+            stood d (inr k) = another items order_keys told n own own_at s.selector d (beside items n (record { selector = s.selector; decl = d }) k)
 
-    back : Contains (sels (remove r.selectors i)) s.selector ⊎ ((d : Decl) → Contains (decls_of r) d → AnotherHasBoth (labelled items labels) own s.selector d) → HasStep items (CutSel n i)
+    back : Contains (sels (remove r.selectors i)) s.selector ⊎ ((d : Decl) → Contains (decls_of r) d → AnotherHasBoth (order_keyed items order_keys) own s.selector d) → HasStep items (CutSel n i)
     back h = (
       cut_selector n i r,
       record {
@@ -281,10 +281,10 @@ selector_spare items labels n own i r s told at own_at part = (there, back)
       },
     )
       where
-        beside_it : (p : Pair) → InRule r p → s.selector ≡ p.selector → Contains (sels (remove r.selectors i)) s.selector ⊎ ((d : Decl) → Contains (decls_of r) d → AnotherHasBoth (labelled items labels) own s.selector d) →
+        beside_it : (p : Pair) → InRule r p → s.selector ≡ p.selector → Contains (sels (remove r.selectors i)) s.selector ⊎ ((d : Decl) → Contains (decls_of r) d → AnotherHasBoth (order_keyed items order_keys) own s.selector d) →
             HasPair (rule_or_none left) p ⊎ HasPair (remove items n) p
         beside_it p w same (inl g) = inl ((left_is left p).1 (subst (Contains (sels (remove r.selectors i))) same g, w.1))
-        beside_it p w same (inr g) = inr (subst (λ (t : SelectorParts). HasPair (remove items n) (record { selector = t; decl = p.decl })) same (of_another items labels told n own own_at s.selector p.decl (g p.decl w.1)))
+        beside_it p w same (inr g) = inr (subst (λ (t : SelectorParts). HasPair (remove items n) (record { selector = t; decl = p.decl })) same (of_another items order_keys told n own own_at s.selector p.decl (g p.decl w.1)))
 
         each : (p : Pair) → InRule r p → Contains (sels (remove r.selectors i)) p.selector ⊎ (s.selector ≡ p.selector) → HasPair (rule_or_none left) p ⊎ HasPair (remove items n) p
         each p w (inl g) = inl ((left_is left p).1 (g, w.1))
@@ -293,23 +293,23 @@ selector_spare items labels n own i r s told at own_at part = (there, back)
 -- ---- The part that is cut is there
 
 pub decl_cuts_are_told : DeclCutsAreTold
-decl_cuts_are_told items labels n own i r told at own_at = (there, back)
+decl_cuts_are_told items order_keys n own i r told at own_at = (there, back)
   where
-    there : HasStep items (CutDecl n i) → CanLoseDecl (labelled items labels) own r i
+    there : HasStep items (CutDecl n i) → CanLoseDecl (order_keyed items order_keys) own r i
     there (e, cut) =
         let w : (d : DeclItem) × (slice_get r.decls i ≡ Some d) = got r.decls i (subst (λ (q : RuleParts). i < length q.decls) (same_rule items n cut.rule r cut.rule_at at) cut.part) in
-        (w.0, w.1, (decl_spare items labels n own i r w.0 told at own_at w.1).0 (e, cut))
+        (w.0, w.1, (decl_spare items order_keys n own i r w.0 told at own_at w.1).0 (e, cut))
 
-    back : CanLoseDecl (labelled items labels) own r i → HasStep items (CutDecl n i)
-    back (d, part, spare) = (decl_spare items labels n own i r d told at own_at part).1 spare
+    back : CanLoseDecl (order_keyed items order_keys) own r i → HasStep items (CutDecl n i)
+    back (d, part, spare) = (decl_spare items order_keys n own i r d told at own_at part).1 spare
 
 pub selector_cuts_are_told : SelectorCutsAreTold
-selector_cuts_are_told items labels n own i r told at own_at = (there, back)
+selector_cuts_are_told items order_keys n own i r told at own_at = (there, back)
   where
-    there : HasStep items (CutSel n i) → CanLoseSelector (labelled items labels) own r i
+    there : HasStep items (CutSel n i) → CanLoseSelector (order_keyed items order_keys) own r i
     there (e, cut) =
         let w : (s : SelItem) × (slice_get r.selectors i ≡ Some s) = got r.selectors i (subst (λ (q : RuleParts). i < length q.selectors) (same_rule items n cut.rule r cut.rule_at at) cut.part) in
-        (w.0, w.1, (selector_spare items labels n own i r w.0 told at own_at w.1).0 (e, cut))
+        (w.0, w.1, (selector_spare items order_keys n own i r w.0 told at own_at w.1).0 (e, cut))
 
-    back : CanLoseSelector (labelled items labels) own r i → HasStep items (CutSel n i)
-    back (s, part, spare) = (selector_spare items labels n own i r s told at own_at part).1 spare
+    back : CanLoseSelector (order_keyed items order_keys) own r i → HasStep items (CutSel n i)
+    back (s, part, spare) = (selector_spare items order_keys n own i r s told at own_at part).1 spare

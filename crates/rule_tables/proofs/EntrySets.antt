@@ -1,4 +1,4 @@
--- Sets of entries and of labels, by what they have.
+-- Sets of entries and of order keys, by what they have.
 use Rattle.std.proofs.Common.{◌≡◌, ◌⊎◌, inl, inr, List, [], ◌∷◌, map, sym, subst, Result, Ok, Err, OnErr, OnOk}
 use Rattle.std.specs.List.{Contains}
 use Rattle.list_facts.proofs.Members.{Contains-cons_cases, Contains-here, Contains-nil, Contains-there}

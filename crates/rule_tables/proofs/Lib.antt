@@ -1,7 +1,7 @@
 mod Ascending
 mod Cutting
 mod EntrySets
-mod LabelledPairs
+mod OrderKeyedPairs
 mod ListedEntries
 mod Numbers
 mod OtherRules

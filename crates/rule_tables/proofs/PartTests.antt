@@ -77,5 +77,5 @@ got (y ∷ xs) zero x less is = ap Some (sym (is y))
 got (y ∷ xs) (suc i) x less is = got xs i x (omega (arith, less)) is
 
 -- what holds of the element of a number
-pub held_is : {X : Type 0} (P : X → Type 0) (xs : List X) (i : ℕ) (x : X) → slice_get xs i ≡ Some x → ((y : X) × (slice_get xs i ≡ Some y) × P y) ↔ P x
-held_is P xs i x at = (λ (y, is, p). subst P (some-same (sym is ∙ at)) p, λ p. (x, at, p))
+pub pending_is : {X : Type 0} (P : X → Type 0) (xs : List X) (i : ℕ) (x : X) → slice_get xs i ≡ Some x → ((y : X) × (slice_get xs i ≡ Some y) × P y) ↔ P x
+pending_is P xs i x at = (λ (y, is, p). subst P (some-same (sym is ∙ at)) p, λ p. (x, at, p))

@@ -11,8 +11,8 @@ use Rattle.css_model.specs.Sheets.RuleParts.{RuleParts}
 use Rattle.css_model.specs.Sheets.StyleRule.{HaveSameSelectors, selectors_of}
 use Rattle.list_facts.proofs.Members.{Contains-here, Contains-there}
 use Rattle.order_laws.specs.Edits.{Edit}
-use Rattle.rule_tables.specs.StepPartners.{HasParts, RulesAreLabelled, StepsHavePartners}
-use Rattle.rule_tables.specs.Tables.{CanBePartners, Labelled, by_selectors, by_decl, labelled, with_label}
+use Rattle.rule_tables.specs.StepPartners.{HasParts, RulesAreOrderKeyed, StepsHavePartners}
+use Rattle.rule_tables.specs.Tables.{CanBePartners, OrderKeyed, by_selectors, by_decl, order_keyed, with_order_key}
 use Rattle.rule_tables.proofs.EntrySets.{mapped}
 use Rattle.step_laws.specs.declared.step.Step.TheVariants.{CutDecl, CutSel, JoinSelUp, JoinSelDown, JoinDeclUp, JoinDeclDown, Share}
 use Rattle.step_laws.specs.Steps.{HaveSameDecls, IsJoin, MayShare, decls_of}
@@ -60,18 +60,18 @@ steps_have_partners items (JoinDeclUp x y) e upper lower is order upper_at lower
 steps_have_partners items (JoinDeclDown x y) e upper lower is order upper_at lower_at has = of_join items x y upper lower upper_at lower_at _ _ e (by_same_decls upper lower has) is
 steps_have_partners items (Share x y) e upper lower is order upper_at lower_at has = of_join items x y upper lower upper_at lower_at _ _ e (by_common items upper lower) is
 
-further : (x : Item) (m : ℕ) (items : List Item) (labels : List ℕ) (y : Labelled) → Contains (labelled items labels) y → Contains (labelled (x ∷ items) (m ∷ labels)) y
-further (Rule q) m items labels y h = Contains-there (with_label q m) (labelled items labels) y h
-further (KeptRule k) m items labels y h = h
-further (KeptBlock piece) m items labels y h = h
+further : (x : Item) (m : ℕ) (items : List Item) (order_keys : List ℕ) (y : OrderKeyed) → Contains (order_keyed items order_keys) y → Contains (order_keyed (x ∷ items) (m ∷ order_keys)) y
+further (Rule q) m items order_keys y h = Contains-there (with_order_key q m) (order_keyed items order_keys) y h
+further (KeptRule k) m items order_keys y h = h
+further (KeptBlock piece) m items order_keys y h = h
 
-at_first : (x : Item) (m : ℕ) (items : List Item) (labels : List ℕ) (r : RuleParts) (label : ℕ) → x ≡ Rule r → m ≡ label → Contains (labelled (x ∷ items) (m ∷ labels)) (with_label r label)
-at_first x m items labels r label e f =
-    subst (λ (y : Item). Contains (labelled (y ∷ items) (m ∷ labels)) (with_label r label)) (sym e)
-    (subst (λ (n : ℕ). Contains (with_label r n ∷ labelled items labels) (with_label r label)) (sym f) (Contains-here (with_label r label) (labelled items labels)))
+at_first : (x : Item) (m : ℕ) (items : List Item) (order_keys : List ℕ) (r : RuleParts) (order_key : ℕ) → x ≡ Rule r → m ≡ order_key → Contains (order_keyed (x ∷ items) (m ∷ order_keys)) (with_order_key r order_key)
+at_first x m items order_keys r order_key e f =
+    subst (λ (y : Item). Contains (order_keyed (y ∷ items) (m ∷ order_keys)) (with_order_key r order_key)) (sym e)
+    (subst (λ (n : ℕ). Contains (with_order_key r n ∷ order_keyed items order_keys) (with_order_key r order_key)) (sym f) (Contains-here (with_order_key r order_key) (order_keyed items order_keys)))
 
-pub rules_are_labelled : RulesAreLabelled
-rules_are_labelled [] labels n r label at is = cc
-rules_are_labelled (x ∷ items) [] n r label at is = cc
-rules_are_labelled (x ∷ items) (m ∷ labels) zero r label at is = at_first x m items labels r label (let e : x ≡ Rule r = cc in e) (let f : m ≡ label = cc in f)
-rules_are_labelled (x ∷ items) (m ∷ labels) (suc n) r label at is = further x m items labels (with_label r label) (rules_are_labelled items labels n r label at is)
+pub rules_are_order_keyed : RulesAreOrderKeyed
+rules_are_order_keyed [] order_keys n r order_key at is = cc
+rules_are_order_keyed (x ∷ items) [] n r order_key at is = cc
+rules_are_order_keyed (x ∷ items) (m ∷ order_keys) zero r order_key at is = at_first x m items order_keys r order_key (let e : x ≡ Rule r = cc in e) (let f : m ≡ order_key = cc in f)
+rules_are_order_keyed (x ∷ items) (m ∷ order_keys) (suc n) r order_key at is = further x m items order_keys (with_order_key r order_key) (rules_are_order_keyed items order_keys n r order_key at is)

@@ -1,7 +1,7 @@
 pub mod Cutting
 pub mod Digests
 pub mod Entries
-pub mod Labels
+pub mod OrderKeys
 pub mod Losing
 pub mod Pairs
 pub mod Places

@@ -5,17 +5,17 @@ use Rattle.css_model.specs.declared.sheet.Decl.{Decl}
 use Rattle.css_model.specs.Documents.SelectorParts.{SelectorParts}
 use Rattle.css_model.specs.Sheets.RuleParts.{RuleParts}
 use Rattle.css_model.specs.Sheets.StyleRule.{selectors_of}
-use Rattle.rule_tables.specs.Tables.{Labelled, with_label}
+use Rattle.rule_tables.specs.Tables.{OrderKeyed, with_order_key}
 use Rattle.step_laws.specs.Steps.{decls_of}
 
 -- a rule has a selector and a declaration
 abbrev pub HasBoth : RuleParts → SelectorParts → Decl → Type 0
 HasBoth r s d = Contains (selectors_of r) s × Contains (decls_of r) d
 
--- the rule with this label has both
-abbrev pub LabelHasBoth : List Labelled → ℕ → SelectorParts → Decl → Type 0
-LabelHasBoth rules label s d = (r : RuleParts) × Contains rules (with_label r label) × HasBoth r s d
+-- the rule with this order key has both
+abbrev pub OrderKeyHasBoth : List OrderKeyed → ℕ → SelectorParts → Decl → Type 0
+OrderKeyHasBoth rules order_key s d = (r : RuleParts) × Contains rules (with_order_key r order_key) × HasBoth r s d
 
--- a rule with another label has both
-abbrev pub AnotherHasBoth : List Labelled → ℕ → SelectorParts → Decl → Type 0
-AnotherHasBoth rules own s d = (label : ℕ) × (label ≢ own) × LabelHasBoth rules label s d
+-- a rule with another order key has both
+abbrev pub AnotherHasBoth : List OrderKeyed → ℕ → SelectorParts → Decl → Type 0
+AnotherHasBoth rules own s d = (order_key : ℕ) × (order_key ≢ own) × OrderKeyHasBoth rules order_key s d

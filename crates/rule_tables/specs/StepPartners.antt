@@ -5,7 +5,7 @@ use Rattle.css_model.specs.declared.sheet.Item.{Item}
 use Rattle.css_model.specs.declared.sheet.Item.TheVariants.{Rule}
 use Rattle.css_model.specs.Sheets.RuleParts.{RuleParts}
 use Rattle.order_laws.specs.Edits.{Edit}
-use Rattle.rule_tables.specs.Tables.{CanBePartners, labelled, with_label}
+use Rattle.rule_tables.specs.Tables.{CanBePartners, order_keyed, with_order_key}
 use Rattle.step_laws.specs.declared.step.Step.{Step}
 use Rattle.step_laws.specs.Steps.{IsStep, first_item, last_item}
 
@@ -19,12 +19,12 @@ StepsHavePartners = (items : List Item) (k : Step) (e : Edit) (upper lower : Rul
     slice_get items (first_item k) ≡ Some (Rule upper) → slice_get items (last_item k) ≡ Some (Rule lower) → HasParts upper →
     CanBePartners upper lower × CanBePartners lower upper
 
--- A rule among items is one of the labelled rules, with the label of its item.
-abbrev pub RulesAreLabelled : Type 0
-RulesAreLabelled = (items : List Item) (labels : List ℕ) (n : ℕ) (r : RuleParts) (label : ℕ) → slice_get items n ≡ Some (Rule r) → slice_get labels n ≡ Some label →
-    Contains (labelled items labels) (with_label r label)
+-- A rule among items is one of the rules with order keys, with the order key of its item.
+abbrev pub RulesAreOrderKeyed : Type 0
+RulesAreOrderKeyed = (items : List Item) (order_keys : List ℕ) (n : ℕ) (r : RuleParts) (order_key : ℕ) → slice_get items n ≡ Some (Rule r) → slice_get order_keys n ≡ Some order_key →
+    Contains (order_keyed items order_keys) (with_order_key r order_key)
 
--- And each labelled rule is one of them.
-abbrev pub LabelledRulesStand : Type 0
-LabelledRulesStand = (items : List Item) (labels : List ℕ) (r : RuleParts) (label : ℕ) → Contains (labelled items labels) (with_label r label) →
-    (n : ℕ) × (slice_get items n ≡ Some (Rule r)) × (slice_get labels n ≡ Some label)
+-- And each rule with its order key is one of them.
+abbrev pub OrderKeyedRulesStand : Type 0
+OrderKeyedRulesStand = (items : List Item) (order_keys : List ℕ) (r : RuleParts) (order_key : ℕ) → Contains (order_keyed items order_keys) (with_order_key r order_key) →
+    (n : ℕ) × (slice_get items n ≡ Some (Rule r)) × (slice_get order_keys n ≡ Some order_key)

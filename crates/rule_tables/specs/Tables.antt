@@ -19,43 +19,43 @@ pub record TableParts : Type 0 where
   pub selectors : List Entry
   pub decls : List Entry
 
--- a rule, and its label
-pub record Labelled : Type 0 where
+-- a rule, and its order key
+pub record OrderKeyed : Type 0 where
   pub rule : RuleParts
-  pub label : ℕ
+  pub order_key : ℕ
 
-abbrev pub with_label : RuleParts → ℕ → Labelled
-with_label r label = record { rule = r; label = label }
+abbrev pub with_order_key : RuleParts → ℕ → OrderKeyed
+with_order_key r order_key = record { rule = r; order_key = order_key }
 
--- the rules among items, with the labels of these items
-abbrev pub labelled : List Item → List ℕ → List Labelled
-labelled [] labels = []
-labelled (x ∷ items) [] = []
-labelled (Rule r ∷ items) (label ∷ labels) = with_label r label ∷ labelled items labels
-labelled (KeptRule k ∷ items) (label ∷ labels) = labelled items labels
-labelled (KeptBlock piece ∷ items) (label ∷ labels) = labelled items labels
+-- the rules among items, with the order keys of these items
+abbrev pub order_keyed : List Item → List ℕ → List OrderKeyed
+order_keyed [] order_keys = []
+order_keyed (x ∷ items) [] = []
+order_keyed (Rule r ∷ items) (order_key ∷ order_keys) = with_order_key r order_key ∷ order_keyed items order_keys
+order_keyed (KeptRule k ∷ items) (order_key ∷ order_keys) = order_keyed items order_keys
+order_keyed (KeptBlock piece ∷ items) (order_key ∷ order_keys) = order_keyed items order_keys
 
 -- the entries of a rule by its selectors, and by its declarations
-abbrev pub entries_by_selector : Labelled → List Entry
-entries_by_selector x = selector_entries x.label x.rule.selectors
+abbrev pub entries_by_selector : OrderKeyed → List Entry
+entries_by_selector x = selector_entries x.order_key x.rule.selectors
 
-abbrev pub entries_by_decl : Labelled → List Entry
-entries_by_decl x = decl_entries x.label x.rule.decls
+abbrev pub entries_by_decl : OrderKeyed → List Entry
+entries_by_decl x = decl_entries x.order_key x.rule.decls
 
--- The tables stand for rules: a label stands under a digest exactly where a rule with this label has a part with
+-- The tables stand for rules: an order key stands under a digest exactly where a rule with this order key has a part with
 -- this digest.
-pub record StandFor (tables : TableParts) (rules : List Labelled) : Type 0 where
+pub record StandFor (tables : TableParts) (rules : List OrderKeyed) : Type 0 where
   pub selectors : (e : Entry) → Contains tables.selectors e ↔ Contains (flat_map entries_by_selector rules) e
   pub decls : (e : Entry) → Contains tables.decls e ↔ Contains (flat_map entries_by_decl rules) e
 
 -- The tables cover rules: they have the entries of each, and may have others.
-pub record Cover (tables : TableParts) (rules : List Labelled) : Type 0 where
+pub record Cover (tables : TableParts) (rules : List OrderKeyed) : Type 0 where
   pub selectors : (e : Entry) → Contains (flat_map entries_by_selector rules) e → Contains tables.selectors e
   pub decls : (e : Entry) → Contains (flat_map entries_by_decl rules) e → Contains tables.decls e
 
--- none of these rules has the label
-abbrev pub HaveOtherLabels : List Labelled → ℕ → Type 0
-HaveOtherLabels rules label = (x : Labelled) → Contains rules x → x.label ≢ label
+-- none of these rules has the order key
+abbrev pub HaveOtherOrderKeys : List OrderKeyed → ℕ → Type 0
+HaveOtherOrderKeys rules order_key = (x : OrderKeyed) → Contains rules x → x.order_key ≢ order_key
 
 -- ---- Partners
 
@@ -70,48 +70,48 @@ selector_digests selectors = map (λ s. selector_digest s.selector) selectors
 abbrev pub decl_digests : List DeclItem → List ℕ
 decl_digests decls = map (λ d. decl_digest d.decl) decls
 
--- a label stands under one of these digests
+-- an order key stands under one of these digests
 abbrev pub IsUnderOne : List Entry → List ℕ → ℕ → Type 0
-IsUnderOne entries digests label = (digest : ℕ) × Contains digests digest × Contains entries (entry digest label)
+IsUnderOne entries digests order_key = (digest : ℕ) × Contains digests digest × Contains entries (entry digest order_key)
 
--- a label stands under the digest of a part of a rule
+-- an order key stands under the digest of a part of a rule
 abbrev pub IsUnderPart : TableParts → RuleParts → ℕ → Type 0
-IsUnderPart tables r label = IsUnderOne tables.selectors (selector_digests r.selectors) label ⊎ IsUnderOne tables.decls (decl_digests r.decls) label
+IsUnderPart tables r order_key = IsUnderOne tables.selectors (selector_digests r.selectors) order_key ⊎ IsUnderOne tables.decls (decl_digests r.decls) order_key
 
 -- ---- While partners are found
 
--- a label stands under each of these digests, of which there is one
+-- an order key stands under each of these digests, of which there is one
 abbrev pub IsUnderEach : List Entry → List ℕ → ℕ → Type 0
-IsUnderEach entries digests label = ((digest : ℕ) × Contains digests digest) × ((digest : ℕ) → Contains digests digest → Contains entries (entry digest label))
+IsUnderEach entries digests order_key = ((digest : ℕ) × Contains digests digest) × ((digest : ℕ) → Contains digests digest → Contains entries (entry digest order_key))
 
--- the new set of labels has the old ones, those that stand under each of these digests, and none that stands under none
+-- the new set of order keys has the old ones, those that stand under each of these digests, and none that stands under none
 pub record PutsShared (entries : List Entry) (digests old new : List ℕ) : Type 0 where
-  pub keeps : (label : ℕ) → Contains old label → Contains new label
-  pub shared : (label : ℕ) → IsUnderEach entries digests label → Contains new label
-  pub only : (label : ℕ) → Contains new label → Contains old label ⊎ IsUnderOne entries digests label
+  pub keeps : (order_key : ℕ) → Contains old order_key → Contains new order_key
+  pub shared : (order_key : ℕ) → IsUnderEach entries digests order_key → Contains new order_key
+  pub only : (order_key : ℕ) → Contains new order_key → Contains old order_key ⊎ IsUnderOne entries digests order_key
 
--- the new set of labels has the old ones and those that stand under one of these digests
+-- the new set of order keys has the old ones and those that stand under one of these digests
 abbrev pub PutsUnderOne : List Entry → List ℕ → List ℕ → List ℕ → Type 0
-PutsUnderOne entries digests old new = (label : ℕ) → Contains new label ↔ (Contains old label ⊎ IsUnderOne entries digests label)
+PutsUnderOne entries digests old new = (order_key : ℕ) → Contains new order_key ↔ (Contains old order_key ⊎ IsUnderOne entries digests order_key)
 
 -- ---- Changes of both tables
 
 -- the new tables have the old entries and those of these rules
-pub record PutsRules (old : TableParts) (rules : List Labelled) (new : TableParts) : Type 0 where
+pub record PutsRules (old : TableParts) (rules : List OrderKeyed) (new : TableParts) : Type 0 where
   pub selectors : Puts old.selectors (flat_map entries_by_selector rules) new.selectors
   pub decls : Puts old.decls (flat_map entries_by_decl rules) new.decls
 
 -- and those of one rule
-pub record PutsRule (old : TableParts) (r : RuleParts) (label : ℕ) (new : TableParts) : Type 0 where
-  pub selectors : Puts old.selectors (selector_entries label r.selectors) new.selectors
-  pub decls : Puts old.decls (decl_entries label r.decls) new.decls
+pub record PutsRule (old : TableParts) (r : RuleParts) (order_key : ℕ) (new : TableParts) : Type 0 where
+  pub selectors : Puts old.selectors (selector_entries order_key r.selectors) new.selectors
+  pub decls : Puts old.decls (decl_entries order_key r.decls) new.decls
 
 -- some of one rule
-pub record PutsSomeOf (old : TableParts) (r : RuleParts) (label : ℕ) (new : TableParts) : Type 0 where
-  pub selectors : PutsSome old.selectors (selector_entries label r.selectors) new.selectors
-  pub decls : PutsSome old.decls (decl_entries label r.decls) new.decls
+pub record PutsSomeOf (old : TableParts) (r : RuleParts) (order_key : ℕ) (new : TableParts) : Type 0 where
+  pub selectors : PutsSome old.selectors (selector_entries order_key r.selectors) new.selectors
+  pub decls : PutsSome old.decls (decl_entries order_key r.decls) new.decls
 
--- the new tables have the old entries but those of this rule with this label
-pub record TakesRule (old : TableParts) (r : RuleParts) (label : ℕ) (new : TableParts) : Type 0 where
-  pub selectors : TakesOut old.selectors (selector_entries label r.selectors) new.selectors
-  pub decls : TakesOut old.decls (decl_entries label r.decls) new.decls
+-- the new tables have the old entries but those of this rule with this order key
+pub record TakesRule (old : TableParts) (r : RuleParts) (order_key : ℕ) (new : TableParts) : Type 0 where
+  pub selectors : TakesOut old.selectors (selector_entries order_key r.selectors) new.selectors
+  pub decls : TakesOut old.decls (decl_entries order_key r.decls) new.decls

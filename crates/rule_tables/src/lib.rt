@@ -3,22 +3,22 @@
 
 mod digests;
 mod entries;
-mod label_lists;
-mod labels;
 mod laws;
 mod losing;
 mod members;
+mod order_key_lists;
+mod order_keys;
 mod pairs;
 mod partners;
 mod tables;
 
 pub use digests::{decl_digest, decl_digests, selector_digest, selector_digests};
-pub use labels::Labels;
 pub use laws::{
-    decl_cuts_are_told, labelled_rules_stand, rules_are_labelled, selector_cuts_are_told,
+    decl_cuts_are_told, order_keyed_rules_stand, rules_are_order_keyed, selector_cuts_are_told,
     steps_have_partners,
 };
 pub use losing::{can_lose_decl, can_lose_selector};
 pub use members::has_both;
-pub use pairs::LabelledRules;
+pub use order_keys::OrderKeys;
+pub use pairs::OrderKeyedRules;
 pub use tables::Tables;

@@ -1,4 +1,4 @@
-//! Whether a rule can lose a part: whether the part is in the rule again, or all its pairs are in rules with other labels.
+//! Whether a rule can lose a part: whether the part is in the rule again, or all its pairs are in rules with other order keys.
 
 ghost use Rattle.std.specs.Prelude.{◌≡◌, ◌↔◌, IsTrue, map, true};
 ghost use Rattle.std.specs.List.{Contains};
@@ -9,12 +9,12 @@ ghost use Rattle.rule_tables.specs.Pairs as pairs;
 ghost use Rattle.rule_tables.specs.Tables as spec;
 
 use crate::members::{is_decl_again, is_selector_again};
-use crate::pairs::LabelledRules;
+use crate::pairs::OrderKeyedRules;
 use crate::tables::Tables;
 use css_model::{Decl, DeclItem, Rule, SelItem, Selector};
 
-/// Whether each of the selectors is with the declaration in a rule with another label than `own`.
-fn all_stand_with_decl<R: LabelledRules>(
+/// Whether each of the selectors is with the declaration in a rule with another order key than `own`.
+fn all_stand_with_decl<R: OrderKeyedRules>(
     tables: &Tables,
     rules: &R,
     own: u64,
@@ -34,8 +34,8 @@ fn all_stand_with_decl<R: LabelledRules>(
     true
 }
 
-/// Whether each of the declarations is with the selector in a rule with another label than `own`.
-fn all_stand_with_selector<R: LabelledRules>(
+/// Whether each of the declarations is with the selector in a rule with another order key than `own`.
+fn all_stand_with_selector<R: OrderKeyedRules>(
     tables: &Tables,
     rules: &R,
     own: u64,
@@ -55,11 +55,11 @@ fn all_stand_with_selector<R: LabelledRules>(
     true
 }
 
-/// Whether a rule with the label `own` can lose its declaration of this number, from 0: whether it has the declaration
-/// again, or each of its selectors is with the declaration in one of these rules that has another label. The tables cover
+/// Whether a rule with the order key `own` can lose its declaration of this number, from 0: whether it has the declaration
+/// again, or each of its selectors is with the declaration in one of these rules that has another order key. The tables cover
 /// the rules. `once` says that the rule is known to have the declaration once. It takes no memory. The time is that of the
 /// declarations of the rule, and of the rules with this declaration.
-pub fn can_lose_decl<R: LabelledRules>(
+pub fn can_lose_decl<R: OrderKeyedRules>(
     tables: &Tables,
     rules: &R,
     own: u64,
@@ -80,11 +80,11 @@ pub fn can_lose_decl<R: LabelledRules>(
     all_stand_with_decl(tables, rules, own, &rule.selectors, &lost.decl)
 }
 
-/// Whether a rule with the label `own` can lose its selector of this number, from 0: whether it has the selector again, or
-/// each of its declarations is with the selector in one of these rules that has another label. The tables cover the rules.
+/// Whether a rule with the order key `own` can lose its selector of this number, from 0: whether it has the selector again, or
+/// each of its declarations is with the selector in one of these rules that has another order key. The tables cover the rules.
 /// `once` says that the rule is known to have the selector once. It takes no memory. The time is that of the selectors of the
 /// rule, and of the rules with this selector.
-pub fn can_lose_selector<R: LabelledRules>(
+pub fn can_lose_selector<R: OrderKeyedRules>(
     tables: &Tables,
     rules: &R,
     own: u64,

@@ -1,16 +1,16 @@
-//! Labels of the rules that have parts in common with a rule.
+//! Order keys of the rules that have parts in common with a rule.
 
 ghost use Rattle.std.specs.Prelude.{◌≡◌, ◌≢◌, [], ℕ, Decides, IfOk, IfSome, IsTrue, OnOk};
 ghost use Rattle.std.specs.List.{Contains};
 ghost use Rattle.std.specs.List.Sorted.{IsStrictlyIncreasing};
 ghost use Rattle.css_model.specs.declared.sheet.SelItem.{SelItem};
 ghost use Rattle.rule_tables.specs.Entries.{HaveSameMembers, Puts};
-ghost use Rattle.rule_tables.specs.Labels.{labels_of};
+ghost use Rattle.rule_tables.specs.OrderKeys.{order_keys_of};
 ghost use Rattle.rule_tables.specs.Tables as spec;
 
 use crate::digests::{decl_digest, decl_digests, selector_digest};
-use crate::label_lists::{LabelLists, has_no_other, shorter};
-use crate::labels::Labels;
+use crate::order_key_lists::{OrderKeyLists, has_no_other, shorter};
+use crate::order_keys::OrderKeys;
 use css_model::{DeclItem, SelItem};
 use std::alloc::{AllocError, Global};
 
@@ -25,8 +25,11 @@ fn first_few(selectors: &[SelItem]) -> &[SelItem]
     &selectors[..FEW.min(selectors.len())]
 }
 
-/// The labels under the digest of one of the first selectors: those that are under all of them, and maybe others.
-pub(crate) fn labels_of_selectors<'a>(entries: &'a LabelLists, selectors: &[SelItem]) -> &'a [u64]
+/// The order keys under the digest of one of the first selectors: those that are under all of them, and maybe others.
+pub(crate) fn order_keys_of_selectors<'a>(
+    entries: &'a OrderKeyLists,
+    selectors: &[SelItem],
+) -> &'a [u64]
     ensures ascends { IsStrictlyIncreasing result.now }
     ensures shared { spec.PutsShared entries.now (spec.selector_digests selectors.now) [] result.now }
 {
@@ -42,9 +45,9 @@ pub(crate) fn labels_of_selectors<'a>(entries: &'a LabelLists, selectors: &[SelI
     found
 }
 
-/// Whether no other label than this one is under the digests of selectors. It is not looked for where there are many.
-pub(crate) fn have_no_others(entries: &LabelLists, selectors: &[SelItem], own: u64) -> bool
-    ensures { IsTrue result → (label : ℕ) → spec.IsUnderOne entries.now (spec.selector_digests selectors.now) label → label ≡ own }
+/// Whether no other order key than this one is under the digests of selectors. It is not looked for where there are many.
+pub(crate) fn have_no_others(entries: &OrderKeyLists, selectors: &[SelItem], own: u64) -> bool
+    ensures { IsTrue result → (order_key : ℕ) → spec.IsUnderOne entries.now (spec.selector_digests selectors.now) order_key → order_key ≡ own }
 {
     if selectors.len() > FEW {
         return false;
@@ -59,35 +62,35 @@ pub(crate) fn have_no_others(entries: &LabelLists, selectors: &[SelItem], own: u
     true
 }
 
-/// Puts labels after the others.
-fn put_labels(found: &mut Vec<u64>, labels: &[u64]) -> Result<(), AllocError>
-    ensures { OnOk result (Puts found.old.items labels.now found.new.items) }
+/// Puts order keys after the others.
+fn put_order_keys(found: &mut Vec<u64>, order_keys: &[u64]) -> Result<(), AllocError>
+    ensures { OnOk result (Puts found.old.items order_keys.now found.new.items) }
 {
-    found.extend_from_slice(labels)
+    found.extend_from_slice(order_keys)
 }
 
-/// Puts in labels that are under digests of selectors: at least those that are under all of them.
+/// Puts in order keys that are under digests of selectors: at least those that are under all of them.
 pub(crate) fn put_shared(
     found: &mut Vec<u64>,
-    entries: &LabelLists,
+    entries: &OrderKeyLists,
     selectors: &[SelItem],
 ) -> Result<(), AllocError>
     ensures { OnOk result (spec.PutsShared entries.now (spec.selector_digests selectors.now) found.old.items found.new.items) }
 {
-    put_labels(found, labels_of_selectors(entries, selectors))
+    put_order_keys(found, order_keys_of_selectors(entries, selectors))
 }
 
-/// Puts in the labels that are under one of these digests.
+/// Puts in the order keys that are under one of these digests.
 fn put_under_each(
     found: &mut Vec<u64>,
-    entries: &LabelLists,
+    entries: &OrderKeyLists,
     digests: &[u32],
 ) -> Result<(), AllocError>
     ensures { OnOk result (spec.PutsUnderOne entries.now digests.now found.old.items found.new.items) }
 {
     let mut rest = digests;
     'rest: while let Some((first, behind)) = rest.split_first() {
-        put_labels(found, entries.under(*first))?;
+        put_order_keys(found, entries.under(*first))?;
         rest = behind;
     }
     Ok(())
@@ -102,11 +105,11 @@ fn each_once(mut digests: Vec<u32>) -> Vec<u32>
     digests
 }
 
-/// Puts in the labels that are under the digest of one of these declarations. Each digest is looked for once.
+/// Puts in the order keys that are under the digest of one of these declarations. Each digest is looked for once.
 pub(crate) fn put_under_decls(
     alloc: Global,
     found: &mut Vec<u64>,
-    entries: &LabelLists,
+    entries: &OrderKeyLists,
     decls: &[DeclItem],
 ) -> Result<(), AllocError>
     ensures { OnOk result (spec.PutsUnderOne entries.now (spec.decl_digests decls.now) found.old.items found.new.items) }
@@ -115,7 +118,7 @@ pub(crate) fn put_under_decls(
     put_under_each(found, entries, &digests)
 }
 
-/// The same labels, each once, ascending. They are a few lists that ascend, one after the other, which a stable sort
+/// The same order keys, each once, ascending. They are a few lists that ascend, one after the other, which a stable sort
 /// finds.
 pub(crate) fn in_order(mut found: Vec<u64>) -> Result<Vec<u64>, AllocError>
     ensures ascends { IfOk result (λ list. IsStrictlyIncreasing list.items) }
@@ -127,16 +130,16 @@ pub(crate) fn in_order(mut found: Vec<u64>) -> Result<Vec<u64>, AllocError>
 }
 
 /// Whether two lists are the same.
-fn are_same(labels: &[u64], others: &[u64]) -> bool
-    ensures { Decides result (labels.now ≡ others.now) }
+fn are_same(order_keys: &[u64], others: &[u64]) -> bool
+    ensures { Decides result (order_keys.now ≡ others.now) }
 {
-    labels == others
+    order_keys == others
 }
 
-/// The labels under the digest of each of these declarations, where they are the same for all.
-fn labels_alike<'a>(entries: &'a LabelLists, decls: &[DeclItem]) -> Option<&'a [u64]>
-    ensures ascends { IfSome result (λ labels. IsStrictlyIncreasing labels.now) }
-    ensures under { IfSome result (λ labels. spec.PutsUnderOne entries.now (spec.decl_digests decls.now) [] labels.now) }
+/// The order keys under the digest of each of these declarations, where they are the same for all.
+fn order_keys_alike<'a>(entries: &'a OrderKeyLists, decls: &[DeclItem]) -> Option<&'a [u64]>
+    ensures ascends { IfSome result (λ order_keys. IsStrictlyIncreasing order_keys.now) }
+    ensures under { IfSome result (λ order_keys. spec.PutsUnderOne entries.now (spec.decl_digests decls.now) [] order_keys.now) }
 {
     let Some((first, behind)) = decls.split_first() else {
         return Some(&[]);
@@ -152,20 +155,20 @@ fn labels_alike<'a>(entries: &'a LabelLists, decls: &[DeclItem]) -> Option<&'a [
     Some(found)
 }
 
-/// The labels under the digest of one of these declarations, ascending. It takes no memory where the declarations have
+/// The order keys under the digest of one of these declarations, ascending. It takes no memory where the declarations have
 /// all the same.
-pub(crate) fn labels_of_decls<'a>(
+pub(crate) fn order_keys_of_decls<'a>(
     alloc: Global,
-    entries: &'a LabelLists,
+    entries: &'a OrderKeyLists,
     decls: &[DeclItem],
-) -> Result<Labels<'a>, AllocError>
-    ensures ascends { IfOk result (λ l. IsStrictlyIncreasing (labels_of l)) }
-    ensures under { IfOk result (λ l. spec.PutsUnderOne entries.now (spec.decl_digests decls.now) [] (labels_of l)) }
+) -> Result<OrderKeys<'a>, AllocError>
+    ensures ascends { IfOk result (λ l. IsStrictlyIncreasing (order_keys_of l)) }
+    ensures under { IfOk result (λ l. spec.PutsUnderOne entries.now (spec.decl_digests decls.now) [] (order_keys_of l)) }
 {
-    if let Some(labels) = labels_alike(entries, decls) {
-        return Ok(Labels::Under(labels));
+    if let Some(order_keys) = order_keys_alike(entries, decls) {
+        return Ok(OrderKeys::Under(order_keys));
     }
     let mut found = Vec::new(alloc);
     put_under_decls(alloc, &mut found, entries, decls)?;
-    Ok(Labels::Made(in_order(found)?))
+    Ok(OrderKeys::Made(in_order(found)?))
 }

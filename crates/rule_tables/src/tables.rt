@@ -6,30 +6,31 @@ ghost use Rattle.std.specs.List.Sorted.{IsStrictlyIncreasing};
 ghost use Rattle.css_model.specs.declared.sheet.Decl.{Decl};
 ghost use Rattle.css_model.specs.Documents.SelectorParts.{SelectorParts};
 ghost use Rattle.css_model.specs.Sheets.StyleRule.{HaveSameSelectors, selectors_of};
-ghost use Rattle.rule_tables.specs.Labels.{labels_of};
+ghost use Rattle.rule_tables.specs.OrderKeys.{order_keys_of};
 ghost use Rattle.rule_tables.specs.Pairs as pairs;
 ghost use Rattle.rule_tables.specs.Tables as spec;
 ghost use Rattle.step_laws.specs.Steps.{decls_of};
 
 use crate::digests::{decl_digest, selector_digest};
 use crate::entries::{put_decls, put_selectors, take_decls, take_selectors};
-use crate::label_lists::{LabelLists, has_no_other};
-use crate::labels::Labels;
-use crate::pairs::{LabelledRules, is_pair_in_both, is_pair_soon};
+use crate::order_key_lists::{OrderKeyLists, has_no_other};
+use crate::order_keys::OrderKeys;
+use crate::pairs::{OrderKeyedRules, is_pair_in_both, is_pair_soon};
 use crate::partners::{
-    have_no_others, in_order, labels_of_decls, labels_of_selectors, put_shared, put_under_decls,
+    have_no_others, in_order, order_keys_of_decls, order_keys_of_selectors, put_shared,
+    put_under_decls,
 };
 use css_model::{Decl, Item, Rule, Selector};
 use std::alloc::{AllocError, Global};
 use std::marker::Model;
 
-/// The rules of a sheet by the digests of their selectors and of their declarations. Each rule has a label of its own.
+/// The rules of a sheet by the digests of their selectors and of their declarations. Each rule has an order key of its own.
 /// Entries of rules that are gone may stay, since each rule that is found is tested. Whoever takes a rule out of the
 /// sheet takes its entries out by `remove`: what stays makes each look longer.
 #[derive(Debug, Drop)]
 pub struct Tables {
-    selectors: LabelLists,
-    decls: LabelLists,
+    selectors: OrderKeyLists,
+    decls: OrderKeyLists,
 }
 
 impl Model for Tables {
@@ -41,84 +42,84 @@ impl Model for Tables {
 }
 
 impl Tables {
-    /// Tables of the rules among these items, which have these labels. `AllocError` where memory is short.
-    pub fn new(alloc: Global, items: &[Item], labels: &[u64]) -> Result<Tables, AllocError>
-        ensures exact { IfOk result (λ tables. spec.StandFor tables (spec.labelled items.now labels.now)) }
-        ensures covers { IfOk result (λ tables. spec.Cover tables (spec.labelled items.now labels.now)) }
+    /// Tables of the rules among these items, which have these order keys. `AllocError` where memory is short.
+    pub fn new(alloc: Global, items: &[Item], order_keys: &[u64]) -> Result<Tables, AllocError>
+        ensures exact { IfOk result (λ tables. spec.StandFor tables (spec.order_keyed items.now order_keys.now)) }
+        ensures covers { IfOk result (λ tables. spec.Cover tables (spec.order_keyed items.now order_keys.now)) }
     {
         let mut tables = Tables {
-            selectors: LabelLists::new(alloc),
-            decls: LabelLists::new(alloc),
+            selectors: OrderKeyLists::new(alloc),
+            decls: OrderKeyLists::new(alloc),
         };
         let mut rest = items;
-        let mut rest_of_labels = labels;
+        let mut rest_of_order_keys = order_keys;
         'rest: while let Some((item, behind)) = rest.split_first() {
-            let Some((label, labels_behind)) = rest_of_labels.split_first() else {
+            let Some((order_key, order_keys_behind)) = rest_of_order_keys.split_first() else {
                 return Ok(tables);
             };
-            tables.put_item(item, *label)?;
+            tables.put_item(item, *order_key)?;
             rest = behind;
-            rest_of_labels = labels_behind;
+            rest_of_order_keys = order_keys_behind;
         }
         Ok(tables)
     }
 
     /// Puts the entries of an item in, if it is a rule. After an error some may be there.
-    fn put_item(&mut self, item: &Item, label: u64) -> Result<(), AllocError>
-        ensures { OnOk result (spec.PutsRules self.old (spec.labelled (item.now ∷ []) (label ∷ [])) self.new) }
+    fn put_item(&mut self, item: &Item, order_key: u64) -> Result<(), AllocError>
+        ensures { OnOk result (spec.PutsRules self.old (spec.order_keyed (item.now ∷ []) (order_key ∷ [])) self.new) }
     {
         match item {
-            Item::Rule(rule) => self.put_rule(rule, label),
+            Item::Rule(rule) => self.put_rule(rule, order_key),
             Item::KeptRule(_) | Item::KeptBlock(_) => Ok(()),
         }
     }
 
     /// Puts the entries of a rule in. After an error some may be there.
-    fn put_rule(&mut self, rule: &Rule, label: u64) -> Result<(), AllocError>
-        ensures ok { OnOk result (spec.PutsRule self.old rule.now label self.new) }
-        ensures err { OnErr result (spec.PutsSomeOf self.old rule.now label self.new) }
+    fn put_rule(&mut self, rule: &Rule, order_key: u64) -> Result<(), AllocError>
+        ensures ok { OnOk result (spec.PutsRule self.old rule.now order_key self.new) }
+        ensures err { OnErr result (spec.PutsSomeOf self.old rule.now order_key self.new) }
     {
-        put_selectors(&mut self.selectors, &rule.selectors, label)?;
-        put_decls(&mut self.decls, &rule.decls, label)
+        put_selectors(&mut self.selectors, &rule.selectors, order_key)?;
+        put_decls(&mut self.decls, &rule.decls, order_key)
     }
 
-    /// Puts a rule in with its label. What the tables cover they still cover, and the rule too. `AllocError` where
+    /// Puts a rule in with its order key. What the tables cover they still cover, and the rule too. `AllocError` where
     /// memory is short; then some of the rule's entries may be there.
-    pub fn insert(&mut self, rule: &Rule, label: u64) -> Result<(), AllocError>
-        ensures ok { OnOk result (spec.PutsRule self.old rule.now label self.new) }
-        ensures err { OnErr result (spec.PutsSomeOf self.old rule.now label self.new) }
-        ensures still { (rules : List spec.Labelled) → spec.Cover self.old rules → spec.Cover self.new rules }
-        ensures covers { OnOk result ((rules : List spec.Labelled) → spec.Cover self.old rules
-            → spec.Cover self.new (spec.with_label rule.now label ∷ rules)) }
+    pub fn insert(&mut self, rule: &Rule, order_key: u64) -> Result<(), AllocError>
+        ensures ok { OnOk result (spec.PutsRule self.old rule.now order_key self.new) }
+        ensures err { OnErr result (spec.PutsSomeOf self.old rule.now order_key self.new) }
+        ensures still { (rules : List spec.OrderKeyed) → spec.Cover self.old rules → spec.Cover self.new rules }
+        ensures covers { OnOk result ((rules : List spec.OrderKeyed) → spec.Cover self.old rules
+            → spec.Cover self.new (spec.with_order_key rule.now order_key ∷ rules)) }
     {
-        self.put_rule(rule, label)
+        self.put_rule(rule, order_key)
     }
 
-    /// Takes the entries of a rule with its label out, and no others. What the tables cover they still cover, where
-    /// none of it has the label.
-    pub fn remove(&mut self, rule: &Rule, label: u64)
-        ensures exact { spec.TakesRule self.old rule.now label self.new }
-        ensures still { (rules : List spec.Labelled) → spec.HaveOtherLabels rules label → spec.Cover self.old rules
+    /// Takes the entries of a rule with its order key out, and no others. What the tables cover they still cover, where
+    /// none of it has the order key.
+    pub fn remove(&mut self, rule: &Rule, order_key: u64)
+        ensures exact { spec.TakesRule self.old rule.now order_key self.new }
+        ensures still { (rules : List spec.OrderKeyed) → spec.HaveOtherOrderKeys rules order_key → spec.Cover self.old rules
             → spec.Cover self.new rules }
     {
-        take_selectors(&mut self.selectors, &rule.selectors, label);
-        take_decls(&mut self.decls, &rule.decls, label);
+        take_selectors(&mut self.selectors, &rule.selectors, order_key);
+        take_decls(&mut self.decls, &rule.decls, order_key);
     }
 
-    /// The labels of the rules that can be partners of a rule in a step of two rules, ascending. `AllocError` where
+    /// The order keys of the rules that can be partners of a rule in a step of two rules, ascending. `AllocError` where
     /// memory is short.
     ///
     /// - Of the rules that the tables cover, each is found that has the same selectors or a declaration in common.
     /// - None is found that is under no digest of a part of the rule.
-    /// - The rule's own label is among them, if the tables cover it.
-    /// - Labels of rules that are gone may be among them.
+    /// - The rule's own order key is among them, if the tables cover it.
+    /// - Order keys of rules that are gone may be among them.
     ///
     /// The time is that of the rule's parts and of what is found, each with a logarithm.
     pub fn partners(&self, alloc: Global, rule: &Rule) -> Result<Vec<u64>, AllocError>
         ensures ascends { IfOk result (λ found. IsStrictlyIncreasing found.items) }
-        ensures all { IfOk result (λ found. (rules : List spec.Labelled) (x : spec.Labelled) → spec.Cover self.now rules
-            → Contains rules x → spec.CanBePartners rule.now x.rule → Contains found.items x.label) }
-        ensures only { IfOk result (λ found. (label : ℕ) → Contains found.items label → spec.IsUnderPart self.now rule.now label) }
+        ensures all { IfOk result (λ found. (rules : List spec.OrderKeyed) (x : spec.OrderKeyed) → spec.Cover self.now rules
+            → Contains rules x → spec.CanBePartners rule.now x.rule → Contains found.items x.order_key) }
+        ensures only { IfOk result (λ found. (order_key : ℕ) → Contains found.items order_key → spec.IsUnderPart self.now rule.now order_key) }
     {
         let mut found = Vec::new(alloc);
         put_shared(&mut found, &self.selectors, &rule.selectors)?;
@@ -126,45 +127,45 @@ impl Tables {
         in_order(found)
     }
 
-    /// The labels, ascending, of the rules with the same selectors, and maybe of others that have a selector whose
+    /// The order keys, ascending, of the rules with the same selectors, and maybe of others that have a selector whose
     /// digest one of them has. At most eight digests are looked at. By its contract `AllocError` may come; today it
     /// takes no memory.
-    pub fn with_selectors(&self, _alloc: Global, rule: &Rule) -> Result<Labels<'_>, AllocError>
-        ensures ascends { IfOk result (λ l. IsStrictlyIncreasing (labels_of l)) }
-        ensures all { IfOk result (λ l. (rules : List spec.Labelled) (x : spec.Labelled) (s : SelectorParts) → spec.Cover self.now rules
+    pub fn with_selectors(&self, _alloc: Global, rule: &Rule) -> Result<OrderKeys<'_>, AllocError>
+        ensures ascends { IfOk result (λ l. IsStrictlyIncreasing (order_keys_of l)) }
+        ensures all { IfOk result (λ l. (rules : List spec.OrderKeyed) (x : spec.OrderKeyed) (s : SelectorParts) → spec.Cover self.now rules
             → Contains rules x → Contains (selectors_of rule.now) s → HaveSameSelectors rule.now x.rule
-            → Contains (labels_of l) x.label) }
-        ensures only { IfOk result (λ l. (label : ℕ) → Contains (labels_of l) label
-            → spec.IsUnderOne self.now.selectors (spec.selector_digests rule.now.selectors) label) }
+            → Contains (order_keys_of l) x.order_key) }
+        ensures only { IfOk result (λ l. (order_key : ℕ) → Contains (order_keys_of l) order_key
+            → spec.IsUnderOne self.now.selectors (spec.selector_digests rule.now.selectors) order_key) }
     {
-        Ok(Labels::Under(labels_of_selectors(&self.selectors, &rule.selectors)))
+        Ok(OrderKeys::Under(order_keys_of_selectors(&self.selectors, &rule.selectors)))
     }
 
-    /// The labels, ascending, of the rules that have one of the declarations, and maybe of others that have one with
+    /// The order keys, ascending, of the rules that have one of the declarations, and maybe of others that have one with
     /// the digest of one of them. `AllocError` where memory is short.
-    pub fn with_decl(&self, alloc: Global, rule: &Rule) -> Result<Labels<'_>, AllocError>
-        ensures ascends { IfOk result (λ l. IsStrictlyIncreasing (labels_of l)) }
-        ensures all { IfOk result (λ l. (rules : List spec.Labelled) (x : spec.Labelled) (d : Decl) → spec.Cover self.now rules
-            → Contains rules x → Contains (decls_of rule.now) d → Contains (decls_of x.rule) d → Contains (labels_of l) x.label) }
-        ensures only { IfOk result (λ l. (label : ℕ) → Contains (labels_of l) label
-            → spec.IsUnderOne self.now.decls (spec.decl_digests rule.now.decls) label) }
+    pub fn with_decl(&self, alloc: Global, rule: &Rule) -> Result<OrderKeys<'_>, AllocError>
+        ensures ascends { IfOk result (λ l. IsStrictlyIncreasing (order_keys_of l)) }
+        ensures all { IfOk result (λ l. (rules : List spec.OrderKeyed) (x : spec.OrderKeyed) (d : Decl) → spec.Cover self.now rules
+            → Contains rules x → Contains (decls_of rule.now) d → Contains (decls_of x.rule) d → Contains (order_keys_of l) x.order_key) }
+        ensures only { IfOk result (λ l. (order_key : ℕ) → Contains (order_keys_of l) order_key
+            → spec.IsUnderOne self.now.decls (spec.decl_digests rule.now.decls) order_key) }
     {
-        labels_of_decls(alloc, &self.decls, &rule.decls)
+        order_keys_of_decls(alloc, &self.decls, &rule.decls)
     }
 
-    /// Whether no other rule than that with the label `own` has one of the rule's selectors. The answer is no too where
+    /// Whether no other rule than that with the order key `own` has one of the rule's selectors. The answer is no too where
     /// the rule has more than eight, or where others have the digest of one.
     pub fn has_own_selectors(&self, rule: &Rule, own: u64) -> bool
-        ensures { result ≡ true → (rules : List spec.Labelled) (x : spec.Labelled) (s : SelectorParts) → spec.Cover self.now rules
-            → Contains rules x → x.label ≢ own → Contains (selectors_of rule.now) s → Contains (selectors_of x.rule) s → ⊥ }
+        ensures { result ≡ true → (rules : List spec.OrderKeyed) (x : spec.OrderKeyed) (s : SelectorParts) → spec.Cover self.now rules
+            → Contains rules x → x.order_key ≢ own → Contains (selectors_of rule.now) s → Contains (selectors_of x.rule) s → ⊥ }
     {
         have_no_others(&self.selectors, &rule.selectors, own)
     }
 
-    /// Whether a selector and a declaration are together in one of these rules that has another label than `own`. The
+    /// Whether a selector and a declaration are together in one of these rules that has another order key than `own`. The
     /// tables cover the rules. The time is that of the entries of the rarer one of the two digests; it is short where
     /// one of the first rules with the declaration has the selector.
-    pub fn is_elsewhere<R: LabelledRules>(
+    pub fn is_elsewhere<R: OrderKeyedRules>(
         &self,
         rules: &R,
         own: u64,

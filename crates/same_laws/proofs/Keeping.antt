@@ -95,7 +95,7 @@ kept_is_member items i item at kept =
     (Contains-append_right (map Paired (last_pairs items)) (map kept_member (kept_from 0 items)) (KeptAt i item)
     (map_has kept_member (kept_from 0 items) (kept_with i item) (subst (λ (n : ℕ). Contains (kept_from 0 items) (kept_with n item)) e (kept_has 0 items i item at kept))))
 
-listed_is_member : (items : List Item) (x : PlacedPair) → Contains (last_pairs items) x → Contains (members items) (Paired x)
+pub listed_is_member : (items : List Item) (x : PlacedPair) → Contains (last_pairs items) x → Contains (members items) (Paired x)
 listed_is_member items x h =
     order_has (map Paired (last_pairs items) ++ map kept_member (kept_from 0 items)) (Paired x)
     (Contains-append_left (map Paired (last_pairs items)) (map kept_member (kept_from 0 items)) (Paired x) (map_has Paired (last_pairs items) x h))
@@ -121,7 +121,7 @@ pub record PairMember (items : List Item) (p : Pair) : Type 0 where
   pub listed : Contains (last_pairs items) x
   pub is : x.pair ≡ p
 
-pair_member : ListedStandsLast → (items : List Item) (p : Pair) → HasPair items p → PairMember items p
+pub pair_member : ListedStandsLast → (items : List Item) (p : Pair) → HasPair items p → PairMember items p
 pair_member listed items p h =
     let w : (x : PlacedPair) × StandsLast (λ n. true) items x × (x.pair ≡ p) = stands_somewhere listed (λ n. true) items p h.0 h.1 refl in
     record { x = w.0; listed = (listed (λ n. true) items w.0).1 w.1; is = w.2 }
@@ -149,7 +149,7 @@ pairs_there listed s t p none h =
 meet_swap : (x y : SelectorParts) → Meet x y → Meet y x
 meet_swap x y m = record { doc = m.doc; target = m.target; legal = m.legal; first = m.second; second = m.first }
 
-says_apart : (p q : PairPlace) (answer : Answer) → found_by p q answer ≡ None → answer ≡ answers.Apart
+pub says_apart : (p q : PairPlace) (answer : Answer) → found_by p q answer ≡ None → answer ≡ answers.Apart
 says_apart p q answers.Apart h = refl
 says_apart p q (answers.Meet e) h = absurd (let f = h in cc)
 says_apart p q (answers.Outside reason number) h = absurd (let f = h in cc)

@@ -27,6 +27,9 @@ kept_rule_parts source k other k' h =
     let b : (pointwise same_decl k.decls k'.decls ≡ true) × ((k.reason == k'.reason) ≡ true) = and_parts (pointwise same_decl k.decls k'.decls) (k.reason == k'.reason) a.0 in
     ((pointwise_decides decl_decides k.decls k'.decls).0 b.0, (Decides-eqb k.reason k'.reason).0 b.1)
 
+pub kept_rule_text : (source : List ℕ) (k : KeptRuleParts) (other : List ℕ) (k' : KeptRuleParts) → same_rule source k other k' ≡ true → kept_text source k.piece ≡ kept_text other k'.piece
+kept_rule_text source k other k' h = text_is source k.piece other k'.piece (and_parts (same_parts k k') (same_text source k.piece other k'.piece) h).1
+
 rule_is : (source : List ℕ) (k : KeptRuleParts) (other : List ℕ) (k' : KeptRuleParts) → same_rule source k other k' ≡ true → content source (KeptRule k) ≡ content other (KeptRule k')
 rule_is source k other k' h =
     let a : (same_parts k k' ≡ true) × (same_text source k.piece other k'.piece ≡ true) = and_parts (same_parts k k') (same_text source k.piece other k'.piece) h in

@@ -1,3 +1,4 @@
+pub mod ForCallers
 mod Found
 mod Locating
 mod Printing

@@ -65,14 +65,9 @@ told_same : (source : List ℕ) (s : List Item) (other : List ℕ) (t : List Ite
 told_same source s other t c None text word h = is_same source s other t c text word h
 told_same source s other t c (Some number) text word (m, m', blocks, h) = is_same (text_at source m.body) m.sheet.items (text_at other m'.body) m'.sheet.items c text word h
 
-pub texts_win_alike : SameTextsWinAlike
-texts_win_alike source other pairs text compared word = record {
-  first_read = compared.first_read;
-  second_read = compared.second_read;
-  pairs = pairs;
-  true_list = compared.all_true;
-  compared = subst (λ (d : Difference). IsDifference pairs.answers source compared.first other compared.second d) none compared.is_difference;
-}
+-- where the word is told, nothing is found
+pub difference_is_nothing : (source other : List ℕ) (pairs : PairsParts) (text : List ℕ) (compared : AreCompared source other pairs text) → text ≡ codes "same\n" → compared.difference ≡ nothing
+difference_is_nothing source other pairs text compared word = which (located pairs.answers source compared.first other compared.second compared.difference compared.is_difference)
   where
     same : compared.difference.compared ≡ Same
     same = told_same source compared.first other compared.second compared.difference.compared compared.difference.body text word compared.told
@@ -81,12 +76,18 @@ texts_win_alike source other pairs text compared word = record {
     never None h = never_found pairs.answers source (opened_of compared.first source) compared.first other (opened_of compared.second other) compared.second h
     never (Some number) (m, m', blocks, h) = never_found pairs.answers (text_at source m.body) [] m.sheet.items (text_at other m'.body) [] m'.sheet.items h
 
-    none : compared.difference ≡ nothing
-    none = which (located pairs.answers source compared.first other compared.second compared.difference compared.is_difference)
-      where
-        which : (compared.difference ≡ nothing) ⊎ IsFoundThere pairs.answers source compared.first other compared.second compared.difference.body compared.difference.compared → compared.difference ≡ nothing
-        which (inl e) = e
-        which (inr h) = absurd (never compared.difference.body (subst (λ (c : Compared). IsFoundThere pairs.answers source compared.first other compared.second compared.difference.body c) same h))
+    which : (compared.difference ≡ nothing) ⊎ IsFoundThere pairs.answers source compared.first other compared.second compared.difference.body compared.difference.compared → compared.difference ≡ nothing
+    which (inl e) = e
+    which (inr h) = absurd (never compared.difference.body (subst (λ (c : Compared). IsFoundThere pairs.answers source compared.first other compared.second compared.difference.body c) same h))
+
+pub texts_win_alike : SameTextsWinAlike
+texts_win_alike source other pairs text compared word = record {
+  first_read = compared.first_read;
+  second_read = compared.second_read;
+  pairs = pairs;
+  true_list = compared.all_true;
+  compared = subst (λ (d : Difference). IsDifference pairs.answers source compared.first other compared.second d) (difference_is_nothing source other pairs text compared word) compared.is_difference;
+}
 
 -- ---- Two pairs in another order
 

@@ -208,3 +208,19 @@ order_stable z (m ∷ ms) = put_stable z m (in_order ms) ∙ ap (λ (ys : List M
 pub sorted_in_order : (ms sorted : List Member) → IsSortedBy less sorted → IsStableBy less ms sorted → sorted ≡ in_order ms
 sorted_in_order ms sorted up stable =
     one_list less less_order sorted (in_order ms) (sorted_ascends less less_order sorted up) (order_ascends ms) (λ z. stable z ∙ sym (order_stable z ms))
+
+-- none is behind one after it
+abbrev pub AreSorted : List Member → Type 0
+AreSorted [] = Unit {0}
+AreSorted (m ∷ ms) = AllByRecursion (λ x. is_behind m x ≡ false) ms × AreSorted ms
+
+none_behind : (ms : List Member) → Ascends less less_order ms → AreSorted ms
+none_behind [] up = tt
+none_behind (m ∷ ms) up = (all ms up.0, none_behind ms up.1)
+  where
+    all : (xs : List Member) → AllByRecursion (λ y. less y m ≡ false) xs → AllByRecursion (λ x. is_behind m x ≡ false) xs
+    all [] h = tt
+    all (x ∷ xs) h = (behind_is m x ∙ h.0, all xs h.1)
+
+pub order_sorted : (ms : List Member) → AreSorted (in_order ms)
+order_sorted ms = none_behind (in_order ms) (order_ascends ms)

@@ -14,8 +14,8 @@ use Rattle.css_model.specs.Sheets.RuleParts.{RuleParts}
 use Rattle.css_model.specs.Sheets.Sound.{IsSound, IsSoundRule}
 use Rattle.order_laws.specs.Edits.{Edit}
 use Rattle.rule_tables.specs.Entries.{Puts}
-use Rattle.rule_tables.specs.StepPartners.{HasParts, RulesAreLabelled, StepsHavePartners}
-use Rattle.rule_tables.specs.Tables.{CanBePartners, Cover, Labelled, TableParts, labelled, with_label}
+use Rattle.rule_tables.specs.StepPartners.{HasParts, RulesAreOrderKeyed, StepsHavePartners}
+use Rattle.rule_tables.specs.Tables.{CanBePartners, Cover, OrderKeyed, TableParts, order_keyed, with_order_key}
 use Rattle.step_candidates.specs.Numbered.{IsReady, numbered, numbers}
 use Rattle.step_candidates.specs.Saving.{AreSavingSteps, IsSavingStep}
 use Rattle.step_candidates.specs.Walking.{Adds, IsBelow, IsDeclCut, IsOf, IsSelectorCut, IsWithOne}
@@ -57,10 +57,10 @@ parts_small few tables source items ready n r at =
 
 -- the tables of a sheet's items and their numbers
 pub made_ready : (tables : TableParts) (source told : List ℕ) (items given given' : List Item) (list list' : List ℕ) → told ≡ source → given ≡ items → given' ≡ items → list ≡ numbers given → list' ≡ list →
-    Cover tables (labelled given' list') → IsSound source items → length items ≤ max_items → size source items ≤ max_bytes → IsReady tables told items
+    Cover tables (order_keyed given' list') → IsSound source items → length items ≤ max_items → size source items ≤ max_bytes → IsReady tables told items
 made_ready tables source told items given given' list list' same is is' are are' cover sound few short = record {
-  cover = subst (λ (xs : List Item). Cover tables (labelled xs (numbers items))) is'
-      (subst (λ (ns : List ℕ). Cover tables (labelled given' ns)) (are' ∙ are ∙ ap numbers is) cover);
+  cover = subst (λ (xs : List Item). Cover tables (order_keyed xs (numbers items))) is'
+      (subst (λ (ns : List ℕ). Cover tables (order_keyed given' ns)) (are' ∙ are ∙ ap numbers is) cover);
   sound = subst (λ (s : List ℕ). IsSound s items) (sym same) sound;
   few_items = few;
   short = subst (λ (s : List ℕ). size s items ≤ max_bytes) (sym same) short;
@@ -213,10 +213,10 @@ module _ (source : List ℕ) (items : List Item) where
       let is : IsSoundRule source r = rule_sound source items n r sound at in
       (nonempty r.selectors is.has_selectors, nonempty r.decls is.has_declarations)
 
-  pub whole_rule : (tables : TableParts) → IsReady tables source items → (number : ℕ) (r : RuleParts) → slice_get items number ≡ Some (Rule r) → (others : List ℕ) → StepsHavePartners → RulesAreLabelled →
-      ((rules : List Labelled) (x : Labelled) → Cover tables rules → Contains rules x → CanBePartners r x.rule → Contains others x.label) →
+  pub whole_rule : (tables : TableParts) → IsReady tables source items → (number : ℕ) (r : RuleParts) → slice_get items number ≡ Some (Rule r) → (others : List ℕ) → StepsHavePartners → RulesAreOrderKeyed →
+      ((rules : List OrderKeyed) (x : OrderKeyed) → Cover tables rules → Contains rules x → CanBePartners r x.rule → Contains others x.order_key) →
       (a b c : List Step) → Adds source items (IsOf number number) a b → Adds source items (IsWithOne number others) b c → Adds source items (λ k. first_item k ≡ number) a c
-  whole_rule tables ready number r at others partners labelled_are all a b c =
+  whole_rule tables ready number r at others partners order_keyed_are all a b c =
       adds_both (IsOf number number) (IsWithOne number others) (λ k. first_item k ≡ number) a b c (λ k first s. which k first s.edit s.step (cut_or_two k s.edit s.step))
     where
       which : (k : Step) → first_item k ≡ number → (e : Edit) → IsStep items k e → (last_item k ≡ first_item k) ⊎ (first_item k < last_item k) → IsOf number number k ⊎ IsWithOne number others k
@@ -228,8 +228,8 @@ module _ (source : List ℕ) (items : List Item) where
           inr (
             first,
             subst (λ (m : ℕ). m < last_item k) first order,
-            all (numbered items) (with_label lower.0 (last_item k)) ready.cover
-                (labelled_are items (numbers items) (last_item k) lower.0 (last_item k) lower.1 (number_there items (last_item k) (Rule lower.0) lower.1)) can,
+            all (numbered items) (with_order_key lower.0 (last_item k)) ready.cover
+                (order_keyed_are items (numbers items) (last_item k) lower.0 (last_item k) lower.1 (number_there items (last_item k) (Rule lower.0) lower.1)) can,
           )
 
   -- ---- All rules

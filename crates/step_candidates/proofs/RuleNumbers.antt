@@ -9,8 +9,8 @@ use Rattle.css_model.specs.declared.sheet.Item.TheVariants.{Rule}
 use Rattle.css_model.specs.Sheets.RuleParts.{RuleParts}
 use Rattle.cascade_laws.proofs.ForCallers.{some-same}
 use Rattle.rule_tables.specs.Cutting.{AreTold}
-use Rattle.rule_tables.specs.StepPartners.{LabelledRulesStand, RulesAreLabelled}
-use Rattle.rule_tables.specs.Tables.{with_label}
+use Rattle.rule_tables.specs.StepPartners.{OrderKeyedRulesStand, RulesAreOrderKeyed}
+use Rattle.rule_tables.specs.Tables.{with_order_key}
 use Rattle.step_candidates.specs.Numbered.{numbered, numbers}
 
 -- ---- Numbers
@@ -34,25 +34,25 @@ number_there items i item at = there_from 0 (length items) i (slice_get_within i
 pub told : (items : List Item) → AreTold items (numbers items)
 told items = record {
   beside = length-range_with_len 0 (length items);
-  once = λ i j label at at'. sym (number_is items i label at) ∙ number_is items j label at';
+  once = λ i j order_key at at'. sym (number_is items i order_key at) ∙ number_is items j order_key at';
 }
 
 -- ---- A number has one rule
 
-module _ (stand : LabelledRulesStand) (are_labelled : RulesAreLabelled) (items : List Item) (label : ℕ) where
-  at_number : (r : RuleParts) → Contains (numbered items) (with_label r label) → slice_get items label ≡ Some (Rule r)
+module _ (stand : OrderKeyedRulesStand) (are_order_keyed : RulesAreOrderKeyed) (items : List Item) (order_key : ℕ) where
+  at_number : (r : RuleParts) → Contains (numbered items) (with_order_key r order_key) → slice_get items order_key ≡ Some (Rule r)
   at_number r h =
-      let w : (n : ℕ) × (slice_get items n ≡ Some (Rule r)) × (slice_get (numbers items) n ≡ Some label) = stand items (numbers items) r label h in
-      ap (slice_get items) (number_is items w.0 label w.2) ∙ w.1
+      let w : (n : ℕ) × (slice_get items n ≡ Some (Rule r)) × (slice_get (numbers items) n ≡ Some order_key) = stand items (numbers items) r order_key h in
+      ap (slice_get items) (number_is items w.0 order_key w.2) ∙ w.1
 
-  pub the_rule : (q : RuleParts) → slice_get items label ≡ Some (Rule q) → (r : RuleParts) → Contains (numbered items) (with_label r label) ↔ (r ≡ q)
+  pub the_rule : (q : RuleParts) → slice_get items order_key ≡ Some (Rule q) → (r : RuleParts) → Contains (numbered items) (with_order_key r order_key) ↔ (r ≡ q)
   the_rule q at r = (
-    λ h. same (slice_get items label) (at_number r h) at,
-    λ e. subst (λ (p : RuleParts). Contains (numbered items) (with_label p label)) (sym e) (are_labelled items (numbers items) label q label at (number_there items label (Rule q) at)),
+    λ h. same (slice_get items order_key) (at_number r h) at,
+    λ e. subst (λ (p : RuleParts). Contains (numbered items) (with_order_key p order_key)) (sym e) (are_order_keyed items (numbers items) order_key q order_key at (number_there items order_key (Rule q) at)),
   )
     where
       same : (o : Option Item) → o ≡ Some (Rule r) → o ≡ Some (Rule q) → r ≡ q
       same o e f = cc
 
-  pub no_rule : ((r : RuleParts) → slice_get items label ≡ Some (Rule r) → ⊥) → (r : RuleParts) → Contains (numbered items) (with_label r label) → ⊥
+  pub no_rule : ((r : RuleParts) → slice_get items order_key ≡ Some (Rule r) → ⊥) → (r : RuleParts) → Contains (numbered items) (with_order_key r order_key) → ⊥
   no_rule none r h = none r (at_number r h)

@@ -1,15 +1,17 @@
-//! A sheet with tables of its rules. Each rule has its number as its label.
+//! A sheet with tables of its rules. Each rule has its number as its order key.
 
 ghost use Rattle.std.specs.Prelude.{◌≡◌, ◌↔◌, ◌≤◌, IfNone, IfOk, IfSome, Some, length, slice_get};
 ghost use Rattle.std.specs.List.{Contains};
 ghost use Rattle.css_model.specs.declared.sheet.Item.TheVariants as item;
 ghost use Rattle.css_model.specs.Sheets.Limits.{max_items};
 ghost use Rattle.css_model.specs.Sheets.RuleParts.{RuleParts};
-ghost use Rattle.rule_tables.specs.Tables.{with_label};
+ghost use Rattle.rule_tables.specs.Tables.{with_order_key};
 ghost use Rattle.step_candidates.specs.Numbered as spec;
 
 use css_model::{Decl, Item, Rule, Selector, Sheet};
-use rule_tables::{LabelledRules, Tables, has_both, labelled_rules_stand, rules_are_labelled};
+use rule_tables::{
+    OrderKeyedRules, Tables, has_both, order_keyed_rules_stand, rules_are_order_keyed,
+};
 use saved_bytes::KnownLengths;
 use std::alloc::{AllocError, Global};
 
@@ -48,23 +50,23 @@ pub(crate) fn find_rule(sheet: &Sheet, number: u64) -> Option<&Rule>
     }
 }
 
-/// Returns the rule with this label, or `None` if no rule has it.
-fn rule_with(sheet: &Sheet, label: u64) -> Option<&Rule>
-    ensures some { IfSome result (λ rule. (r : RuleParts) → Contains (spec.numbered sheet.now.items) (with_label r label) ↔ (r ≡ rule.now)) }
-    ensures none { IfNone result ((r : RuleParts) → Contains (spec.numbered sheet.now.items) (with_label r label) → ⊥) }
+/// Returns the rule with this order key, or `None` if no rule has it.
+fn rule_with(sheet: &Sheet, order_key: u64) -> Option<&Rule>
+    ensures some { IfSome result (λ rule. (r : RuleParts) → Contains (spec.numbered sheet.now.items) (with_order_key r order_key) ↔ (r ≡ rule.now)) }
+    ensures none { IfNone result ((r : RuleParts) → Contains (spec.numbered sheet.now.items) (with_order_key r order_key) → ⊥) }
 {
-    rules_are_labelled();
-    labelled_rules_stand();
-    find_rule(sheet, label)
+    rules_are_order_keyed();
+    order_keyed_rules_stand();
+    find_rule(sheet, order_key)
 }
 
-impl LabelledRules for Numbered<'_> {
+impl OrderKeyedRules for Numbered<'_> {
     ghost use Rattle.step_candidates.specs.Numbered as spec;
 
     ghost rules = { λ n. spec.numbered n.sheet.now.items };
 
-    fn has_pair(&self, label: u64, selector: &Selector, decl: &Decl) -> bool {
-        match rule_with(self.sheet, label) {
+    fn has_pair(&self, order_key: u64, selector: &Selector, decl: &Decl) -> bool {
+        match rule_with(self.sheet, order_key) {
             Some(rule) => has_both(rule, selector, decl),
             None => false,
         }

@@ -11,7 +11,7 @@ use crate::cuts::is_step_of;
 use crate::found::Found;
 use crate::numbered::{Numbered, find_rule};
 use css_model::Rule;
-use rule_tables::{rules_are_labelled, steps_have_partners};
+use rule_tables::{rules_are_order_keyed, steps_have_partners};
 use std::alloc::{AllocError, Global};
 use step_laws::{Step, parts_are_few};
 use step_savings::saving_by;
@@ -171,7 +171,7 @@ fn try_rule(
 {
     // Laws on partners. They do nothing.
     steps_have_partners();
-    rules_are_labelled();
+    rules_are_order_keyed();
     let Some(rule) = find_rule(on.sheet, u64::from(number)) else {
         return Ok(());
     };

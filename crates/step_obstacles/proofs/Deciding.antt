@@ -33,7 +33,7 @@ use Rattle.step_obstacles.specs.Blocked.{AllPass, AreAnswered, IsFound, IsTold}
 use Rattle.step_obstacles.specs.declared.facing.Source.{Source}
 use Rattle.step_obstacles.specs.StepWindow.{AreMoving, IsOfSource, IsToldBy, IsWindowFor}
 use Rattle.step_obstacles.specs.Turns.{OfItem, OfNumber, OfSelectors, OfWindow, is_common, pair_of, with_kept}
-use Rattle.plan_laws.specs.Wall.Holding.{Hindrance, OfPair, OfKept, Hinders}
+use Rattle.plan_laws.specs.Barrier.Hindering.{Hindrance, OfPair, OfKept, Hinders}
 use Rattle.plan_laws.specs.Window.StepWindows.{StepsHaveWindows, window_start, middle_start, first_left, last_left, first_part, middle_part, last_part}
 use Rattle.plan_laws.specs.Window.Windows.{IsWindow, WindowsTellPairs, WindowsTellKept}
 use Rattle.window_order.proofs.ForCallers.{at_range}

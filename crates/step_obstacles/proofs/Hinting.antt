@@ -34,7 +34,7 @@ use Rattle.step_obstacles.specs.Hinted.{FacesWithin, IsDeclOf, IsFirstOf}
 use Rattle.step_obstacles.specs.Known.{FacedStands}
 use Rattle.step_obstacles.specs.StepWindow.{IsOfSource, IsToldBy}
 use Rattle.step_obstacles.specs.Turns.{IsAskable, IsDeclAt, IsRuleAt, OfWindow, hindrance_of, is_common, pair_of}
-use Rattle.plan_laws.specs.Wall.Holding.{Hindrance}
+use Rattle.plan_laws.specs.Barrier.Hindering.{Hindrance}
 use Rattle.window_order.specs.declared.ends_known.KnownPair.{KnownPair}
 use Rattle.window_order.specs.declared.window.Window.{Window}
 use Rattle.window_order.specs.Places.{IsKnownPair, unknown}

@@ -9,7 +9,7 @@ use Rattle.overlap.specs.PairsParts.{Answered, PairsParts}
 use Rattle.sheet_order.specs.Allowing.{Stays}
 use Rattle.step_obstacles.specs.Among.{Among}
 use Rattle.step_obstacles.specs.Blocked.{AllPass, IsFound, IsTold, IsToldOf}
-use Rattle.plan_laws.specs.Wall.Holding.{Hindrance, OfPair, OfKept}
+use Rattle.plan_laws.specs.Barrier.Hindering.{Hindrance, OfPair, OfKept}
 use Rattle.window_order.specs.declared.window.Window.{Window}
 
 -- ---- Lists

@@ -29,7 +29,7 @@ use Rattle.step_obstacles.specs.Blocked.{AllPass, Crosses, IsFound, IsToldOf}
 use Rattle.step_obstacles.specs.declared.facing.Met.{Met}
 use Rattle.step_obstacles.specs.declared.facing.Source.{Source}
 use Rattle.step_obstacles.specs.Turns.{IsItemOf, IsMasked, IsMet, OfDecl, OfItem, OfSource, is_common, mask_in, pair_of, with_masks}
-use Rattle.plan_laws.specs.Wall.Holding.{OfPair}
+use Rattle.plan_laws.specs.Barrier.Hindering.{OfPair}
 use Rattle.window_order.specs.declared.window.Window.{Window}
 use Rattle.window_order.specs.Weighing.{DeclsWeigh}
 

@@ -32,7 +32,7 @@ use Rattle.step_obstacles.specs.declared.facing.Facing.{Facing}
 use Rattle.step_obstacles.specs.declared.facing.Facing.TheVariants as facing
 use Rattle.step_obstacles.specs.Known.{IsNoted}
 use Rattle.step_obstacles.specs.Turns.{Faces, IsAskable, IsDeclAt, MayWeigh, OfItem, OfRule, OfSelectors, hindrance_of, other_of, pair_of, specificities_of, with_kept}
-use Rattle.plan_laws.specs.Wall.Holding.{Hindrance, OfPair}
+use Rattle.plan_laws.specs.Barrier.Hindering.{Hindrance, OfPair}
 use Rattle.window_order.specs.Places.{IsKnownPair}
 use Rattle.window_order.specs.declared.ends_known.KnownPair.{KnownPair}
 use Rattle.window_order.specs.declared.window.Window.{Window}

@@ -18,7 +18,7 @@ use Rattle.step_obstacles.specs.Blocked.{AllPass, AreAnswered, Crosses, IsKeptIn
 use Rattle.step_obstacles.specs.declared.facing.Facing.{Facing}
 use Rattle.step_obstacles.specs.declared.facing.Facing.TheVariants as facing
 use Rattle.step_obstacles.specs.Turns.{Faces, MayWeigh, OfSelectors, hindrance_of, pair_of, with_kept}
-use Rattle.plan_laws.specs.Wall.Holding.{OfPair, OfKept}
+use Rattle.plan_laws.specs.Barrier.Hindering.{OfPair, OfKept}
 use Rattle.window_order.specs.declared.window.Window.{Window}
 use Rattle.window_order.specs.Reversed.{IsReversed, IsKeptReversed, kept_number}
 use Rattle.window_order.specs.Weighing.{DeclsWeigh}

@@ -23,7 +23,7 @@ use Rattle.step_obstacles.specs.declared.window_search.Span.{Span}
 use Rattle.step_obstacles.specs.Spans.{IsEnough, IsEnoughFor, IsWithin, OfSpan}
 use Rattle.step_obstacles.specs.StepWindow.{AreMoving, IsWindowFor}
 use Rattle.step_obstacles.specs.Turns.{OfSources, OfWindow}
-use Rattle.plan_laws.specs.Wall.Holding.{OfPair, OfKept}
+use Rattle.plan_laws.specs.Barrier.Hindering.{OfPair, OfKept}
 use Rattle.plan_laws.specs.Window.Beside.{ReversedStandBeside, beside_first, beside_end, beside_part}
 use Rattle.plan_laws.specs.Window.StepWindows.{window_start, middle_start}
 use Rattle.window_order.specs.declared.window.Window.{Window}

@@ -21,7 +21,7 @@ use Rattle.step_obstacles.specs.Blocked.{AllPass, Crosses}
 use Rattle.step_obstacles.specs.declared.facing.Source.{Source}
 use Rattle.step_obstacles.specs.StepWindow.{IsOfSource, IsToldBy}
 use Rattle.step_obstacles.specs.Turns.{OfWindow, pair_of}
-use Rattle.plan_laws.specs.Wall.Holding.{Hindrance, OfPair, OfKept}
+use Rattle.plan_laws.specs.Barrier.Hindering.{Hindrance, OfPair, OfKept}
 use Rattle.window_order.proofs.ForCallers.{stands_is}
 use Rattle.window_order.specs.declared.window.Window.{Window}
 use Rattle.window_order.specs.Reversed.{behind_of}

@@ -15,7 +15,7 @@ use Rattle.step_obstacles.proofs.Looking.{get_at, taken_more}
 use Rattle.step_obstacles.specs.Blocked.{AllPass, Crosses}
 use Rattle.step_obstacles.specs.declared.facing.Source.{Source}
 use Rattle.step_obstacles.specs.Turns.{HaveOneOf, IsMasked, ItemMayWeigh, OfSource, pair_of, specificities_of}
-use Rattle.plan_laws.specs.Wall.Holding.{OfPair}
+use Rattle.plan_laws.specs.Barrier.Hindering.{OfPair}
 use Rattle.window_order.specs.declared.window.Window.{Window}
 
 -- what is not the first of some is among those behind

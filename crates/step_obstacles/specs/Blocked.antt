@@ -10,7 +10,7 @@ use Rattle.overlap.specs.declared.answer.Answer.{Answer}
 use Rattle.overlap.specs.PairsParts.{Answered}
 use Rattle.overlap.specs.Remembered.{IsAnswered}
 use Rattle.sheet_order.specs.Laws.{is_apart}
-use Rattle.plan_laws.specs.Wall.Holding.{Hindrance, OfPair, OfKept}
+use Rattle.plan_laws.specs.Barrier.Hindering.{Hindrance, OfPair, OfKept}
 use Rattle.window_order.specs.declared.window.Window.{Window}
 use Rattle.window_order.specs.Reversed.{IsReversed, IsKeptReversed, kept_number}
 

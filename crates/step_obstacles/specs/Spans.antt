@@ -7,7 +7,7 @@ use Rattle.step_obstacles.specs.declared.facing.Source.{Source}
 use Rattle.step_obstacles.specs.declared.window_search.Span.{Span}
 use Rattle.step_obstacles.specs.StepWindow.{AreOf}
 use Rattle.step_obstacles.specs.Turns.{OfNumber, OfWindow}
-use Rattle.plan_laws.specs.Wall.Holding.{Hindrance}
+use Rattle.plan_laws.specs.Barrier.Hindering.{Hindrance}
 use Rattle.window_order.specs.declared.window.Window.{Window}
 
 -- a span lies in a window

@@ -29,7 +29,7 @@ use Rattle.step_obstacles.specs.declared.facing.MetRule.{MetRule}
 use Rattle.step_obstacles.specs.declared.facing.MovedDecl.{MovedDecl}
 use Rattle.step_obstacles.specs.declared.facing.Source.{Source}
 use Rattle.step_obstacles.specs.declared.window_search.Span.{Span}
-use Rattle.plan_laws.specs.Wall.Holding.{Hindrance, OfPair, OfKept}
+use Rattle.plan_laws.specs.Barrier.Hindering.{Hindrance, OfPair, OfKept}
 use Rattle.window_order.specs.declared.window.Window.{Window}
 use Rattle.window_order.specs.Weighing.{DeclsWeigh}
 

@@ -8,7 +8,7 @@ ghost use Rattle.sheet_order.specs.Laws.{is_apart};
 ghost use Rattle.step_obstacles.specs.Blocked.{AreAnswered, IsTold};
 ghost use Rattle.step_obstacles.specs.Known.{FacedStands};
 ghost use Rattle.step_obstacles.specs.Turns.{Faces, MayWeigh, hindrance_of};
-ghost use Rattle.plan_laws.specs.Wall.Holding.{OfPair};
+ghost use Rattle.plan_laws.specs.Barrier.Hindering.{OfPair};
 ghost use Rattle.window_order.specs.Places.{IsKnownPair};
 ghost use Rattle.window_order.specs.Weighing.{DeclsWeigh};
 

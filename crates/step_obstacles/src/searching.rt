@@ -9,14 +9,14 @@ ghost use Rattle.step_obstacles.specs.Blocked.{IsToldOf};
 ghost use Rattle.step_obstacles.specs.Among.{Among};
 ghost use Rattle.step_obstacles.specs.Known.{FacedStands, IsKnown, IsNoted};
 ghost use Rattle.step_obstacles.specs.Turns as turns;
-ghost use Rattle.plan_laws.specs.Wall.Holding.{OfPair};
+ghost use Rattle.plan_laws.specs.Barrier.Hindering.{OfPair};
 ghost use Rattle.window_order.specs.Weighing.{DeclsWeigh};
 
 use crate::answering::blocks;
 use crate::decl_masks::{mask_at, masks_in};
 use crate::facing::{DeclAt, Facing, Met, MetRule, MovedDecl, Source};
 use crate::known::{Known, note, noted};
-use crate::rule_parts::{decl_count, decl_of, selector_count, selector_of};
+use crate::numbered_parts::{decl_count, decl_of, selector_count, selector_of};
 use crate::selector_masks::selector_mask;
 use crate::specificities::{is_among, item_may_weigh, specificity_at, specificity_in_profile};
 use css_model::{Decl, Item, Rule};

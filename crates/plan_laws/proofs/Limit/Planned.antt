@@ -55,12 +55,12 @@ counted_all (KeptBlock piece ∷ items) all = let ih : pair_count items ≤ pair
 -- what steps lead to is made of the sheet, with no more pairs
 leads_made : (answers : List Answered) (source : List ℕ) (steps : ℕ) (old new : List Item) → IsMadeOf source old old → Leads answers source steps old new →
     IsMadeOf source old new × (pairs_once new ≤ pairs_once old)
-leads_made answers source zero old new made leads =
-    (subst (IsMadeOf source old) leads made, subst (λ (xs : List Item). pairs_once xs ≤ pairs_once old) leads (omega arith))
-leads_made answers source (suc steps) old new made leads =
-    let between : List Item = leads.0 in
-    let ih : IsMadeOf source old between × (pairs_once between ≤ pairs_once old) = leads_made answers source steps old between made leads.1 in
-    let takes = leads.2 in
+leads_made answers source zero old new made candidates =
+    (subst (IsMadeOf source old) candidates made, subst (λ (xs : List Item). pairs_once xs ≤ pairs_once old) candidates (omega arith))
+leads_made answers source (suc steps) old new made candidates =
+    let between : List Item = candidates.0 in
+    let ih : IsMadeOf source old between × (pairs_once between ≤ pairs_once old) = leads_made answers source steps old between made candidates.1 in
+    let takes = candidates.2 in
     let is = takes.2.step in
     let made_next : IsMadeOf source old (edited takes.1 between) = makes_of source old between takes.0 takes.1 is ih.0 in
     let few : pairs_once (edited takes.1 between) ≤ pairs_once between = pairs_stay_few between takes.0 takes.1 is in
@@ -69,8 +69,8 @@ leads_made answers source (suc steps) old new made leads =
 pub planned_comes_from : (answers : List Answered) (source : List ℕ) (steps : ℕ) (old new : List Item) →
     IsSound source old → length old ≤ max_items → pair_count old ≤ max_pairs →
     Leads answers source steps old new → IsDone answers source new → ComesFrom source old new
-planned_comes_from answers source count old new sound few few' leads done =
-    let made = leads_made answers source count old new (made_of_itself source old sound few) leads in
+planned_comes_from answers source count old new sound few few' candidates done =
+    let made = leads_made answers source count old new (made_of_itself source old sound few) candidates in
     let all : AllByRecursion RepeatsNoSelector new = repeats_are_cut answers source new made.0.sound done in
     let a : pair_count new ≤ pairs_once new = counted_all new all in
     let b : pairs_once old ≤ pair_count old = counted_once old in

@@ -1,4 +1,4 @@
-use Rattle.plan_laws.proofs.Wall.Neighbours.{side_by_side}
+use Rattle.plan_laws.proofs.Barrier.Neighbours.{side_by_side}
 use Rattle.plan_laws.proofs.beside.steps_are_side_by_side.Goals as goal
 
 pub returns : goal.returns

@@ -1,4 +1,4 @@
-use Rattle.plan_laws.proofs.Wall.Behind.{hindrances_go_on}
+use Rattle.plan_laws.proofs.Barrier.Behind.{hindrances_go_on}
 use Rattle.plan_laws.proofs.renumbering.hindrances_go_on.Goals as goal
 
 pub returns : goal.returns

@@ -1,4 +1,4 @@
-use Rattle.plan_laws.proofs.Wall.Renumbers.{items_stay}
+use Rattle.plan_laws.proofs.Barrier.Renumbers.{items_stay}
 use Rattle.plan_laws.proofs.renumbering.items_stay.Goals as goal
 
 pub returns : goal.returns

@@ -1,4 +1,4 @@
-use Rattle.plan_laws.proofs.Wall.Behind.{kept_hindrances_go_on}
+use Rattle.plan_laws.proofs.Barrier.Behind.{kept_hindrances_go_on}
 use Rattle.plan_laws.proofs.renumbering.kept_hindrances_go_on.Goals as goal
 
 pub returns : goal.returns

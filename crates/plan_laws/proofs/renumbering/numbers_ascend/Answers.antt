@@ -1,4 +1,4 @@
-use Rattle.plan_laws.proofs.Wall.Renumbers.{numbers_ascend}
+use Rattle.plan_laws.proofs.Barrier.Renumbers.{numbers_ascend}
 use Rattle.plan_laws.proofs.renumbering.numbers_ascend.Goals as goal
 
 pub returns : goal.returns

@@ -1,4 +1,4 @@
-use Rattle.plan_laws.proofs.Wall.Hindrances.{other_rules_do_not_count}
+use Rattle.plan_laws.proofs.Barrier.Hindrances.{other_rules_do_not_count}
 use Rattle.plan_laws.proofs.staying.other_rules_do_not_count.Goals as goal
 
 pub returns : goal.returns

@@ -5,8 +5,8 @@ use Rattle.rule_tables.proofs.entries.put_decls.Given as goal
 
 abbrev pub invariant-rest : goal.invariant-rest
 invariant-rest l = record {
-  whole : (final : List Entry) → Puts l.entries (decl_entries l.label l.rest) final → Puts l.initial.entries (decl_entries l.label l.initial.rest) final;
-  part : (final : List Entry) → PutsSome l.entries (decl_entries l.label l.rest) final → PutsSome l.initial.entries (decl_entries l.label l.initial.rest) final;
+  whole : (final : List Entry) → Puts l.entries (decl_entries l.order_key l.rest) final → Puts l.initial.entries (decl_entries l.order_key l.initial.rest) final;
+  part : (final : List Entry) → PutsSome l.entries (decl_entries l.order_key l.rest) final → PutsSome l.initial.entries (decl_entries l.order_key l.initial.rest) final;
 }
 
 abbrev pub decreases-rest : goal.decreases-rest

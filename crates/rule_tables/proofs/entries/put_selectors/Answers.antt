@@ -12,14 +12,14 @@ returns-in_err-put-clause-err c =
 
 pub rest-preserved : goal.rest-preserved
 rest-preserved c =
-    let is : c.entry_of.result ≡ entry (selector_digest c.in-Some.first.now.selector) c.args.label = cc in
+    let is : c.entry_of.result ≡ entry (selector_digest c.in-Some.first.now.selector) c.args.order_key = cc in
     record {
-      whole = λ final h. c.rest.invariant.whole final (puts_step (λ (x : SelItem). entry (selector_digest x.selector) c.args.label) c.rest.rest.now c.in-Some.behind.now c.in-Some.first.now c.in-Some.ensures.cases.0
+      whole = λ final h. c.rest.invariant.whole final (puts_step (λ (x : SelItem). entry (selector_digest x.selector) c.args.order_key) c.rest.rest.now c.in-Some.behind.now c.in-Some.first.now c.in-Some.ensures.cases.0
           c.rest.entries c.put.new.self final c.entry_of.result is c.in_ok-put.ensures.ok h);
-      part = λ final h. c.rest.invariant.part final (some_step (λ (x : SelItem). entry (selector_digest x.selector) c.args.label) c.rest.rest.now c.in-Some.behind.now c.in-Some.first.now c.in-Some.ensures.cases.0
+      part = λ final h. c.rest.invariant.part final (some_step (λ (x : SelItem). entry (selector_digest x.selector) c.args.order_key) c.rest.rest.now c.in-Some.behind.now c.in-Some.first.now c.in-Some.ensures.cases.0
           c.rest.entries c.put.new.self final c.entry_of.result is c.in_ok-put.ensures.ok h);
     }
 
 pub returns-clause-ok : goal.returns-clause-ok
 returns-clause-ok c =
-    c.rest.invariant.whole c.rest.entries (puts_end (λ (x : SelItem). entry (selector_digest x.selector) c.args.label) c.rest.rest.now (nil_from_length c.rest.rest.now (rw c.in_default.is at c.split_first.ensures.cases)) c.rest.entries)
+    c.rest.invariant.whole c.rest.entries (puts_end (λ (x : SelItem). entry (selector_digest x.selector) c.args.order_key) c.rest.rest.now (nil_from_length c.rest.rest.now (rw c.in_default.is at c.split_first.ensures.cases)) c.rest.entries)

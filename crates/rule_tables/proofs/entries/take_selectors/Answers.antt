@@ -8,10 +8,10 @@ use Rattle.rule_tables.proofs.entries.take_selectors.Goals as goal
 
 pub rest-preserved : goal.rest-preserved
 rest-preserved c =
-    let is : c.entry_of.result ≡ entry (selector_digest c.in-Some.first.now.selector) c.args.label = cc in
-    λ final h. c.rest.invariant final (takes_step (λ (x : SelItem). entry (selector_digest x.selector) c.args.label) c.rest.rest.now c.in-Some.behind.now c.in-Some.first.now c.in-Some.ensures.cases.0
+    let is : c.entry_of.result ≡ entry (selector_digest c.in-Some.first.now.selector) c.args.order_key = cc in
+    λ final h. c.rest.invariant final (takes_step (λ (x : SelItem). entry (selector_digest x.selector) c.args.order_key) c.rest.rest.now c.in-Some.behind.now c.in-Some.first.now c.in-Some.ensures.cases.0
     c.rest.entries c.take.new.self final c.entry_of.result is c.take.ensures h)
 
 pub returns : goal.returns
 returns c =
-    c.rest.invariant c.rest.entries (takes_end (λ (x : SelItem). entry (selector_digest x.selector) c.args.label) c.rest.rest.now (nil_from_length c.rest.rest.now (rw c.in_default.is at c.split_first.ensures.cases)) c.rest.entries)
+    c.rest.invariant c.rest.entries (takes_end (λ (x : SelItem). entry (selector_digest x.selector) c.args.order_key) c.rest.rest.now (nil_from_length c.rest.rest.now (rw c.in_default.is at c.split_first.ensures.cases)) c.rest.entries)

@@ -4,7 +4,7 @@ use Rattle.rule_tables.specs.Entries.{TakesOut, selector_entries}
 use Rattle.rule_tables.proofs.entries.take_selectors.Given as goal
 
 abbrev pub invariant-rest : goal.invariant-rest
-invariant-rest l = (final : List Entry) → TakesOut l.entries (selector_entries l.label l.rest) final → TakesOut l.initial.entries (selector_entries l.label l.initial.rest) final
+invariant-rest l = (final : List Entry) → TakesOut l.entries (selector_entries l.order_key l.rest) final → TakesOut l.initial.entries (selector_entries l.order_key l.initial.rest) final
 
 abbrev pub decreases-rest : goal.decreases-rest
 decreases-rest l = length l.rest

@@ -5,7 +5,7 @@ use Rattle.rule_tables.proofs.PartTests.{AreDone}
 use Rattle.rule_tables.proofs.losing.all_stand_with_selector.Given as goal
 
 abbrev pub invariant-rest : goal.invariant-rest
-invariant-rest g l = AreDone (λ (x : DeclItem). x.decl) (λ y. AnotherHasBoth (g.R.LabelledRules.rules l.rules) l.own l.selector y) l.initial.rest l.rest
+invariant-rest g l = AreDone (λ (x : DeclItem). x.decl) (λ y. AnotherHasBoth (g.R.OrderKeyedRules.rules l.rules) l.own l.selector y) l.initial.rest l.rest
 
 abbrev pub decreases-rest : goal.decreases-rest
 decreases-rest g l = length l.rest

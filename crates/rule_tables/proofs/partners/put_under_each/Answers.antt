@@ -4,8 +4,8 @@ use Rattle.rule_tables.proofs.partners.put_under_each.Goals as goal
 
 pub rest-preserved : goal.rest-preserved
 rest-preserved c = λ final h. c.rest.invariant final (digests_step c.args.entries.now c.rest.rest.now c.in-Some.behind.now c.in-Some.first.now c.in-Some.ensures.cases.0
-    c.rest.found.items c.put_labels.new.found.items final
-    (under_behind c.args.entries.now c.in-Some.first.now c.rest.found.items c.under.result.now c.put_labels.new.found.items c.under.ensures.same c.in_ok-put_labels.ensures) h)
+    c.rest.found.items c.put_order_keys.new.found.items final
+    (under_behind c.args.entries.now c.in-Some.first.now c.rest.found.items c.under.result.now c.put_order_keys.new.found.items c.under.ensures.same c.in_ok-put_order_keys.ensures) h)
 
 pub returns : goal.returns
 returns c =

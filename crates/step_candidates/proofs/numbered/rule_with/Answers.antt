@@ -4,8 +4,8 @@ use Rattle.step_candidates.proofs.numbered.rule_with.Goals as goal
 
 pub returns-clause-some : goal.returns-clause-some
 returns-clause-some c =
-    some_then c.find_rule.result _ _ (λ rule at. the_rule c.labelled_rules_stand.ensures c.rules_are_labelled.ensures c.args.sheet.now.items c.args.label rule.now at) c.find_rule.ensures.some
+    some_then c.find_rule.result _ _ (λ rule at. the_rule c.order_keyed_rules_stand.ensures c.rules_are_order_keyed.ensures c.args.sheet.now.items c.args.order_key rule.now at) c.find_rule.ensures.some
 
 pub returns-clause-none : goal.returns-clause-none
 returns-clause-none c =
-    none_then c.find_rule.result (λ none. no_rule c.labelled_rules_stand.ensures c.rules_are_labelled.ensures c.args.sheet.now.items c.args.label none) c.find_rule.ensures.none
+    none_then c.find_rule.result (λ none. no_rule c.order_keyed_rules_stand.ensures c.rules_are_order_keyed.ensures c.args.sheet.now.items c.args.order_key none) c.find_rule.ensures.none

@@ -3,7 +3,7 @@ use Rattle.step_obstacles.proofs.HeldAnswers.{stays_on}
 use Rattle.step_obstacles.proofs.Looking.{all_done, at_least, found_some, one_more_none}
 use Rattle.step_obstacles.proofs.searching.with_decl.Goals as goal
 use Rattle.step_obstacles.specs.Turns.{OfSelectors, pair_of}
-use Rattle.plan_laws.specs.Wall.Holding.{OfPair}
+use Rattle.plan_laws.specs.Barrier.Hindering.{OfPair}
 
 pub with_selector-requires-clause-number : goal.with_selector-requires-clause-number
 with_selector-requires-clause-number c =

@@ -5,7 +5,7 @@ use Rattle.step_obstacles.specs.Among.{Among}
 use Rattle.step_obstacles.specs.Blocked.{AllPass}
 use Rattle.step_obstacles.specs.Known.{IsKnown}
 use Rattle.step_obstacles.specs.Turns.{OfSelectors, pair_of}
-use Rattle.plan_laws.specs.Wall.Holding.{OfPair}
+use Rattle.plan_laws.specs.Barrier.Hindering.{OfPair}
 
 -- the first ones let the step pass
 abbrev pub invariant-loop-number : goal.invariant-loop-number

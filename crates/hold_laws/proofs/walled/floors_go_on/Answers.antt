@@ -1,5 +1,0 @@
-use Rattle.hold_laws.proofs.Walling.{floors_on}
-use Rattle.hold_laws.proofs.walled.floors_go_on.Goals as goal
-
-pub returns : goal.returns
-returns c = λ above below j d is. floors_on c.steps_rearrange.ensures c.unmoved_keep_their_order.ensures above below j d is

@@ -1,0 +1,14 @@
+//! The sheet while it is planned. Each item has a mark that identifies it while steps change the sheet in place.
+#![tactic(auto)]
+
+mod facts;
+mod indexed;
+mod marked;
+mod marks;
+mod parts;
+mod putting;
+mod taking;
+
+pub use facts::Facts;
+pub use indexed::IndexedSheet;
+pub use marks::Mark;

@@ -1,5 +1,0 @@
-use Rattle.lead_laws.proofs.Covered.{of_each}
-use Rattle.lead_laws.proofs.beside.cover_is_of_each.Goals as goal
-
-pub returns : goal.returns
-returns c = of_each c.labelled_rules_stand.ensures

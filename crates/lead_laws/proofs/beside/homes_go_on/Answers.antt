@@ -1,5 +1,0 @@
-use Rattle.lead_laws.proofs.Covered.{homes_on}
-use Rattle.lead_laws.proofs.beside.homes_go_on.Goals as goal
-
-pub returns : goal.returns
-returns c = homes_on

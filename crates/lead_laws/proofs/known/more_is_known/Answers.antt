@@ -1,5 +1,0 @@
-use Rattle.lead_laws.proofs.Moves.{more_known}
-use Rattle.lead_laws.proofs.known.more_is_known.Goals as goal
-
-pub returns : goal.returns
-returns c = more_known c.more_is_passed.ensures c.passed_is_change.ensures c.held_may_change.ensures c.more_are_remembered.ensures

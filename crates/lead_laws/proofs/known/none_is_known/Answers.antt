@@ -1,5 +1,0 @@
-use Rattle.lead_laws.proofs.Moves.{none_known}
-use Rattle.lead_laws.proofs.known.none_is_known.Goals as goal
-
-pub returns : goal.returns
-returns c = none_known c.none_is_passed.ensures c.passed_is_change.ensures c.held_may_change.ensures

@@ -1,5 +1,0 @@
-use Rattle.lead_laws.proofs.Moves.{start}
-use Rattle.lead_laws.proofs.known.start_is_known.Goals as goal
-
-pub returns : goal.returns
-returns c = start c.marks_are_names.ensures c.start_is_held.ensures

@@ -1,5 +1,0 @@
-use Rattle.lead_laws.proofs.Kept.{are_names}
-use Rattle.lead_laws.proofs.mark_names.marks_are_names.Goals as goal
-
-pub returns : goal.returns
-returns c = are_names

@@ -1,5 +1,0 @@
-use Rattle.lead_laws.proofs.Passing.{blocked_passed}
-use Rattle.lead_laws.proofs.passed.blocked_is_passed.Goals as goal
-
-pub returns : goal.returns
-returns c = blocked_passed c.names_tell_steps.ensures

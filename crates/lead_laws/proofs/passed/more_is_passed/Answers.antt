@@ -1,5 +1,0 @@
-use Rattle.lead_laws.proofs.Passing.{more_passed}
-use Rattle.lead_laws.proofs.passed.more_is_passed.Goals as goal
-
-pub returns : goal.returns
-returns c = more_passed

@@ -1,5 +1,0 @@
-use Rattle.lead_laws.proofs.Woken.{remembered_on}
-use Rattle.lead_laws.proofs.remembering.remembered_goes_over.Goals as goal
-
-pub returns : goal.returns
-returns c = λ answers source items j d h h' entries entries' step sound room held names stay more old. remembered_on c.leads_go_on.ensures answers source items d h h' entries held names old c.steps_have_been.ensures j entries' step sound room stay more

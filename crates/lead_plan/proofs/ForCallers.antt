@@ -1,2 +1,0 @@
--- What the proofs of other crates may cite: declarations before which one more stands that is not among them stand once with it.
-pub use Rattle.lead_plan.proofs.Once.{more_once}

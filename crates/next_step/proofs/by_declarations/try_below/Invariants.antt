@@ -1,0 +1,18 @@
+use Rattle.std.proofs.Common.{ℕ, length, ◌<◌}
+use Rattle.std.specs.List.{Contains}
+use Rattle.std.specs.List.Sorted.{IsStrictlyIncreasing}
+use Rattle.next_step.specs.Kinds.{IsByDecls}
+use Rattle.next_step.specs.Viewed.{Grows}
+use Rattle.next_step.proofs.LaterOrderKeys.{AreCovered}
+use Rattle.next_step.proofs.by_declarations.try_below.Given as goal
+
+abbrev pub invariant-rest : goal.invariant-rest
+invariant-rest l = record {
+  grows : Grows l.view l.fn.found l.found;
+  covers : AreCovered l.view l.owner.number IsByDecls l.found l.initial.rest l.rest;
+  ascends : IsStrictlyIncreasing l.rest;
+  below : (x : ℕ) → Contains l.rest x → l.owner.order_key < x;
+}
+
+abbrev pub decreases-rest : goal.decreases-rest
+decreases-rest l = length l.rest

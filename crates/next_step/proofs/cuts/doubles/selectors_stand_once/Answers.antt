@@ -1,0 +1,16 @@
+use Rattle.std.proofs.Common.{◌≡◌, ◌≢◌, ap, subst, ◌∙◌}
+use Rattle.std.specs.List.{AllPairs}
+use Rattle.std.proofs.lemmas.Result.{IfOk-weaker}
+use Rattle.css_model.specs.declared.sheet.SelItem.{SelItem}
+use Rattle.css_model.specs.Sheets.RuleParts.{RuleParts}
+use Rattle.rule_tables.specs.Digests.{selector_digest}
+use Rattle.rule_tables.specs.Tables.{selector_digests}
+use Rattle.next_step.proofs.Differing.{differ_by_digests}
+use Rattle.next_step.proofs.cuts.doubles.selectors_stand_once.Goals as goal
+
+pub returns : goal.returns
+returns c =
+    let are : c.in_ok-digests.digests.items ≡ selector_digests c.args.rule.now.selectors = c.in_ok-digests.ensures ∙ ap selector_digests (c.deref.ensures.value ∙ ap (λ (r : RuleParts). r.selectors) c.rule.view_is) in
+    IfOk-weaker c.are_different.result _ _
+    (λ differ decided once. differ_by_digests (λ (x : SelItem). x.selector) selector_digest c.args.rule.now.selectors (subst (AllPairs (λ x y. x ≢ y)) are (decided.0 once)))
+    c.are_different.ensures

@@ -1,0 +1,38 @@
+use Rattle.std.proofs.Common.{◌<◌, ◌≤◌, length, arith}
+use Rattle.std.proofs.lemmas.Bool.{false≢true}
+use Rattle.css_model.specs.Sheets.Limits.{max_bytes}
+use Rattle.step_laws.specs.declared.step.Step.TheVariants.{CutDecl}
+use Rattle.next_step.proofs.Looking.{cut_more, grows_both, grows_itself, none_more}
+use Rattle.next_step.proofs.NamedSteps.{rule_is_small}
+use Rattle.next_step.proofs.cuts.try_decl_cuts.Goals as goal
+
+pub overflow_cast-count : goal.overflow_cast-count
+overflow_cast-count c =
+    let m : length c.args.owner.now.rule.now.decls ≤ max_bytes = (rule_is_small c.parts_are_few.ensures c.args.view.now.source.now c.args.view.now.indexed.now.items c.requires.view.plannable c.args.owner.now.number c.args.owner.now.rule.now c.requires.owner.rule).0 in omega (arith, m)
+
+pub loop-decl-init : goal.loop-decl-init
+loop-decl-init c = record {
+  grows = grows_itself c.args.view.now c.args.found.now;
+  covers = λ i less. absurd (omega (arith, less));
+  none = λ known i less. absurd (omega (arith, less));
+}
+
+pub try_cut-requires-clause-attempt : goal.try_cut-requires-clause-attempt
+try_cut-requires-clause-attempt c = record {
+  once = c.requires.owner.once;
+  apart = λ known. absurd (false≢true known);
+  past = λ known. absurd (false≢true known);
+}
+
+pub loop-decl-preserved : goal.loop-decl-preserved
+loop-decl-preserved c = record {
+  grows = grows_both c.args.view.now c.args.found.now c.loop-decl.found c.try_cut.new.found c.loop-decl.invariant.grows c.in_ok-has.ensures.grows;
+  covers = cut_more c.args.view.now (CutDecl c.args.owner.now.number) c.loop-decl.found c.try_cut.new.found c.loop-decl.decl c.in_ok-has.ensures.grows c.loop-decl.invariant.covers c.in_ok-has.ensures.covers;
+  none = λ known. none_more c.args.view.now.indexed.now.items (CutDecl c.args.owner.now.number) c.loop-decl.decl (c.loop-decl.invariant.none (c.either-some.ensures.one known)) (c.in_ok-has.ensures.none (c.either-some.ensures.other known));
+}
+
+pub returns-clause-covers : goal.returns-clause-covers
+returns-clause-covers c = λ i less. c.loop-decl.invariant.covers i (let l : i < length c.args.owner.now.rule.now.decls = less in omega (arith, l, c.decl_count-count.ensures))
+
+pub returns-clause-none : goal.returns-clause-none
+returns-clause-none c = λ known i less. c.loop-decl.invariant.none known i (let l : i < length c.args.owner.now.rule.now.decls = less in omega (arith, l, c.decl_count-count.ensures))

@@ -1,0 +1,12 @@
+pub mod Digested
+pub mod Halves
+pub mod Kinds
+pub mod Late
+pub mod LaterOrderKeys
+pub mod Looking
+pub mod Marked
+pub mod Named
+pub mod Once
+pub mod Seconds
+pub mod Shares
+pub mod Viewed

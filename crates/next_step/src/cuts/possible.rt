@@ -1,0 +1,113 @@
+//! Whether a step is one of an indexed sheet, with tables of its rules.
+
+ghost use Rattle.std.specs.Prelude.{◌≡◌, ◌↔◌, ◌≤◌, IfNone, IfSome, IsTrue, true, length};
+ghost use Rattle.std.specs.List.{Contains};
+ghost use Rattle.css_model.specs.Sheets.Limits.{max_items};
+ghost use Rattle.css_model.specs.Sheets.RuleParts.{RuleParts};
+ghost use Rattle.rule_tables.specs.Tables.{Cover, with_order_key};
+ghost use Rattle.step_laws.specs.declared.step.Step.TheVariants as kinds;
+ghost use Rattle.step_laws.specs.Steps.{HasStep};
+ghost use Rattle.next_step.specs.Marked.{rules_of};
+ghost use Rattle.next_step.specs.Once.{DeclsStandOnce, PartsStandOnce, SelectorsStandOnce};
+
+use css_model::{Decl, Rule, Selector};
+use indexed_sheet::IndexedSheet;
+use merge_steps::is_step;
+use rule_parts::find_rule;
+use rule_tables::{
+    OrderKeyedRules, Tables, can_lose_decl, can_lose_selector, decl_cuts_are_told, has_both,
+    order_keyed_rules_stand, rules_are_order_keyed, selector_cuts_are_told,
+};
+use step_laws::Step;
+
+/// The rule with an order key, if there is one.
+fn rule_with(indexed: &IndexedSheet, order_key: u64) -> Option<&Rule>
+    requires { length indexed.now.items ≤ max_items }
+    ensures some { IfSome result (λ rule. (r : RuleParts) → Contains (rules_of indexed.now) (with_order_key r order_key) ↔ (r ≡ rule.now)) }
+    ensures none { IfNone result ((r : RuleParts) → Contains (rules_of indexed.now) (with_order_key r order_key) → ⊥) }
+{
+    rules_are_order_keyed();
+    order_keyed_rules_stand();
+    let _marks = indexed.marks();
+    match indexed.number_of(order_key) {
+        Some(number) => find_rule(indexed.sheet(), number),
+        None => None,
+    }
+}
+
+/// The rules of an indexed sheet, by their order keys.
+#[derive(Clone, Copy, Debug)]
+pub(crate) struct IndexedRules<'a> {
+    pub indexed: &'a IndexedSheet,
+    ghost few: { length indexed.now.items ≤ max_items },
+}
+
+impl OrderKeyedRules for IndexedRules<'_> {
+    ghost use Rattle.next_step.specs.Marked.{rules_of};
+
+    ghost rules = { λ r. rules_of r.indexed.now };
+
+    fn has_pair(&self, order_key: u64, selector: &Selector, decl: &Decl) -> bool {
+        match rule_with(self.indexed, order_key) {
+            Some(rule) => has_both(rule, selector, decl),
+            None => false,
+        }
+    }
+}
+
+/// Whether a declaration of a rule can be cut. `once` says that each declaration is known to be in the rule once.
+fn can_cut_decl(indexed: &IndexedSheet, tables: &Tables, number: u32, decl: u32, once: bool) -> bool
+    requires few { length indexed.now.items ≤ max_items }
+    requires cover { Cover tables.now (rules_of indexed.now) }
+    requires once { once ≡ true → DeclsStandOnce indexed.now.items number }
+    ensures { IsTrue result ↔ HasStep indexed.now.items (kinds.CutDecl number decl) }
+{
+    decl_cuts_are_told();
+    let Some(rule) = find_rule(indexed.sheet(), number) else {
+        return false;
+    };
+    let _marks = indexed.marks();
+    let own = indexed.mark(number).order_key;
+    let rules = IndexedRules { indexed };
+    can_lose_decl(tables, &rules, own, rule, decl, once)
+}
+
+/// Whether a selector of a rule can be cut. `once` says that each selector is known to be in the rule once.
+fn can_cut_selector(
+    indexed: &IndexedSheet,
+    tables: &Tables,
+    number: u32,
+    sel: u32,
+    once: bool,
+) -> bool
+    requires few { length indexed.now.items ≤ max_items }
+    requires cover { Cover tables.now (rules_of indexed.now) }
+    requires once { once ≡ true → SelectorsStandOnce indexed.now.items number }
+    ensures { IsTrue result ↔ HasStep indexed.now.items (kinds.CutSel number sel) }
+{
+    selector_cuts_are_told();
+    let Some(rule) = find_rule(indexed.sheet(), number) else {
+        return false;
+    };
+    let _marks = indexed.marks();
+    let own = indexed.mark(number).order_key;
+    let rules = IndexedRules { indexed };
+    can_lose_selector(tables, &rules, own, rule, sel, once)
+}
+
+/// Whether a step is one of an indexed sheet. Takes no memory.
+///
+/// `once` says that each part of the kind that the step cuts is known to be in its rule once. Then none is looked for among
+/// the others. The time is that of the parts of its rules, and of a cut that of the rules with these parts.
+pub(crate) fn is_step_of(indexed: &IndexedSheet, tables: &Tables, step: &Step, once: bool) -> bool
+    requires few { length indexed.now.items ≤ max_items }
+    requires cover { Cover tables.now (rules_of indexed.now) }
+    requires once { once ≡ true → PartsStandOnce indexed.now.items step.now }
+    ensures { IsTrue result ↔ HasStep indexed.now.items step.now }
+{
+    match *step {
+        Step::CutDecl { item, decl } => can_cut_decl(indexed, tables, item, decl, once),
+        Step::CutSel { item, sel } => can_cut_selector(indexed, tables, item, sel, once),
+        _ => is_step(indexed.sheet(), step),
+    }
+}

@@ -1,0 +1,13 @@
+pub mod Before
+pub mod Behind
+pub mod ItemIds
+pub mod Facts
+pub mod Pending
+pub mod Candidates
+pub mod Room
+pub mod Scopes
+pub mod Taken
+pub mod Priorities
+pub mod Barred
+pub mod BarredPriorities
+pub mod Ways

@@ -1,5 +1,0 @@
-use Rattle.plan_board.proofs.MarkLists.{renewed_is}
-use Rattle.plan_board.proofs.marks.Marks.renewed.Goals as goal
-
-pub returns-clause-marks : goal.returns-clause-marks
-returns-clause-marks c = renewed_is c.args.self c.self.inside.list.items c.self.inside.next c.args.number c.index.result.now c.self.view_is c.requires.at c.index.ensures

@@ -1,6 +1,0 @@
-pub mod BoardParts
-pub mod Facts
-pub mod JoinedMasks
-pub mod MarkList
-pub mod Marking
-pub mod Putting

@@ -1,0 +1,12 @@
+pub mod Behind
+pub mod Between
+pub mod Coming
+pub mod LowerBarriers
+pub mod Pending
+pub mod Hindering
+pub mod Hindrances
+pub mod KeptBarriers
+pub mod Keys
+pub mod Neighbours
+pub mod Others
+pub mod Renumbers

@@ -1,5 +1,0 @@
-use Rattle.plan_laws.proofs.Wall.Held.{holding_goes_on}
-use Rattle.plan_laws.proofs.holding.holding_goes_on.Goals as goal
-
-pub returns : goal.returns
-returns c = holding_goes_on c.steps_are_side_by_side.ensures c.savings_go_on.ensures c.hindrances_go_on.ensures c.kept_hindrances_go_on.ensures c.steps_stay_sound.ensures

@@ -1,0 +1,7 @@
+mod Watched
+mod Followed
+mod Passed
+mod Results
+mod Tried
+mod Barred
+mod Barriers

@@ -1,0 +1,267 @@
+//! Barriers. One is set if an obstacle of a join hinders all joins of the moving item past a place, up or down.
+
+ghost use Rattle.std.specs.Prelude.{◌≡◌, ◌≢◌, ◌⊎◌, ◌∷◌, ◌<◌, ◌≤◌, ℕ, IfSome, List, OnOk, Some, false, true, length, slice_get};
+ghost use Rattle.std.specs.List.{Contains};
+ghost use Rattle.css_model.specs.Cascade.Order.{Pair};
+ghost use Rattle.css_model.specs.declared.sheet.Item.TheVariants as item;
+ghost use Rattle.css_model.specs.Sheets.Limits.{max_items};
+ghost use Rattle.css_model.specs.Sheets.RuleParts.{RuleParts};
+ghost use Rattle.pending_laws.specs.Candidates as pending;
+ghost use Rattle.queue_laws.specs.MarkNames.{IsMarked};
+ghost use Rattle.planner.specs.Barring as spec;
+ghost use Rattle.step_queue.specs.declared.watch_list.Entry.{Entry};
+ghost use Rattle.obstacles.specs.Blocking.{IsAt, IsBlockedBy, Names};
+ghost use Rattle.obstacles.specs.declared.obstacle.Other.TheVariants as others;
+ghost use Rattle.indexed_sheet.specs.MarkList.{order_keys_of};
+ghost use Rattle.planner_state.specs.State.{IsIndexed, IsQueuedBy};
+ghost use Rattle.rule_tables.specs.Pairs.{HasBoth};
+ghost use Rattle.rule_tables.specs.Tables.{Cover};
+ghost use Rattle.step_laws.specs.Free.{Answered};
+ghost use Rattle.step_laws.specs.Steps.{HasStep};
+ghost use Rattle.next_step.specs.Marked.{rules_of};
+ghost use Rattle.plan_laws.specs.Barrier.Hindering.{Hindrance};
+
+use crate::watching::{decl_of, put_all, selector_of};
+use indexed_sheet::IndexedSheet;
+use next_step::stands_from;
+use obstacles::{Obstacle, Other, PairPlace};
+use pending_laws::Way;
+use planner_state::Plan;
+use queue_laws::barriers_stay;
+use rule_tables::Tables;
+use std::alloc::AllocError;
+use step_laws::Step;
+use step_queue::Barriers;
+use step_savings::rule_at;
+
+/// Returns `false` only if no rule has the pair at a place whose order key is at least `from` and is not `own`.
+fn pair_stands_from(
+    indexed: &IndexedSheet,
+    tables: &Tables,
+    place: &PairPlace,
+    from: u64,
+    own: u64,
+) -> bool
+    requires few { length indexed.now.items ≤ max_items }
+    requires cover { Cover tables.now (rules_of indexed.now) }
+    requires there { (p : Pair) × IsAt indexed.now.items place.now p }
+    ensures { result ≡ false → (p : Pair) → IsAt indexed.now.items place.now p → (n : ℕ) (r : RuleParts) (order_key : ℕ) → slice_get indexed.now.items n ≡ Some (item.Rule r)
+        → slice_get (order_keys_of indexed.now.marks) n ≡ Some order_key → from ≤ order_key → order_key ≢ own → HasBoth r p.selector p.decl → ⊥ }
+{
+    let rule = rule_at(indexed.sheet(), place.item);
+    let selector = selector_of(rule, place.sel);
+    let decl = decl_of(rule, place.decl);
+    stands_from(indexed, tables, from, own, selector, decl)
+}
+
+/// Returns `true` only if, from the item of `other` on, the item of `moved` alone has the moved pair.
+/// From the item of `moved` on, no item has the other pair. The item of `other` comes before that of `moved`.
+fn stands_alone(
+    indexed: &IndexedSheet,
+    tables: &Tables,
+    moved: &PairPlace,
+    other: &PairPlace,
+) -> bool
+    requires few { length indexed.now.items ≤ max_items }
+    requires cover { Cover tables.now (rules_of indexed.now) }
+    requires marked { IsMarked indexed.now }
+    requires moved_there { (p : Pair) × IsAt indexed.now.items moved.now p }
+    requires other_there { (q : Pair) × IsAt indexed.now.items other.now q }
+    ensures { result ≡ true → (p q : Pair) → IsAt indexed.now.items moved.now p → IsAt indexed.now.items other.now q
+        → spec.StandsAlone indexed.now.items other.now.item moved.now.item p q }
+{
+    if moved.item <= other.item {
+        return false;
+    }
+    let from = indexed.mark(other.item).order_key;
+    let own = indexed.mark(moved.item).order_key;
+    if pair_stands_from(indexed, tables, moved, from, own) {
+        return false;
+    }
+    !pair_stands_from(indexed, tables, other, own, from)
+}
+
+/// A barrier: a way, the item id of an item, and the order key of another item.
+/// It hinders the first item from moving in this way past the other one.
+#[derive(Clone, Copy, Debug)]
+struct Barrier {
+    way: Way,
+    item_id: u32,
+    order_key: u64,
+}
+
+/// Returns the number of the item that moves in a join, and its way, or `None` of another step.
+fn mover_of(step: &Step) -> Option<(u32, Way)> {
+    match *step {
+        Step::JoinSelUp { lower, .. } | Step::JoinDeclUp { lower, .. } => Some((lower, Way::Up)),
+        Step::JoinSelDown { upper, .. } | Step::JoinDeclDown { upper, .. } => {
+            Some((upper, Way::Down))
+        }
+        Step::CutDecl { .. } | Step::CutSel { .. } | Step::Share { .. } => None,
+    }
+}
+
+/// Returns `true` only if two pairs make a barrier in a way.
+fn is_barrier(
+    indexed: &IndexedSheet,
+    tables: &Tables,
+    way: Way,
+    moved: &PairPlace,
+    other: &PairPlace,
+) -> bool
+    requires few { length indexed.now.items ≤ max_items }
+    requires cover { Cover tables.now (rules_of indexed.now) }
+    requires marked { IsMarked indexed.now }
+    requires moved_there { (p : Pair) × IsAt indexed.now.items moved.now p }
+    requires other_there { (q : Pair) × IsAt indexed.now.items other.now q }
+    ensures { result ≡ true → (p q : Pair) → IsAt indexed.now.items moved.now p → IsAt indexed.now.items other.now q
+        → spec.StandsAloneOn way indexed.now.items moved.now.item other.now.item p q }
+{
+    match way {
+        Way::Up => stands_alone(indexed, tables, moved, other),
+        Way::Down => stands_alone(indexed, tables, other, moved),
+    }
+}
+
+/// Returns a barrier that the two pairs of an obstacle make in a way, or `None` if it finds none.
+fn barrier_between(
+    indexed: &IndexedSheet,
+    tables: &Tables,
+    step: &Step,
+    way: Way,
+    obstacle: &Obstacle,
+    other: &PairPlace,
+) -> Option<Barrier>
+    requires few { length indexed.now.items ≤ max_items }
+    requires cover { Cover tables.now (rules_of indexed.now) }
+    requires marked { IsMarked indexed.now }
+    requires step_of { HasStep indexed.now.items step.now }
+    requires blocked { (answers : List Answered) × IsBlockedBy answers indexed.now.items step.now obstacle.now }
+    requires pair { obstacle.now.other ≡ others.Pair other.now }
+    ensures { IfSome result (λ w. spec.MakesBarrierFor indexed.now step.now obstacle.now w.way w.item_id w.order_key) }
+{
+    if !is_barrier(indexed, tables, way, &obstacle.moved, other) {
+        return None;
+    }
+    let order_key = indexed.mark(other.item).order_key;
+    let item_id = indexed.mark(obstacle.moved.item).item_id;
+    Some(Barrier {
+        way,
+        item_id,
+        order_key,
+    })
+}
+
+/// Returns a barrier that an obstacle of a step makes, or `None` if it finds none.
+fn barrier_of(
+    indexed: &IndexedSheet,
+    tables: &Tables,
+    step: &Step,
+    obstacle: &Obstacle,
+) -> Option<Barrier>
+    requires few { length indexed.now.items ≤ max_items }
+    requires cover { Cover tables.now (rules_of indexed.now) }
+    requires marked { IsMarked indexed.now }
+    requires step_of { HasStep indexed.now.items step.now }
+    requires blocked { (answers : List Answered) × IsBlockedBy answers indexed.now.items step.now obstacle.now }
+    ensures { IfSome result (λ w. spec.MakesBarrierFor indexed.now step.now obstacle.now w.way w.item_id w.order_key) }
+{
+    let (mover, way) = mover_of(step)?;
+    if mover != obstacle.moved.item {
+        return None;
+    }
+    match &obstacle.other {
+        Other::Pair(other) => barrier_between(indexed, tables, step, way, obstacle, other),
+        Other::Kept(_) => None,
+    }
+}
+
+/// Makes room for a barrier under an item id. All order keys other than 0 were there before.
+fn grow(barriers: &mut Vec<u64>, item_id: u32) -> Result<(), AllocError>
+    ensures room { OnOk result (item_id < length barriers.new.items) }
+    ensures long { OnOk result ((next : ℕ) → length barriers.old.items ≤ next → item_id < next → length barriers.new.items ≤ next) }
+    ensures left { OnOk result ((b l : ℕ) → slice_get barriers.new.items b ≡ Some l → 0 < l → slice_get barriers.old.items b ≡ Some l) }
+{
+    let item_id = item_id as usize;
+    if barriers.len() <= item_id {
+        barriers.resize(item_id + 1, 0)?;
+    }
+    Ok(())
+}
+
+/// Whether an order key hinders more in a way than an old one, which is 0 if there is none.
+fn hinders_more(way: Way, order_key: u64, old: u64) -> bool {
+    match way {
+        Way::Up => old < order_key,
+        Way::Down => old == 0 || order_key < old,
+    }
+}
+
+/// Puts the order key of a barrier in a way under an item id, or leaves the order key that is there.
+fn put_order_key(barriers: &mut Vec<u64>, way: Way, item_id: usize, order_key: u64)
+    requires { item_id < length barriers.old.items }
+    ensures long { length barriers.new.items ≡ length barriers.old.items }
+    ensures each { (b l : ℕ) → slice_get barriers.new.items b ≡ Some l → 0 < l → (slice_get barriers.old.items b ≡ Some l) ⊎ ((b ≡ item_id) × (l ≡ order_key)) }
+{
+    if hinders_more(way, order_key, barriers[item_id]) {
+        barriers[item_id] = order_key;
+    }
+}
+
+/// Puts the order key of a barrier under its item id, as `put_order_key` does, and makes room before.
+fn raise(barriers: &mut Vec<u64>, barrier: &Barrier) -> Result<(), AllocError>
+    ensures { OnOk result (spec.IsRaised barriers.old.items barriers.new.items barrier.now.item_id barrier.now.order_key) }
+{
+    grow(barriers, barrier.item_id)?;
+    put_order_key(
+        barriers,
+        barrier.way,
+        barrier.item_id as usize,
+        barrier.order_key,
+    );
+    Ok(())
+}
+
+/// Puts a barrier among those in its way, or leaves the order key that is there.
+fn set(barriers: &mut Barriers, barrier: &Barrier) -> Result<(), AllocError>
+    ensures { OnOk result (spec.IsSet barriers.old barriers.new barrier.now.way barrier.now.item_id barrier.now.order_key) }
+{
+    match barrier.way {
+        Way::Up => raise(&mut barriers.ups, barrier),
+        Way::Down => raise(&mut barriers.downs, barrier),
+    }
+}
+
+/// Sets a barrier that an obstacle makes, and puts the candidate of all joins of its item in its way on the watch list.
+/// An entry of the candidate is under each pair of what the obstacle names. All else of the plan stays.
+fn put_barrier(plan: &mut Plan, barrier: &Barrier, obstacle: &Obstacle) -> Result<(), AllocError>
+    requires { (by : Hindrance) × Names plan.old.indexed.items obstacle.now by }
+    ensures same { OnOk result (plan.new ≡ record plan.old { entries = plan.new.entries; barriers = plan.new.barriers }) }
+    ensures more { OnOk result ((x : Entry) → Contains plan.old.entries x → Contains plan.new.entries x) }
+    ensures put { OnOk result (spec.HasMovesEntries plan.old.indexed.items plan.new.entries obstacle.now barrier.now.way barrier.now.item_id) }
+    ensures set { OnOk result (spec.IsSet plan.old.barriers plan.new.barriers barrier.now.way barrier.now.item_id barrier.now.order_key) }
+{
+    put_all(plan, barrier.way, barrier.item_id, obstacle)?;
+    set(&mut plan.barriers, barrier)
+}
+
+/// Sets a barrier that an obstacle of a step makes, if it finds one. The candidates of the plan stay.
+/// What stood for the steps of the plan's sheet still does, by all answers by which the obstacle blocks the step.
+pub(crate) fn set_barrier(
+    plan: &mut Plan,
+    step: &Step,
+    obstacle: &Obstacle,
+) -> Result<(), AllocError>
+    requires indexed { (source : List ℕ) × IsIndexed source plan.old }
+    requires step_of { HasStep plan.old.indexed.items step.now }
+    requires blocked { (answers : List Answered) × IsBlockedBy answers plan.old.indexed.items step.now obstacle.now }
+    ensures same { OnOk result (plan.new ≡ record plan.old { entries = plan.new.entries; barriers = plan.new.barriers }) }
+    ensures queued { OnOk result ((answers : List Answered) (source : List ℕ) (candidate : pending.Candidate) → IsBlockedBy answers plan.old.indexed.items step.now obstacle.now
+        → IsQueuedBy answers source plan.old (candidate ∷ plan.old.candidates) → IsQueuedBy answers source plan.new (candidate ∷ plan.new.candidates)) }
+{
+    barriers_stay();
+    match barrier_of(&plan.indexed, &plan.tables, step, obstacle) {
+        Some(barrier) => put_barrier(plan, &barrier, obstacle),
+        None => Ok(()),
+    }
+}

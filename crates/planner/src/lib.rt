@@ -1,0 +1,11 @@
+//! Merging by candidates. It takes the first free step that saves, one after the other, until none is left.
+#![tactic(auto)]
+
+mod barring;
+mod following;
+mod merging;
+mod passing;
+mod trying;
+mod watching;
+
+pub use merging::{Merged, merge};

@@ -1,0 +1,86 @@
+//! Whether the step that a candidate names is the next one.
+
+ghost use Rattle.std.specs.Prelude.{◌≡◌, ◌∷◌, ◌+◌, ◌<◌, ℕ, List, IfNone, IfOk, IfSome, OnOk};
+ghost use Rattle.std.specs.List.{Contains};
+ghost use Rattle.pending_laws.specs.Candidates as pending;
+ghost use Rattle.planner.specs.Following.{IsNextFound};
+ghost use Rattle.step_queue.specs.Told.{candidate_told};
+ghost use Rattle.step_queue.specs.Weights.{total, weight};
+ghost use Rattle.obstacles.specs.Blocking.{IsBlockedBy};
+ghost use Rattle.order_laws.specs.Edits.{Edit};
+ghost use Rattle.plan_laws.specs.Cover.{IsSooner};
+ghost use Rattle.plan_laws.specs.Plannable.{IsPlannable};
+ghost use Rattle.planner_state.specs.State.{IsQueuedBy, IsState};
+ghost use Rattle.step_laws.specs.Free.{AreAmong, IsFree};
+ghost use Rattle.step_laws.specs.Steps.{HasStep, IsStep};
+
+use crate::passing::{pass_barred, pass_blocked, pass_none, queue_again};
+use indexed_sheet::IndexedSheet;
+use next_step::{is_barred, step_of_candidate};
+use obstacles::{Obstacle, Obstacles};
+use pending_laws::{first_candidate_is_taken, priorities_are_ordered};
+use planner_state::Plan;
+use queue_laws::{answers_may_come, barriers_stay};
+use saved_bytes::KnownLengths;
+use std::alloc::{AllocError, Global};
+use step_laws::Step;
+use step_queue::Candidate;
+
+/// Returns what blocks a step of an indexed sheet, or `None` if it is free by the answers held afterwards.
+fn obstacle_on<O: Obstacles>(
+    obstacles: &mut O,
+    indexed: &IndexedSheet,
+    step: &Step,
+) -> Result<Option<Obstacle>, AllocError>
+    requires is_step { HasStep indexed.now.items step.now }
+    requires plannable { (source : List ℕ) × IsPlannable source indexed.now.items }
+    ensures asked { AreAmong (O.answers obstacles.old) (O.answers obstacles.new) }
+    ensures same_budget { O.budget obstacles.new ≡ O.budget obstacles.old }
+    ensures free { IfOk result (λ found. IfNone found ((e : Edit) → IsStep indexed.now.items step.now e → IsFree (O.answers obstacles.new) indexed.now.items e)) }
+    ensures blocked { IfOk result (λ found. IfSome found (λ o. IsBlockedBy (O.answers obstacles.new) indexed.now.items step.now o)) }
+{
+    obstacles.obstacle(indexed.sheet(), indexed.masks(), step)
+}
+
+/// Returns the step that a candidate names, if it is the next one. Else it passes the candidate.
+/// The candidate was taken out, and no candidate may come before it. After `None`, the candidates of the plan weigh less than
+/// before with the candidate. The indexed sheet stays.
+pub(crate) fn try_candidate<O: Obstacles>(
+    alloc: Global,
+    obstacles: &mut O,
+    source: &KnownLengths<'_>,
+    plan: &mut Plan,
+    candidate: &Candidate,
+) -> Result<Option<Step>, AllocError>
+    requires queued { IsQueuedBy (O.answers obstacles.old) source.now plan.old (candidate_told candidate.now ∷ plan.old.candidates) }
+    requires first { (l : pending.Candidate) → Contains plan.old.candidates l → IsSooner l.priority (candidate_told candidate.now).priority → ⊥ }
+    ensures asked { AreAmong (O.answers obstacles.old) (O.answers obstacles.new) }
+    ensures same_budget { O.budget obstacles.new ≡ O.budget obstacles.old }
+    ensures indexed { OnOk result (plan.new.indexed ≡ plan.old.indexed) }
+    ensures state { OnOk result (IsState (O.answers obstacles.new) source.now plan.new) }
+    ensures found { IfOk result (λ found. IfSome found (IsNextFound (O.answers obstacles.new) source.now plan.old.indexed.items)) }
+    ensures less { IfOk result (λ found. IfNone found (total plan.new.candidates < total plan.old.candidates + weight (candidate_told candidate.now))) }
+{
+    answers_may_come();
+    barriers_stay();
+    first_candidate_is_taken();
+    priorities_are_ordered();
+    let Some(step) = step_of_candidate(&plan.indexed, &plan.tables, source, candidate) else {
+        pass_none(alloc, source, plan, candidate)?;
+        return Ok(None);
+    };
+    if is_barred(&plan.indexed, &plan.barriers, &step) {
+        pass_barred(alloc, source, plan, candidate, &step)?;
+        return Ok(None);
+    }
+    match obstacle_on(obstacles, &plan.indexed, &step)? {
+        None => {
+            queue_again(plan, candidate)?;
+            Ok(Some(step))
+        }
+        Some(obstacle) => {
+            pass_blocked(alloc, source, plan, candidate, &step, &obstacle)?;
+            Ok(None)
+        }
+    }
+}

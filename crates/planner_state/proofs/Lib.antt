@@ -1,0 +1,15 @@
+mod Behind
+mod ItemIds
+mod Enqueued
+mod Heavier
+mod Made
+mod Members
+mod Reindexed
+mod Moving
+mod Plannable
+mod Results
+mod Starting
+mod Taken
+mod TakenDown
+mod Weighed
+mod WeighedBehind

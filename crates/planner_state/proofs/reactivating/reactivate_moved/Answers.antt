@@ -1,0 +1,17 @@
+use Rattle.step_queue.specs.Told.{candidate_told}
+use Rattle.planner_state.specs.Reactivating as spec
+use Rattle.planner_state.proofs.Moving.{moved_from, at_one, at_either}
+use Rattle.planner_state.proofs.reactivating.reactivate_moved.Goals as goal
+
+pub returns-then-first-last-clause-active : goal.returns-then-first-last-clause-active
+returns-then-first-last-clause-active c = λ e is p moved l among.
+    let w = moved_from c.steps_rearrange.ensures c.args.sheet.now.items c.args.step.now e is p moved in
+    c.in_ok-reactivate_rule.ensures.active w.0 (at_one c.args.sheet.now.items w.0 (spec.first_out c.args.step.now) (spec.last_out c.args.step.now) c.moved_out-first.result.0 c.moved_out-first.result.1 c.moved_out-first.ensures.first c.moved_out-first.ensures.last c.if-first-last.true w.1)
+    p.selector p.decl w.2 w.3 l among
+
+pub returns-clause-active : goal.returns-clause-active
+returns-clause-active c = λ e is p moved l among.
+    let w = moved_from c.steps_rearrange.ensures c.args.sheet.now.items c.args.step.now e is p moved in
+    at_either c.args.sheet.now.items w.0 (spec.first_out c.args.step.now) (spec.last_out c.args.step.now) c.moved_out-first.result.0 c.moved_out-first.result.1 c.moved_out-first.ensures.first c.moved_out-first.ensures.last
+    (λ at. c.in_ok-reactivate_rule-2.ensures.stay (candidate_told l) (c.in_ok-reactivate_rule.ensures.active w.0 at p.selector p.decl w.2 w.3 l among))
+    (λ at. c.in_ok-reactivate_rule-2.ensures.active w.0 at p.selector p.decl w.2 w.3 l among) w.1

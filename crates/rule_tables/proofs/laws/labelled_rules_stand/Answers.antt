@@ -1,5 +1,0 @@
-use Rattle.rule_tables.proofs.OtherRules.{stands_with}
-use Rattle.rule_tables.proofs.laws.labelled_rules_stand.Goals as goal
-
-pub returns : goal.returns
-returns c = stands_with

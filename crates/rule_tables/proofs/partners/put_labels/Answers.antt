@@ -1,5 +1,0 @@
-use Rattle.rule_tables.proofs.Numbers.{appended}
-use Rattle.rule_tables.proofs.partners.put_labels.Goals as goal
-
-pub returns : goal.returns
-returns c = appended c.extend_from_slice.result c.args.found.now.items c.extend_from_slice.new.self.items c.args.labels.now c.extend_from_slice.ensures.items

@@ -1,0 +1,19 @@
+//! The plan of merging by candidates. One candidate stands for all steps of an item, instead of a look at each step.
+#![tactic(auto)]
+
+mod barriers;
+mod candidate;
+mod doubles;
+mod heaviest;
+mod queue;
+mod rule_weights;
+mod watch_list;
+
+pub use barriers::Barriers;
+pub use candidate::{Candidate, ROOM, Scope, later_weighs_less};
+pub use doubles::are_decls_different;
+pub use heaviest::Heaviest;
+pub use queue::Queue;
+pub use rule_weights::{RuleWeight, RuleWeights};
+pub use step_kinds::Kind;
+pub use watch_list::{Entry, WatchList};

@@ -1,9 +1,0 @@
-use Rattle.std.proofs.Common.{◌≡◌, arith}
-use Rattle.std.proofs.lemmas.Bool.Decides.{nat_tests}
-use Rattle.step_turns.proofs.Masked.{no_decl_join}
-use Rattle.step_turns.proofs.apart.masks.decls_differ.Goals as goal
-
-pub returns : goal.returns
-returns c = λ known.
-    let differ : c.mask_at-above.result.families ≡ c.mask_at-below.result.families → ⊥ = λ same. grind (arith, nat_tests, known, same) in
-    no_decl_join c.args.board.now.items c.args.upper c.args.lower c.mask_at-above.result c.mask_at-below.result c.mask_at-above.ensures c.mask_at-below.ensures differ

@@ -1,5 +1,0 @@
-use Rattle.std.proofs.Common.{sym}
-use Rattle.step_turns.proofs.queue.found.replace.Goals as goal
-
-pub returns-clause-was : goal.returns-clause-was
-returns-clause-was c = (c.args.number, c.requires, sym c.index-late.ensures)
