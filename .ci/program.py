@@ -22,7 +22,7 @@ import tempfile
 
 MORE = b"\nFor more information, try '--help'.\n"
 NO_WORD = b"""error: 'cssmin' requires a subcommand but one was not provided
-  [subcommands: min, cmp, dead, style, why, same, list, lint, inspect, check, trial, help]
+  [subcommands: min, cmp, dead, style, why, same, diff, blockers, list, lint, inspect, check, trial, help]
 
 Usage: cssmin <COMMAND>
 """ + MORE
@@ -176,6 +176,24 @@ same 4294967296
 same 1 2
 same 1 --report
 same 1 --budget 20001
+diff
+diff 01
+diff -1
+diff 4294967296
+diff 1 2
+diff 1 --report
+diff 1 --limit
+diff 1 --limit 0
+diff 1 --limit=10001
+diff 1 --limit 07
+diff 1 --limit 1 --limit 1
+diff 1 --budget 20001
+same 1 --limit 1
+min --limit 1
+blockers a
+blockers --report
+blockers --limit 1
+blockers --budget 20001
 list a
 list --report
 list --budget 1
@@ -212,7 +230,7 @@ def try_itself(tries):
     for word in ["--version", "-V"]:
         tries.check_read(word, [word], SHEET, 0, f"cssmin {version}\n".encode(), b"", 0)
     for words in [["--help"], ["-h"], ["help"], ["min", "--help"], ["min", "-h"], ["cmp", "--help"], ["cmp", "-h"],
-            ["check", "--help"], ["why", "--help"], ["same", "--help"], ["list", "--help"], ["lint", "--help"], ["inspect", "--help"], ["style", "--help"], ["dead", "--help"], ["trial", "--help"]]:
+            ["check", "--help"], ["why", "--help"], ["same", "--help"], ["diff", "--help"], ["blockers", "--help"], ["list", "--help"], ["lint", "--help"], ["inspect", "--help"], ["style", "--help"], ["dead", "--help"], ["trial", "--help"]]:
         ran = tries.run(words, SHEET)
         name = " ".join(words)
         tries.is_same(name, "the exit status", ran.returncode, 0)
@@ -363,6 +381,40 @@ def try_two_sheets(tries):
     tries.check_read("two sheets that are too long", ["same", "0"], long, 3, b"", told, 2 * MAX_BYTES + 1)
     told = b"second refused: TooLong at %d\n" % MAX_BYTES
     tries.check_read("a second sheet that is too long", ["same", "0"], long[:-2], 11, b"", told, 2 * MAX_BYTES)
+
+
+def try_differences(tries):
+    one, other = b".a{top:0}\n.b{ margin: 0 }@x;", b".a{top:1px}.b{margin:0}@x;"
+    split = str(len(one))
+    lines = b"reversed 0 related 0 masked 0 unsure 0 missing 0 extra 0 changed 1\nchanged 1:4 .a{top:0} 1:4 top:1px\n"
+    tries.check_read("two sheets with another value", ["diff", split], one + other, 1, lines, b"", len(one + other))
+    tries.check_read("a sheet and itself, all through", ["diff", split], one + one, 0, b"same\n", b"", len(one + one))
+    tries.check_read("no second sheet to tell of", ["diff", "29"], one, 10, b"", b"no split 29\n", len(one))
+    broken = one + b'a{}\n\xc3\xa9{b:"x'
+    tries.check_read("a broken second sheet with its place", ["diff", split], broken, 11, b"", b"second refused: EndInside at 9 (2:5)\n", len(broken))
+    long = b" " * (2 * MAX_BYTES + 2)
+    told = b"refused: TooLong at %d\n" % MAX_BYTES
+    tries.check_read("two sheets that are too long to tell of", ["diff", "0"], long, 3, b"", told, 2 * MAX_BYTES + 1)
+    # So many couples are told, and no more.
+    turned = b"".join(b".a%d{top:%dpx}" % (i, i) for i in range(9))
+    back = b"".join(b".a%d{top:%dpx}" % (i, i) for i in reversed(range(9)))
+    words = ["diff", str(len(turned)), "--limit"]
+    ran = tries.run([*words, "36"], turned + back)
+    tries.is_same("a limit that is reached", "the status, the couples and the limit", (ran.returncode, ran.stdout.count(b"\nreversed "), ran.stdout.count(b"\nlimit 36\n")), (1, 36, 1))
+    ran = tries.run([*words, "37"], turned + back)
+    tries.is_same("a limit that is not reached", "the couples and the limit", (ran.stdout.count(b"\nreversed "), ran.stdout.count(b"\nlimit ")), (36, 0))
+    with open("/dev/full", "wb") as full:
+        tries.check("differences for a full output", ["diff", split], one + other, 5, b"", WRITE_FAULT, stdout=full)
+
+
+def try_blockers(tries):
+    sheet = ".é{top:0}\r\n@media print{.b{top:1px}}\r\n.é{left:2px}".encode()
+    lines = "blocked 2 8\nkept 2 8\nrules 0 0\nboth 0 0\nstops 2 8 2 8 2:1 @media print\nbest 4 JoinSelUp 1:1 3:1 .é{left:2px}\n".encode()
+    tries.check_read("what stops steps", ["blockers"], sheet, 0, lines, b"", len(sheet))
+    nothing = b"blocked 0 0\nkept 0 0\nrules 0 0\nboth 0 0\n"
+    tries.check_read("nothing that stops a step", ["blockers"], SHEET, 0, nothing, b"", len(SHEET))
+    broken = b"a{}\n\xc3\xa9{b:'x"
+    tries.check_read("what stops steps of a broken sheet", ["blockers"], broken, 3, b"", b"refused: EndInside at 9 (2:5)\n", len(broken))
 
 
 def try_items(tries):
@@ -548,7 +600,8 @@ def try_examples(tries):
         with open(path.removesuffix(".css") + ".min.css", "rb") as file:
             printed = file.read()
         tries.check(path, ["min"], sheet, 0, printed, b"")
-        tries.check(f"{path} and what became of it", ["same", str(len(sheet))], sheet + printed, 0, b"same\n", b"")
+        for word in ["same", "diff"]:
+            tries.check(f"{path} and what became of it, by {word}", [word, str(len(sheet))], sheet + printed, 0, b"same\n", b"")
 
 
 def main():
@@ -567,6 +620,8 @@ def main():
     try_logs(tries)
     try_moves(tries)
     try_two_sheets(tries)
+    try_differences(tries)
+    try_blockers(tries)
     try_items(tries)
     try_findings(tries)
     try_entries(tries)

@@ -8,15 +8,16 @@ _cssmin() {
             mapfile -t COMPREPLY < <(compgen -f -- "$word")
             return
             ;;
-        --budget | =) return ;;
+        --budget | --limit | =) return ;;
     esac
     if [ "$COMP_CWORD" = 1 ]; then
-        words='min cmp dead style why same list lint inspect check trial help --help --version'
+        words='min cmp dead style why same diff blockers list lint inspect check trial help --help --version'
     else
         case ${COMP_WORDS[1]} in
             min) words='--budget --report' ;;
             cmp) words='--budget --log' ;;
-            dead | why | same | lint) words='--budget' ;;
+            diff) words='--budget --limit' ;;
+            dead | why | same | blockers | lint) words='--budget' ;;
             style | list | inspect | check | trial) ;;
             *) return ;;
         esac

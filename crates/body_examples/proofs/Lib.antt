@@ -1,4 +1,5 @@
 pub mod Answers
+pub mod Blocking
 pub mod Cascade
 pub mod Inspecting
 pub mod Linting

@@ -3,10 +3,11 @@ use Rattle.std.proofs.Common.{◌≡◌, ℕ, [], ◌∷◌, Some, None, true, f
 use Rattle.std.specs.Fmt.{digits}
 use Rattle.std.specs.Prelude.{codes}
 use Rattle.command_words.specs.declared.command.Topic.TheVariants as topic
-use Rattle.command_words.specs.Forms.{Check, Cmp, Help, Lint, Listing, Min, Same, Trial, Why, command_named, form_of, number_up_to}
+use Rattle.command_words.specs.Forms.{Blockers, Check, Cmp, Diff, Help, Lint, Listing, Min, Same, Trial, Why, command_named, form_of, number_up_to}
+use Rattle.cssmin_run.specs.Commands.Diff.{same_line}
 use Rattle.cssmin_run.specs.declared.status.Status.TheVariants.{Done, Found, NoItem, NoMemory, ReadFault, Usage, WriteFault}
 use Rattle.cssmin_run.specs.Status.{number_of}
-use Rattle.cssmin_run.specs.Tasks.{is_filled, with_found}
+use Rattle.cssmin_run.specs.Tasks.{says_more, with_found}
 
 -- ---- Words
 
@@ -56,6 +57,27 @@ lint_has_its_budget : form_of (codes "lint" ∷ codes "--budget" ∷ codes "7" �
 unfolding command_named digits number_up_to
 lint_has_its_budget = refl
 
+-- a comparison that names no limit tells the usual number of couples
+limit_is_the_usual_one : form_of (codes "diff" ∷ codes "12" ∷ []) ≡ Some (Diff 12 None 20)
+unfolding command_named digits number_up_to
+limit_is_the_usual_one = refl
+
+limit_is_the_named_one : form_of (codes "diff" ∷ codes "--limit=10000" ∷ codes "12" ∷ codes "--budget" ∷ codes "7" ∷ []) ≡ Some (Diff 12 (Some 7) 10000)
+unfolding command_named digits number_up_to
+limit_is_the_named_one = refl
+
+limit_of_none_is_none : form_of (codes "diff" ∷ codes "12" ∷ codes "--limit" ∷ codes "0" ∷ []) ≡ None
+unfolding command_named digits number_up_to
+limit_of_none_is_none = refl
+
+min_has_no_limit : form_of (codes "min" ∷ codes "--limit" ∷ codes "7" ∷ []) ≡ None
+unfolding command_named digits number_up_to
+min_has_no_limit = refl
+
+blockers_have_their_budget : form_of (codes "blockers" ∷ codes "--budget=7" ∷ []) ≡ Some (Blockers (Some 7))
+unfolding command_named digits number_up_to
+blockers_have_their_budget = refl
+
 help_is_of_the_command : form_of (codes "trial" ∷ codes "-h" ∷ []) ≡ Some (Help topic.Trial)
 unfolding command_named number_up_to
 help_is_of_the_command = refl
@@ -89,11 +111,17 @@ no_item_ends_with_7 number = refl
 
 -- ---- Where something was found
 
-no_text_finds_nothing : with_found (is_filled []) Done ≡ Done
+no_text_finds_nothing : with_found (says_more [] []) Done ≡ Done
 no_text_finds_nothing = refl
 
-text_is_found : with_found (is_filled (codes "a\n")) Done ≡ Found
+text_is_found : with_found (says_more [] (codes "a\n")) Done ≡ Found
 text_is_found = refl
+
+same_finds_nothing : with_found (says_more same_line (codes "same\n")) Done ≡ Done
+same_finds_nothing = refl
+
+other_text_is_found : with_found (says_more same_line (codes "same")) Done ≡ Found
+other_text_is_found = refl
 
 failed_write_stays_one : with_found true WriteFault ≡ WriteFault
 failed_write_stays_one = refl

@@ -2,9 +2,13 @@
 #![tactic(auto)]
 
 #[cfg(test)]
+mod blocking;
+#[cfg(test)]
 mod comparing;
 #[cfg(test)]
 mod dead;
+#[cfg(test)]
+mod diffing;
 #[cfg(test)]
 mod faults;
 #[cfg(test)]

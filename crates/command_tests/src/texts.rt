@@ -7,7 +7,7 @@ use cssmin_run::Status;
 const PROGRAM: &[u8] =
     b"Makes a CSS style sheet smaller, with the same winners on every legal page\n";
 
-const MIN: &[u8] = b"Make a style sheet smaller, with the same winners on every legal page\n";
+const MIN: &[u8] = b"Make a style sheet smaller, with the same winners on each legal page\n";
 
 const CMP: &[u8] = b"Tell whether one element of a legal page can match two selectors\n";
 
@@ -22,7 +22,7 @@ const HELP: &[(&str, &[u8])] = &[
     ("cssmin cmp -h", CMP),
     (
         "cssmin dead --help",
-        b"Tell which selectors of a style sheet match nothing on any legal page\n",
+        b"Tell which selectors of a sheet match nothing on any legal page\n",
     ),
     (
         "cssmin style --help",
@@ -39,6 +39,14 @@ const HELP: &[(&str, &[u8])] = &[
     (
         "cssmin same --help",
         b"Compare which declarations win by two style sheets\n",
+    ),
+    (
+        "cssmin diff --help",
+        b"Tell how a style sheet differs from what another tool made of it\n",
+    ),
+    (
+        "cssmin blockers --help",
+        b"Tell which items of a style sheet stop merges that would save bytes\n",
     ),
     (
         "cssmin list --help",
@@ -65,7 +73,7 @@ const REFUSED: &[(&str, &[u8])] = &[
     (
         "cssmin",
         b"error: 'cssmin' requires a subcommand but one was not provided
-  [subcommands: min, cmp, dead, style, why, same, list, lint, inspect, check, trial, help]
+  [subcommands: min, cmp, dead, style, why, same, diff, blockers, list, lint, inspect, check, trial, help]
 
 Usage: cssmin <COMMAND>
 
@@ -131,6 +139,13 @@ For more information, try '--help'.
 ",
     ),
     (
+        "cssmin diff 9 --limit 0",
+        b"error: invalid value '0' for '--limit <K>': 0 is not in 1..=10000
+
+For more information, try '--help'.
+",
+    ),
+    (
         "cssmin trial 2001",
         b"error: invalid value '2001' for '<N>': 2001 is not in 0..=2000
 
@@ -139,6 +154,7 @@ For more information, try '--help'.
     ),
     ("cssmin cmp a b --budget 07", USAGE),
     ("cssmin trial 07", USAGE),
+    ("cssmin diff 9 --limit 07", USAGE),
     ("cssmin min --budget 07", USAGE),
     ("cssmin min --help --report", USAGE),
 ];

@@ -2,21 +2,19 @@
 
 use crate::purposes::purpose;
 use clap::{Arg, ArgAction, Command, value_parser};
-use command_words::{MOST_BUDGET, MOST_RULES, Topic};
+use command_words::{MOST_BUDGET, MOST_LIMIT, MOST_RULES, Topic};
 use std::alloc::{AllocError, Global};
 
 const PROGRAM_HELP: &str = "\
 Exit status:
   0  done                            6  not enough memory
-  1  done, and lint found something  7  no item of this number
+  1  lint or diff found something    7  no item of this number
   2  wrong words                     8  the log is refused
   3  the sheet is refused            9  the page is refused
   4  the input cannot be read       10  the input is shorter than N bytes
   5  the output cannot be written   11  the second sheet is refused
 
     cssmin min <sheet.css >sheet.min.css
-    cssmin cmp 'a:hover' '.menu > a'
-    { cat page.txt; echo; cat sheet.css; } | cssmin style
 
 cssmin takes no file names. Name the sheet with `<`, and another file, the
 target, with `>`. Each command has a page, as `cssmin min --help`.
@@ -256,6 +254,87 @@ fn same_command<'a>(alloc: Global) -> Result<Command<'a>, AllocError> {
         .arg(budget(alloc))
 }
 
+const DIFF_HELP: &str = "\
+Standard input has two style sheets, one after the other. The first one has N
+bytes. cssmin looks through both, also inside `@media` blocks. After `same` the
+same declarations win on every legal page. Otherwise the first line has the
+number of each word below, and then come lines with places as in `cssmin list`:
+
+    reversed   two pairs of a selector and a declaration have another order. On
+               the small legal page after them the winners differ: `first` is
+               that of the first sheet, `second` that of the second one
+    related    two such pairs of related properties, as `top` and `left`
+    masked     two such pairs; on their page the winner is the same
+    unsure     another order that is not decided: `kept`, next to a part that
+               stays as written; `media`, under two heads; `R` or `spent`, as
+               in `cssmin cmp`
+    limit K    there are K lines on order, and there may be more
+    missing    a pair or a part that only the first sheet has
+    extra      one that only the second sheet has
+    changed    one that has another value in the second sheet
+
+White space that says nothing does not count. Blocks with equal heads count as
+one. A page is legal if each id occurs once, no link is both visited and
+unvisited, and nothing is both enabled and disabled.
+
+The status is 1 if the sheets differ, and 0 after `same`. A greater one is a
+failure: `refused: KIND at N (LINE:COLUMN)`, `second refused: ..`, `no split N`.";
+
+/// The option that limits the couples that are told.
+fn limit<'a>(alloc: Global) -> Arg<'a> {
+    Arg::new(alloc, "limit")
+        .long("limit")
+        .value_name("K")
+        .value_parser(value_parser!(u32).range(1..=i64::from(MOST_LIMIT)))
+        .help("Tell at most K changes of order, 1 to 10000 [default: 20]")
+}
+
+/// The command `diff`.
+fn diff_command<'a>(alloc: Global) -> Result<Command<'a>, AllocError> {
+    let split = Arg::new(alloc, "N")
+        .required(true)
+        .help("The number of bytes of the first sheet");
+    Command::new(alloc, "diff")
+        .about(purpose(Topic::Diff))
+        .override_usage("cssmin diff [OPTIONS] N <TWO-SHEETS")
+        .after_help(DIFF_HELP)
+        .arg(split.value_parser(value_parser!(u32)))?
+        .arg(budget(alloc))?
+        .arg(limit(alloc))
+}
+
+const BLOCKERS_HELP: &str = "\
+cssmin reads the sheet from standard input and merges it as `cssmin min` does.
+Of each step that would still save bytes it looks for all items that stop it:
+parts that stay as written, and rules that one element may match too. First come
+four lines of two numbers, the steps and the bytes that they would save: all of
+them, those stopped by kept parts alone, by rules alone, and by both. Then each
+item that stops a step has a line, the one that stops most bytes first:
+
+    stops 2 6 2 6 3:1 .b
+    best 3 JoinSelUp 1:1 5:1 .a{top:2px} .b{top:1px}
+
+`stops` has the steps that the item stops and their bytes, those that nothing
+else stops and theirs, where it begins, and its selectors or its text. `best` is
+the best of those that nothing else stops: its bytes and its kind, where its two
+rules begin, and the two pairs of a selector and a declaration that would change
+their order. If the item is kept as written, there is one pair.
+
+Steps exclude one another, so the sum of their bytes is no promise. A place is a
+line and a column of the sheet. `cssmin min --report` lists each step.
+
+The status is 0, whatever is stopped. If cssmin refuses the sheet, it says
+where: `refused: KIND at N (LINE:COLUMN)`.";
+
+/// The command `blockers`.
+fn blockers_command<'a>(alloc: Global) -> Result<Command<'a>, AllocError> {
+    Command::new(alloc, "blockers")
+        .about(purpose(Topic::Blockers))
+        .override_usage("cssmin blockers [--budget N] <SHEET")
+        .after_help(BLOCKERS_HELP)
+        .arg(budget(alloc))
+}
+
 const LIST_HELP: &str = "\
 cssmin reads the sheet from standard input. Each rule and at-rule outside all
 at-rules gets a line on standard output, in order:
@@ -377,6 +456,8 @@ pub(crate) fn program<'a>(alloc: Global, version: &'a str) -> Result<Command<'a>
         .subcommand(style_command(alloc))?
         .subcommand(why_command(alloc)?)?
         .subcommand(same_command(alloc)?)?
+        .subcommand(diff_command(alloc)?)?
+        .subcommand(blockers_command(alloc)?)?
         .subcommand(list_command(alloc))?
         .subcommand(lint_command(alloc)?)?
         .subcommand(inspect_command(alloc))?

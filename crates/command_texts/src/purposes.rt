@@ -13,12 +13,14 @@ pub(crate) fn purpose(about: Topic) -> &'static str
         Topic::Program => {
             "Makes a CSS style sheet smaller, with the same winners on every legal page"
         }
-        Topic::Min => "Make a style sheet smaller, with the same winners on every legal page",
-        Topic::Dead => "Tell which selectors of a style sheet match nothing on any legal page",
+        Topic::Min => "Make a style sheet smaller, with the same winners on each legal page",
+        Topic::Dead => "Tell which selectors of a sheet match nothing on any legal page",
         Topic::Style => "Tell which declarations win for an element of a small page",
         Topic::Cmp => "Tell whether one element of a legal page can match two selectors",
         Topic::Why => "Tell why a rule of a style sheet may not be moved to another one",
         Topic::Same => "Compare which declarations win by two style sheets",
+        Topic::Diff => "Tell how a style sheet differs from what another tool made of it",
+        Topic::Blockers => "Tell which items of a style sheet stop merges that would save bytes",
         Topic::Listing => "List the items of a style sheet, each with its number and its place",
         Topic::Lint => "Tell which selectors match nothing and which declarations come again",
         Topic::Inspect => "List all declarations for an element of a small page, and which win",

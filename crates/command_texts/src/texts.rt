@@ -61,6 +61,8 @@ pub fn help_text(alloc: Global, about: Topic) -> Result<Vec<u8>, AllocError>
         Topic::Why => &["cssmin", "why", "--help"],
         Topic::Same => &["cssmin", "same", "--help"],
         Topic::Style => &["cssmin", "style", "--help"],
+        Topic::Diff => &["cssmin", "diff", "--help"],
+        Topic::Blockers => &["cssmin", "blockers", "--help"],
         Topic::Listing => &["cssmin", "list", "--help"],
         Topic::Lint => &["cssmin", "lint", "--help"],
         Topic::Inspect => &["cssmin", "inspect", "--help"],

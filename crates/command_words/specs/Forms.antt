@@ -15,6 +15,8 @@ pub data Form : Type 0 where
   Check : Form
   Why : (from to : ℕ) (budget : Option ℕ) → Form
   Same : (split : ℕ) (budget : Option ℕ) → Form
+  Diff : (split : ℕ) (budget : Option ℕ) (limit : ℕ) → Form
+  Blockers : (budget : Option ℕ) → Form
   Listing : Form
   Lint : (budget : Option ℕ) → Form
   Inspect : Form
@@ -49,44 +51,71 @@ most_number = 4294967295
 abbrev pub most_rules : ℕ
 most_rules = 2000
 
+-- the most couples that words may let a comparison tell, and how many it tells where they name no number
+abbrev pub most_limit : ℕ
+most_limit = 10000
+
+abbrev pub usual_limit : ℕ
+usual_limit = 20
+
 -- A number up to `most`, in decimal digits without a sign and without a leading zero.
 unfoldable pub number_up_to : (most : ℕ) → List ℕ → Option ℕ
 number_up_to most word =
     let number = digits_value 10 word in
     if is_word word (decimal number) && not (nat_lt most number) then Some number else None
 
+-- the same of a number from 1 on
+abbrev pub count_up_to : (most : ℕ) → List ℕ → Option ℕ
+count_up_to most word = if is_word word (codes "0") then None else number_up_to most word
+
 -- ---- Operands and options
 
--- What may stand behind the name of a command: operands, in their order, the budget, if one is named, and whether a log
--- or a report is asked for.
+-- What may stand behind the name of a command: operands, in their order, the budget and the limit, if they are named, and
+-- whether a log or a report is asked for.
 pub data Arguments : Type 0 where
-  arguments : (operands : List (List ℕ)) (budget : Option ℕ) (log report : Bool) → Arguments
+  arguments : (operands : List (List ℕ)) (budget limit : Option ℕ) (log report : Bool) → Arguments
 
 -- one operand more; no command takes three
 abbrev pub with_operand : List ℕ → Option Arguments → Option Arguments
-with_operand word (Some (arguments [] budget log report)) = Some (arguments (word ∷ []) budget log report)
-with_operand word (Some (arguments (first ∷ []) budget log report)) = Some (arguments (first ∷ word ∷ []) budget log report)
+with_operand word (Some (arguments [] budget limit log report)) = Some (arguments (word ∷ []) budget limit log report)
+with_operand word (Some (arguments (first ∷ []) budget limit log report)) = Some (arguments (first ∷ word ∷ []) budget limit log report)
 with_operand word before = None
 
 -- a budget, if none is named before
 abbrev pub with_budget : Option ℕ → Option Arguments → Option Arguments
-with_budget (Some number) (Some (arguments operands None log report)) = Some (arguments operands (Some number) log report)
+with_budget (Some number) (Some (arguments operands None limit log report)) = Some (arguments operands (Some number) limit log report)
 with_budget number before = None
+
+-- a limit, if none is named before
+abbrev pub with_limit : Option ℕ → Option Arguments → Option Arguments
+with_limit (Some number) (Some (arguments operands budget None log report)) = Some (arguments operands budget (Some number) log report)
+with_limit number before = None
 
 -- a log, if none is asked for before
 abbrev pub with_log : Option Arguments → Option Arguments
-with_log (Some (arguments operands budget false report)) = Some (arguments operands budget true report)
+with_log (Some (arguments operands budget limit false report)) = Some (arguments operands budget limit true report)
 with_log before = None
 
 -- a report, if none is asked for before
 abbrev pub with_report : Option Arguments → Option Arguments
-with_report (Some (arguments operands budget log false)) = Some (arguments operands budget log true)
+with_report (Some (arguments operands budget limit log false)) = Some (arguments operands budget limit log true)
 with_report before = None
 
--- one word more: `--budget=N`, or an operand
+-- whether the word behind this one is its number
+abbrev pub takes_number : List ℕ → Bool
+takes_number option = is_word option (codes "--budget") || is_word option (codes "--limit")
+
+-- such an option with its number
+abbrev pub with_number : (option number : List ℕ) → Option Arguments → Option Arguments
+with_number option number before =
+    if is_word option (codes "--budget") then with_budget (number_up_to most_budget number) before
+    else with_limit (count_up_to most_limit number) before
+
+-- one word more: `--budget=N`, `--limit=K`, or an operand
 abbrev pub with_other_word : List ℕ → Option Arguments → Option Arguments
 with_other_word word before =
     if is_word (take 9 word) (codes "--budget=") then with_budget (number_up_to most_budget (drop 9 word)) before
+    else if is_word (take 8 word) (codes "--limit=") then with_limit (count_up_to most_limit (drop 8 word)) before
     else if is_operand word then with_operand word before else None
 
 -- the same, or `--log` or `--report`
@@ -94,17 +123,17 @@ abbrev pub with_word : List ℕ → Option Arguments → Option Arguments
 with_word word before =
     if is_word word (codes "--log") then with_log before else if is_word word (codes "--report") then with_report before else with_other_word word before
 
--- More words, read from the left: the word behind `--budget` is its number.
+-- More words, read from the left: the word behind `--budget` or `--limit` is its number.
 abbrev pub with_words : Option Arguments → List (List ℕ) → Option Arguments
 with_words before [] = before
 with_words before (word ∷ []) = with_word word before
 with_words before (word ∷ next ∷ words) =
-    if is_word word (codes "--budget") then with_words (with_budget (number_up_to most_budget next) before) words
+    if takes_number word then with_words (with_number word next before) words
     else with_words (with_word word before) (next ∷ words)
 
 -- what words behind the name of a command are: an option stands once at most, and anywhere
 abbrev pub arguments_of : List (List ℕ) → Option Arguments
-arguments_of words = with_words (Some (arguments [] None false false)) words
+arguments_of words = with_words (Some (arguments [] None None false false)) words
 
 -- ---- What words ask for
 
@@ -118,6 +147,16 @@ abbrev pub compared : (split budget : Option ℕ) → Option Form
 compared (Some split) budget = Some (Same split budget)
 compared None budget = None
 
+-- the limit that is named, or the usual one
+abbrev pub limit_or_usual : Option ℕ → ℕ
+limit_or_usual (Some limit) = limit
+limit_or_usual None = usual_limit
+
+-- a number of bytes, for all that is found
+abbrev pub differing : (split budget limit : Option ℕ) → Option Form
+differing (Some split) budget limit = Some (Diff split budget (limit_or_usual limit))
+differing None budget limit = None
+
 -- a number of rules
 abbrev pub tried : (rules : Option ℕ) → Option Form
 tried (Some rules) = Some (Trial rules)
@@ -125,17 +164,19 @@ tried None = None
 
 -- what a command with these operands and options asks for
 abbrev pub asked : Topic → Option Arguments → Option Form
-asked topic.Min (Some (arguments [] budget false report)) = Some (Min budget report)
-asked topic.Dead (Some (arguments [] budget false false)) = Some (Dead budget)
-asked topic.Style (Some (arguments [] None false false)) = Some Style
-asked topic.Cmp (Some (arguments (left ∷ right ∷ []) budget log false)) = Some (Cmp left right budget log)
-asked topic.Check (Some (arguments [] None false false)) = Some Check
-asked topic.Why (Some (arguments (from ∷ to ∷ []) budget false false)) = moved (number_up_to most_number from) (number_up_to most_number to) budget
-asked topic.Same (Some (arguments (split ∷ []) budget false false)) = compared (number_up_to most_number split) budget
-asked topic.Listing (Some (arguments [] None false false)) = Some Listing
-asked topic.Lint (Some (arguments [] budget false false)) = Some (Lint budget)
-asked topic.Inspect (Some (arguments [] None false false)) = Some Inspect
-asked topic.Trial (Some (arguments (rules ∷ []) None false false)) = tried (number_up_to most_rules rules)
+asked topic.Min (Some (arguments [] budget None false report)) = Some (Min budget report)
+asked topic.Dead (Some (arguments [] budget None false false)) = Some (Dead budget)
+asked topic.Style (Some (arguments [] None None false false)) = Some Style
+asked topic.Cmp (Some (arguments (left ∷ right ∷ []) budget None log false)) = Some (Cmp left right budget log)
+asked topic.Check (Some (arguments [] None None false false)) = Some Check
+asked topic.Why (Some (arguments (from ∷ to ∷ []) budget None false false)) = moved (number_up_to most_number from) (number_up_to most_number to) budget
+asked topic.Same (Some (arguments (split ∷ []) budget None false false)) = compared (number_up_to most_number split) budget
+asked topic.Diff (Some (arguments (split ∷ []) budget limit false false)) = differing (number_up_to most_number split) budget limit
+asked topic.Blockers (Some (arguments [] budget None false false)) = Some (Blockers budget)
+asked topic.Listing (Some (arguments [] None None false false)) = Some Listing
+asked topic.Lint (Some (arguments [] budget None false false)) = Some (Lint budget)
+asked topic.Inspect (Some (arguments [] None None false false)) = Some Inspect
+asked topic.Trial (Some (arguments (rules ∷ []) None None false false)) = tried (number_up_to most_rules rules)
 asked about words = None
 
 -- the command of a name
@@ -148,6 +189,8 @@ command_named name =
     else if is_word name (codes "check") then Some topic.Check
     else if is_word name (codes "why") then Some topic.Why
     else if is_word name (codes "same") then Some topic.Same
+    else if is_word name (codes "diff") then Some topic.Diff
+    else if is_word name (codes "blockers") then Some topic.Blockers
     else if is_word name (codes "list") then Some topic.Listing
     else if is_word name (codes "lint") then Some topic.Lint
     else if is_word name (codes "inspect") then Some topic.Inspect

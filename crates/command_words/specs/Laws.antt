@@ -1,7 +1,7 @@
 -- Laws on the forms of a command line.
 use Rattle.std.specs.Prelude.{◌≡◌, ◌↔◌, ℕ, true, false, List, [], ◌∷◌, Some, None, codes}
-use Rattle.command_words.specs.Forms.{Min, Cmp, form_of, is_operand, most_budget, most_rules}
-use Rattle.command_words.specs.declared.command.TheConstants.{MOST_BUDGET, MOST_RULES}
+use Rattle.command_words.specs.Forms.{Min, Cmp, form_of, is_operand, most_budget, most_limit, most_rules, usual_limit}
+use Rattle.command_words.specs.declared.command.TheConstants.{MOST_BUDGET, MOST_LIMIT, MOST_RULES, USUAL_LIMIT}
 
 -- exactly the one word `min` minifies with no budget named and no report asked for
 abbrev pub MinIsOneWord : Type 0
@@ -18,3 +18,10 @@ MostBudgetIsDefined = MOST_BUDGET ≡ most_budget
 -- the greatest number of rules
 abbrev pub MostRulesIsDefined : Type 0
 MostRulesIsDefined = MOST_RULES ≡ most_rules
+
+-- the most couples that a comparison may be asked to tell, and how many it tells where nothing is said
+abbrev pub MostLimitIsDefined : Type 0
+MostLimitIsDefined = MOST_LIMIT ≡ most_limit
+
+abbrev pub UsualLimitIsDefined : Type 0
+UsualLimitIsDefined = USUAL_LIMIT ≡ usual_limit

@@ -1,6 +1,6 @@
 -- What a contract sees of a command, and of operands and options.
 use Rattle.std.specs.Prelude.{ℕ, List, [], ◌∷◌, Option, Some, None}
-use Rattle.command_words.specs.Forms.{Form, Min, Style, Dead, Cmp, Check, Why, Same, Listing, Lint, Inspect, Trial, Help, Version, Arguments, arguments}
+use Rattle.command_words.specs.Forms.{Form, Min, Style, Dead, Cmp, Check, Why, Same, Diff, Blockers, Listing, Lint, Inspect, Trial, Help, Version, Arguments, arguments}
 use Rattle.command_words.specs.declared.command.Command.{Command}
 use Rattle.command_words.specs.declared.command.Command.TheVariants as command
 use Rattle.command_words.specs.declared.arguments.Arguments as read
@@ -16,6 +16,8 @@ form (command.Cmp left right budget log) = Cmp left.now right.now budget log
 form command.Check = Check
 form (command.Why from to budget) = Why from to budget
 form (command.Same split budget) = Same split budget
+form (command.Diff split budget limit) = Diff split budget limit
+form (command.Blockers budget) = Blockers budget
 form command.Listing = Listing
 form (command.Lint budget) = Lint budget
 form command.Inspect = Inspect
@@ -35,4 +37,4 @@ texts (operands.Two first second) = first.now ∷ second.now ∷ []
 
 abbrev pub arguments_if_some : Option read.Arguments → Option Arguments
 arguments_if_some None = None
-arguments_if_some (Some read) = Some (arguments (texts read.operands) read.budget read.log read.report)
+arguments_if_some (Some read) = Some (arguments (texts read.operands) read.budget read.limit read.log read.report)

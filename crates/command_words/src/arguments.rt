@@ -4,8 +4,8 @@ ghost use Rattle.std.specs.Prelude.{◌≡◌, Some, map, string_bytes};
 ghost use Rattle.command_words.specs.Forms as forms;
 ghost use Rattle.command_words.specs.Views.{arguments_if_some};
 
-use crate::command::MOST_BUDGET;
-use crate::numbers::number_up_to;
+use crate::command::{MOST_BUDGET, MOST_LIMIT};
+use crate::numbers::{count_up_to, number_up_to};
 
 /// Up to two operands.
 #[derive(Clone, Copy, Debug)]
@@ -15,11 +15,12 @@ pub(crate) enum Operands<'a> {
     Two(&'a str, &'a str),
 }
 
-/// Operands, the budget, if one is named, and whether a log or a report is asked for.
+/// Operands, the budget and the limit, if they are named, and whether a log or a report is asked for.
 #[derive(Clone, Copy, Debug)]
 pub(crate) struct Arguments<'a> {
     pub(crate) operands: Operands<'a>,
     pub(crate) budget: Option<u32>,
+    pub(crate) limit: Option<u32>,
     pub(crate) log: bool,
     pub(crate) report: bool,
 }
@@ -60,6 +61,20 @@ fn with_budget<'a>(number: &str, before: Arguments<'a>) -> Option<Arguments<'a>>
     }
 }
 
+/// Arguments with the limit of this word, where none is named before.
+fn with_limit<'a>(number: &str, before: Arguments<'a>) -> Option<Arguments<'a>>
+    ensures { arguments_if_some result
+        ≡ forms.with_limit (forms.count_up_to forms.most_limit number.now) (arguments_if_some (Some before.entry)) }
+{
+    match (before.limit, count_up_to(MOST_LIMIT, number)) {
+        (None, Some(limit)) => Some(Arguments {
+            limit: Some(limit),
+            ..before
+        }),
+        _ => None,
+    }
+}
+
 /// Arguments with a log, where none is asked for before.
 fn with_log<'a>(before: Arguments<'a>) -> Option<Arguments<'a>>
     ensures { arguments_if_some result ≡ forms.with_log (arguments_if_some (Some before.entry)) }
@@ -88,12 +103,34 @@ fn with_report<'a>(before: Arguments<'a>) -> Option<Arguments<'a>>
     }
 }
 
+/// Whether the word after this one is its number.
+fn takes_number(option: &str) -> bool
+    ensures { result ≡ forms.takes_number option.now }
+{
+    option == "--budget" || option == "--limit"
+}
+
+/// Arguments with such an option and its number.
+fn with_number<'a>(option: &str, number: &str, before: Arguments<'a>) -> Option<Arguments<'a>>
+    ensures { arguments_if_some result
+        ≡ forms.with_number option.now number.now (arguments_if_some (Some before.entry)) }
+{
+    if option == "--budget" {
+        with_budget(number, before)
+    } else {
+        with_limit(number, before)
+    }
+}
+
 /// Arguments with one more word that is neither `--log` nor `--report`.
 fn with_other_word<'a>(word: &'a str, before: Arguments<'a>) -> Option<Arguments<'a>>
     ensures { arguments_if_some result ≡ forms.with_other_word word.now (arguments_if_some (Some before.entry)) }
 {
-    match word.strip_prefix("--budget=") {
-        Some(number) => with_budget(number, before),
+    if let Some(number) = word.strip_prefix("--budget=") {
+        return with_budget(number, before);
+    }
+    match word.strip_prefix("--limit=") {
+        Some(number) => with_limit(number, before),
         None => {
             if is_operand(word) {
                 with_operand(word, before)
@@ -126,8 +163,8 @@ fn with_words<'a>(before: Arguments<'a>, words: &'a [String]) -> Option<Argument
         [] => Some(before),
         [word] => with_word(word.as_str(), before),
         [word, next, behind @ ..] => {
-            if word.as_str() == "--budget" {
-                match with_budget(next.as_str(), before) {
+            if takes_number(word.as_str()) {
+                match with_number(word.as_str(), next.as_str(), before) {
                     Some(arguments) => with_words(arguments, behind),
                     None => None,
                 }
@@ -148,6 +185,7 @@ pub(crate) fn arguments_of<'a>(words: &'a [String]) -> Option<Arguments<'a>>
     let none = Arguments {
         operands: Operands::None,
         budget: None,
+        limit: None,
         log: false,
         report: false,
     };

@@ -9,6 +9,12 @@ pub const MOST_BUDGET: u32 = 20_000;
 /// The most rules of a made sheet that words may ask for.
 pub const MOST_RULES: u32 = 2_000;
 
+/// The most couples that words may let `diff` tell.
+pub const MOST_LIMIT: u32 = 10_000;
+
+/// How many couples `diff` tells if words name no number.
+pub const USUAL_LIMIT: u32 = 20;
+
 /// How many rules a made sheet is to have: at most `MOST_RULES`.
 #[derive(Clone, Copy, Debug)]
 pub struct RuleCount {
@@ -43,6 +49,10 @@ pub enum Topic {
     Why,
     /// The command `same`.
     Same,
+    /// The command `diff`.
+    Diff,
+    /// The command `blockers`.
+    Blockers,
     /// The command `list`.
     Listing,
     /// The command `lint`.
@@ -98,6 +108,21 @@ pub enum Command<'a> {
     Same {
         /// How many bytes the first sheet has.
         split: u32,
+        /// How many clauses may be learned for a pair, where the words say it: at most `MOST_BUDGET`.
+        budget: Option<u32>,
+    },
+    /// Tell all differences of two style sheets. The first has the first bytes of the input.
+    Diff {
+        /// How many bytes the first sheet has.
+        split: u32,
+        /// How many clauses may be learned for a pair, where the words say it: at most `MOST_BUDGET`.
+        budget: Option<u32>,
+        /// How many couples in another order may be told: from 1 to `MOST_LIMIT`, and `USUAL_LIMIT` where the words do not say
+        /// it.
+        limit: u32,
+    },
+    /// Tell which items of a style sheet stop the merges that are left.
+    Blockers {
         /// How many clauses may be learned for a pair, where the words say it: at most `MOST_BUDGET`.
         budget: Option<u32>,
     },

@@ -1,6 +1,6 @@
 //! What follows from the definition of the forms, as functions that do nothing.
 
-ghost use Rattle.command_words.specs.Laws.{CmpComparesTwoWords, MinIsOneWord, MostBudgetIsDefined, MostRulesIsDefined};
+ghost use Rattle.command_words.specs.Laws.{CmpComparesTwoWords, MinIsOneWord, MostBudgetIsDefined, MostLimitIsDefined, MostRulesIsDefined, UsualLimitIsDefined};
 
 /// Exactly the one word `min` minifies with no budget named and no report asked for.
 #[tactic(auto, using(crate::proofs::FormLaws::min_is_one_word))]
@@ -22,4 +22,14 @@ pub fn most_budget_is_defined()
 /// The greatest number of rules is that of the definition.
 pub fn most_rules_is_defined()
     ensures { MostRulesIsDefined }
+{}
+
+/// The greatest limit of told couples is that of the definition.
+pub fn most_limit_is_defined()
+    ensures { MostLimitIsDefined }
+{}
+
+/// The limit of told couples that words need not name is that of the definition.
+pub fn usual_limit_is_defined()
+    ensures { UsualLimitIsDefined }
 {}

@@ -1,7 +1,7 @@
 //! Numbers in words.
 
 ghost use Rattle.std.specs.Prelude.{◌≡◌, ◌<◌, ◌≤◌, ◌^◌, ◌↔◌, ℕ, decimal, IsTrue};
-ghost use Rattle.command_words.specs.Forms.{number_up_to};
+ghost use Rattle.command_words.specs.Forms.{count_up_to, number_up_to};
 
 use itoa::Buffer;
 
@@ -39,5 +39,16 @@ pub(crate) fn number_up_to(most: u32, word: &str) -> Option<u32>
         Some(number)
     } else {
         None
+    }
+}
+
+/// The same of a number from 1 on.
+pub(crate) fn count_up_to(most: u32, word: &str) -> Option<u32>
+    ensures { result ≡ count_up_to most word.now }
+{
+    if word == "0" {
+        None
+    } else {
+        number_up_to(most, word)
     }
 }

@@ -5,7 +5,7 @@ ghost use Rattle.command_words.specs.Forms as forms;
 ghost use Rattle.command_words.specs.Views.{form_if_some, arguments_if_some};
 
 use crate::arguments::{Arguments, Operands, arguments_of};
-use crate::command::{Command, MOST_RULES, RuleCount, Topic};
+use crate::command::{Command, MOST_RULES, RuleCount, Topic, USUAL_LIMIT};
 use crate::numbers::number_up_to;
 
 /// Whether a word asks how something is used.
@@ -46,6 +46,22 @@ fn compared<'a>(split: &str, budget: Option<u32>) -> Option<Command<'a>>
     }
 }
 
+/// All differences of two sheets, where the word is a number of bytes.
+fn differing<'a>(split: &str, budget: Option<u32>, limit: Option<u32>) -> Option<Command<'a>>
+    ensures { form_if_some result
+        ≡ forms.differing (forms.number_up_to forms.most_number split.now) budget limit }
+{
+    let limit = limit.unwrap_or(USUAL_LIMIT);
+    match number_up_to(u32::MAX, split) {
+        Some(split) => Some(Command::Diff {
+            split,
+            budget,
+            limit,
+        }),
+        None => None,
+    }
+}
+
 /// The trial of a made sheet, where the word is a number of its rules.
 fn tried<'a>(rules: &str) -> Option<Command<'a>>
     ensures { form_if_some result ≡ forms.tried (forms.number_up_to forms.most_rules rules.now) }
@@ -67,27 +83,40 @@ fn asked<'a>(about: Topic, words: Option<Arguments<'a>>) -> Option<Command<'a>>
         about,
         arguments.operands,
         arguments.budget,
+        arguments.limit,
         arguments.log,
         arguments.report,
     ) {
-        (Topic::Min, Operands::None, budget, false, report) => {
+        (Topic::Min, Operands::None, budget, None, false, report) => {
             Some(Command::Min { budget, report })
         }
-        (Topic::Style, Operands::None, None, false, false) => Some(Command::Style),
-        (Topic::Dead, Operands::None, budget, false, false) => Some(Command::Dead { budget }),
-        (Topic::Cmp, Operands::Two(left, right), budget, log, false) => Some(Command::Cmp {
+        (Topic::Style, Operands::None, None, None, false, false) => Some(Command::Style),
+        (Topic::Dead, Operands::None, budget, None, false, false) => {
+            Some(Command::Dead { budget })
+        }
+        (Topic::Cmp, Operands::Two(left, right), budget, None, log, false) => Some(Command::Cmp {
             left,
             right,
             budget,
             log,
         }),
-        (Topic::Check, Operands::None, None, false, false) => Some(Command::Check),
-        (Topic::Why, Operands::Two(from, to), budget, false, false) => moved(from, to, budget),
-        (Topic::Same, Operands::One(split), budget, false, false) => compared(split, budget),
-        (Topic::Listing, Operands::None, None, false, false) => Some(Command::Listing),
-        (Topic::Lint, Operands::None, budget, false, false) => Some(Command::Lint { budget }),
-        (Topic::Inspect, Operands::None, None, false, false) => Some(Command::Inspect),
-        (Topic::Trial, Operands::One(rules), None, false, false) => tried(rules),
+        (Topic::Check, Operands::None, None, None, false, false) => Some(Command::Check),
+        (Topic::Why, Operands::Two(from, to), budget, None, false, false) => {
+            moved(from, to, budget)
+        }
+        (Topic::Same, Operands::One(split), budget, None, false, false) => compared(split, budget),
+        (Topic::Diff, Operands::One(split), budget, limit, false, false) => {
+            differing(split, budget, limit)
+        }
+        (Topic::Blockers, Operands::None, budget, None, false, false) => {
+            Some(Command::Blockers { budget })
+        }
+        (Topic::Listing, Operands::None, None, None, false, false) => Some(Command::Listing),
+        (Topic::Lint, Operands::None, budget, None, false, false) => {
+            Some(Command::Lint { budget })
+        }
+        (Topic::Inspect, Operands::None, None, None, false, false) => Some(Command::Inspect),
+        (Topic::Trial, Operands::One(rules), None, None, false, false) => tried(rules),
         _ => None,
     }
 }
@@ -111,6 +140,10 @@ fn command_named(name: &str) -> Option<Topic>
         Some(Topic::Why)
     } else if name == "same" {
         Some(Topic::Same)
+    } else if name == "diff" {
+        Some(Topic::Diff)
+    } else if name == "blockers" {
+        Some(Topic::Blockers)
     } else if name == "list" {
         Some(Topic::Listing)
     } else if name == "lint" {

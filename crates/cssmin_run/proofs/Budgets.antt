@@ -7,7 +7,7 @@ use Rattle.std.proofs.lemmas.Grind.{merely}
 use Rattle.std.proofs.lemmas.List.Elements.{All-contains}
 use Rattle.cnf.specs.Budgets.{no_limit}
 use Rattle.cnf.specs.declared.lit.Lit.{Lit}
-use Rattle.command_words.specs.Forms.{Form, Min, Style, Dead, Cmp, Check, Why, Same, Listing, Lint, Inspect, Trial, Help, Version, form_of}
+use Rattle.command_words.specs.Forms.{Form, Min, Style, Dead, Cmp, Check, Why, Same, Diff, Blockers, Listing, Lint, Inspect, Trial, Help, Version, form_of}
 use Rattle.compare_text.specs.ComparedTexts.{AsksFor, selector_or_reason}
 use Rattle.css_model.specs.declared.fault.SheetFault.{SheetFault}
 use Rattle.css_model.specs.declared.sheet.Item.{Item}
@@ -27,9 +27,11 @@ use Rattle.overlap.specs.Remembered.{IsAnswered, IsTrueList}
 use Rattle.same_text.specs.SameTexts.{max_both}
 use Rattle.why_text.specs.WhyTexts.{Asks}
 use Rattle.cssmin_run.specs.Change.{Change}
+use Rattle.cssmin_run.specs.Commands.Blockers.{TellsBlockers}
 use Rattle.cssmin_run.specs.Commands.Check.{CheckRefuses, Checks}
 use Rattle.cssmin_run.specs.Commands.Cmp.{CmpDoes, IsAnswer, IsTextOf, unasked}
 use Rattle.cssmin_run.specs.Commands.Dead.{TellsLives}
+use Rattle.cssmin_run.specs.Commands.Diff.{TellsDifferences, same_line}
 use Rattle.cssmin_run.specs.Commands.Inspect.{TellsGroups}
 use Rattle.cssmin_run.specs.Commands.Lint.{TellsFound}
 use Rattle.cssmin_run.specs.Commands.Listing.{ListsItems}
@@ -38,7 +40,7 @@ use Rattle.cssmin_run.specs.Commands.Same.{ComparesSheets, SameRefuses}
 use Rattle.cssmin_run.specs.Commands.Style.{StyleRefuses, TellsWinners}
 use Rattle.cssmin_run.specs.Commands.Trial.{TrialDoes}
 use Rattle.cssmin_run.specs.Commands.Why.{ExplainsMove, WhyRefuses}
-use Rattle.cssmin_run.specs.Placed.{in_sheet, in_sheet_part, nowhere}
+use Rattle.cssmin_run.specs.Placed.{in_sheet, in_sheet_part, in_two_sheets, nowhere}
 use Rattle.cssmin_run.specs.Run.{Answers, Ran, named_budget}
 use Rattle.cssmin_run.specs.Tasks.{Does, Finds, Silent}
 use Rattle.cssmin_run.specs.declared.status.Status.{Status}
@@ -123,6 +125,12 @@ of_move from to budget read text held pairs h is =
 of_sheets : (split : ℕ) (budget : Option ℕ) (read text : List ℕ) (held : Option PairsParts) (pairs : PairsParts) → ComparesSheets split budget read text held → held ≡ Some pairs → AreTrueFor budget pairs
 of_sheets split budget read text held pairs h is = same_held budget held h.0 pairs h.1 (record { same_budget = h.2.budget; all_true = h.3.compared.all_true }) is
 
+of_differences : (split : ℕ) (budget : Option ℕ) (limit : ℕ) (read text : List ℕ) (held : Option PairsParts) (pairs : PairsParts) → TellsDifferences split budget limit read text held → held ≡ Some pairs → AreTrueFor budget pairs
+of_differences split budget limit read text held pairs h is = same_held budget held h.0 pairs h.1 (record { same_budget = h.2.budget; all_true = h.3.compared.tells.all_true }) is
+
+of_blockers : (budget : Option ℕ) (read text : List ℕ) (held : Option PairsParts) (pairs : PairsParts) → TellsBlockers budget read text held → held ≡ Some pairs → AreTrueFor budget pairs
+of_blockers budget read text held pairs h is = same_held budget held h.0 pairs h.1 (record { same_budget = h.2; all_true = h.3.true_list }) is
+
 -- ---- What is held after each status
 
 -- where answers are held, a text was made by them
@@ -142,20 +150,20 @@ made most Where Makes Refuses WriteFault input output err held pairs does is = (
 made most Where Makes Refuses NoMemory input output err held pairs does is = unheld held pairs does.0 is
 
 -- so it is of a command whose status says whether it found something
-finding_made : (most : ℕ) (Where : Status → List ℕ → Option Place) (Makes : (read text report : List ℕ) (held : Option PairsParts) → Type 0) (Refuses : Status → List ℕ → Type 0) (status : Status) (input output err : Change) (held : Option PairsParts) (pairs : PairsParts)
-    → Finds most Where Makes Refuses status input output err held → held ≡ Some pairs → (read : List ℕ) × (text : List ℕ) × (report : List ℕ) × Makes read text report held
-finding_made most Where Makes Refuses Done input output err held pairs finds is = (finds.read, finds.text, finds.report, finds.made.0)
-finding_made most Where Makes Refuses Found input output err held pairs finds is = (finds.read, finds.text, finds.report, finds.made.0)
-finding_made most Where Makes Refuses Usage input output err held pairs finds is = made most Where Makes Refuses Usage input output err held pairs finds is
-finding_made most Where Makes Refuses (SheetRefused fault) input output err held pairs finds is = made most Where Makes Refuses (SheetRefused fault) input output err held pairs finds is
-finding_made most Where Makes Refuses (NoItem fault) input output err held pairs finds is = made most Where Makes Refuses (NoItem fault) input output err held pairs finds is
-finding_made most Where Makes Refuses (DocRefused fault) input output err held pairs finds is = made most Where Makes Refuses (DocRefused fault) input output err held pairs finds is
-finding_made most Where Makes Refuses (LogRefused fault) input output err held pairs finds is = made most Where Makes Refuses (LogRefused fault) input output err held pairs finds is
-finding_made most Where Makes Refuses (NoSplit fault) input output err held pairs finds is = made most Where Makes Refuses (NoSplit fault) input output err held pairs finds is
-finding_made most Where Makes Refuses (SecondRefused fault) input output err held pairs finds is = made most Where Makes Refuses (SecondRefused fault) input output err held pairs finds is
-finding_made most Where Makes Refuses ReadFault input output err held pairs finds is = made most Where Makes Refuses ReadFault input output err held pairs finds is
-finding_made most Where Makes Refuses WriteFault input output err held pairs finds is = made most Where Makes Refuses WriteFault input output err held pairs finds is
-finding_made most Where Makes Refuses NoMemory input output err held pairs finds is = made most Where Makes Refuses NoMemory input output err held pairs finds is
+finding_made : (nothing : List ℕ) (most : ℕ) (Where : Status → List ℕ → Option Place) (Makes : (read text report : List ℕ) (held : Option PairsParts) → Type 0) (Refuses : Status → List ℕ → Type 0) (status : Status) (input output err : Change) (held : Option PairsParts) (pairs : PairsParts)
+    → Finds nothing most Where Makes Refuses status input output err held → held ≡ Some pairs → (read : List ℕ) × (text : List ℕ) × (report : List ℕ) × Makes read text report held
+finding_made nothing most Where Makes Refuses Done input output err held pairs finds is = (finds.read, finds.text, finds.report, finds.made.0)
+finding_made nothing most Where Makes Refuses Found input output err held pairs finds is = (finds.read, finds.text, finds.report, finds.made.0)
+finding_made nothing most Where Makes Refuses Usage input output err held pairs finds is = made most Where Makes Refuses Usage input output err held pairs finds is
+finding_made nothing most Where Makes Refuses (SheetRefused fault) input output err held pairs finds is = made most Where Makes Refuses (SheetRefused fault) input output err held pairs finds is
+finding_made nothing most Where Makes Refuses (NoItem fault) input output err held pairs finds is = made most Where Makes Refuses (NoItem fault) input output err held pairs finds is
+finding_made nothing most Where Makes Refuses (DocRefused fault) input output err held pairs finds is = made most Where Makes Refuses (DocRefused fault) input output err held pairs finds is
+finding_made nothing most Where Makes Refuses (LogRefused fault) input output err held pairs finds is = made most Where Makes Refuses (LogRefused fault) input output err held pairs finds is
+finding_made nothing most Where Makes Refuses (NoSplit fault) input output err held pairs finds is = made most Where Makes Refuses (NoSplit fault) input output err held pairs finds is
+finding_made nothing most Where Makes Refuses (SecondRefused fault) input output err held pairs finds is = made most Where Makes Refuses (SecondRefused fault) input output err held pairs finds is
+finding_made nothing most Where Makes Refuses ReadFault input output err held pairs finds is = made most Where Makes Refuses ReadFault input output err held pairs finds is
+finding_made nothing most Where Makes Refuses WriteFault input output err held pairs finds is = made most Where Makes Refuses WriteFault input output err held pairs finds is
+finding_made nothing most Where Makes Refuses NoMemory input output err held pairs finds is = made most Where Makes Refuses NoMemory input output err held pairs finds is
 
 cmp_held : (left right : List ℕ) (budget : Option ℕ) (log : Bool) (status : Status) (output err : Change) (held : Option PairsParts) (pairs : PairsParts) → CmpDoes left right budget log status output err held → held ≡ Some pairs → AreTrueFor budget pairs
 cmp_held left right budget log Done output err held pairs does is = of_answer left right budget log held does.0 pairs does.1 is
@@ -198,9 +206,13 @@ held_by (Some (Why from to budget)) status input output err held pairs h is =
     let m = made max_bytes nowhere (Silent (ExplainsMove from to budget)) (WhyRefuses from to) status input output err held pairs h is in of_move from to budget m.0 m.1 held pairs m.3.0 is
 held_by (Some (Same split budget)) status input output err held pairs h is =
     let m = made max_both nowhere (Silent (ComparesSheets split budget)) (SameRefuses split) status input output err held pairs h is in of_sheets split budget m.0 m.1 held pairs m.3.0 is
+held_by (Some (Diff split budget limit)) status input output err held pairs h is =
+    let m = finding_made same_line max_both (in_two_sheets split) (Silent (TellsDifferences split budget limit)) (SameRefuses split) status input output err held pairs h is in of_differences split budget limit m.0 m.1 held pairs m.3.0 is
+held_by (Some (Blockers budget)) status input output err held pairs h is =
+    let m = made max_bytes in_sheet (Silent (TellsBlockers budget)) MinRefuses status input output err held pairs h is in of_blockers budget m.0 m.1 held pairs m.3.0 is
 held_by (Some Listing) status input output err held pairs h is = let m = made max_bytes in_sheet (Silent ListsItems) MinRefuses status input output err held pairs h is in unheld held pairs m.3.0.1 is
 held_by (Some (Lint budget)) status input output err held pairs h is =
-    let m = finding_made max_bytes in_sheet (Silent (TellsFound budget)) MinRefuses status input output err held pairs h is in of_found budget m.0 m.1 held pairs m.3.0 is
+    let m = finding_made [] max_bytes in_sheet (Silent (TellsFound budget)) MinRefuses status input output err held pairs h is in of_found budget m.0 m.1 held pairs m.3.0 is
 held_by (Some Inspect) status input output err held pairs h is = let m = made max_bytes in_sheet_part (Silent TellsGroups) StyleRefuses status input output err held pairs h is in unheld held pairs m.3.0.1 is
 held_by (Some (Trial rules)) status input output err held pairs h is = trial_held rules status output err held pairs h is
 held_by (Some (Help about)) status input output err held pairs h is = unheld held pairs h.1 is

@@ -1,8 +1,8 @@
 -- What a run did, by what its words ask for.
 use Rattle.std.proofs.Common.{Bool, ◌≡◌, ◌⊎◌, ◌↔◌, inl, inr, ℕ, List, [], true, false, Option, Some, None, IfSome, IsSomeAnd, refl, sym, ap, subst}
 use Rattle.std.proofs.lemmas.Bool.{false≢true}
-use Rattle.std.specs.Prelude.{IsNone}
-use Rattle.command_words.specs.Forms.{Form, Min, Style, Dead, Cmp, Check, Why, Same, Listing, Lint, Inspect, Trial, Help, Version, form_of}
+use Rattle.std.specs.Prelude.{IsNone, take, drop}
+use Rattle.command_words.specs.Forms.{Form, Min, Style, Dead, Cmp, Check, Why, Same, Diff, Blockers, Listing, Lint, Inspect, Trial, Help, Version, form_of}
 use Rattle.css_model.specs.declared.fault.SheetFault.{SheetFault}
 use Rattle.css_model.specs.Sheets.Limits.{max_bytes}
 use Rattle.log_text.specs.CheckedTexts.{max_log_bytes}
@@ -10,9 +10,11 @@ use Rattle.overlap.specs.PairsParts.{PairsParts}
 use Rattle.same_text.specs.SameTexts.{max_both}
 use Rattle.style_text.specs.Inputs.{sheet_part}
 use Rattle.cssmin_run.specs.Change.{Change, HasFailed}
+use Rattle.cssmin_run.specs.Commands.Blockers.{BlockersDoes, TellsBlockers}
 use Rattle.cssmin_run.specs.Commands.Check.{CheckDoes, CheckRefuses, Checks}
 use Rattle.cssmin_run.specs.Commands.Cmp.{CmpDoes}
 use Rattle.cssmin_run.specs.Commands.Dead.{DeadDoes, TellsLives}
+use Rattle.cssmin_run.specs.Commands.Diff.{DiffDoes, TellsDifferences, same_line}
 use Rattle.cssmin_run.specs.Commands.Inspect.{InspectDoes, TellsGroups}
 use Rattle.cssmin_run.specs.Commands.Lint.{LintDoes, TellsFound}
 use Rattle.cssmin_run.specs.Commands.Listing.{ListDoes, ListsItems}
@@ -21,7 +23,8 @@ use Rattle.cssmin_run.specs.Commands.Same.{ComparesSheets, SameDoes, SameRefuses
 use Rattle.cssmin_run.specs.Commands.Style.{StyleDoes, StyleRefuses, TellsWinners}
 use Rattle.cssmin_run.specs.Commands.Trial.{TrialDoes}
 use Rattle.cssmin_run.specs.Commands.Why.{ExplainsMove, WhyDoes, WhyRefuses}
-use Rattle.cssmin_run.specs.Placed.{fault_place, in_sheet, in_sheet_part, nowhere, TellsAt}
+use Rattle.cssmin_run.specs.Placed.{fault_place, in_sheet, in_sheet_part, in_two_sheets, nowhere, TellsAt}
+use Rattle.cssmin_run.specs.Laws.{MayFind}
 use Rattle.cssmin_run.specs.Run.{Answers, Outcome, Ran, needs_input, tells_places}
 use Rattle.cssmin_run.specs.SheetFaults.{HasFault, HasNoFault}
 use Rattle.cssmin_run.specs.Tasks.{Began, Did, IsRefused, Silent}
@@ -61,6 +64,12 @@ why_did words from to budget status input output err held ran is = did words (So
 pub same_did : (words : List (List ℕ)) (split : ℕ) (budget : Option ℕ) (status : Status) (input output err : Change) (held : Option PairsParts) → Ran words status input output err held → form_of words ≡ Some (Same split budget) → SameDoes split budget status input output err held
 same_did words split budget status input output err held ran is = did words (Some (Same split budget)) status input output err held ran is
 
+pub diff_did : (words : List (List ℕ)) (split : ℕ) (budget : Option ℕ) (limit : ℕ) (status : Status) (input output err : Change) (held : Option PairsParts) → Ran words status input output err held → form_of words ≡ Some (Diff split budget limit) → DiffDoes split budget limit status input output err held
+diff_did words split budget limit status input output err held ran is = did words (Some (Diff split budget limit)) status input output err held ran is
+
+pub blockers_did : (words : List (List ℕ)) (budget : Option ℕ) (status : Status) (input output err : Change) (held : Option PairsParts) → Ran words status input output err held → form_of words ≡ Some (Blockers budget) → BlockersDoes budget status input output err held
+blockers_did words budget status input output err held ran is = did words (Some (Blockers budget)) status input output err held ran is
+
 pub list_did : (words : List (List ℕ)) (status : Status) (input output err : Change) (held : Option PairsParts) → Ran words status input output err held → form_of words ≡ Some Listing → ListDoes status input output err held
 list_did words status input output err held ran is = did words (Some Listing) status input output err held ran is
 
@@ -83,6 +92,8 @@ no_usage (Dead budget) input output err held h = h.0
 no_usage Style input output err held h = h.0
 no_usage (Why from to budget) input output err held h = h.0
 no_usage (Same split budget) input output err held h = h.0
+no_usage (Diff split budget limit) input output err held h = h.0
+no_usage (Blockers budget) input output err held h = h.0
 no_usage Listing input output err held h = h.0
 no_usage (Lint budget) input output err held h = h.0
 no_usage Inspect input output err held h = h.0
@@ -109,6 +120,8 @@ read_fault_of (Some (Dead budget)) input output err held h = h.0
 read_fault_of (Some Style) input output err held h = h.0
 read_fault_of (Some (Why from to budget)) input output err held h = h.0
 read_fault_of (Some (Same split budget)) input output err held h = h.0
+read_fault_of (Some (Diff split budget limit)) input output err held h = h.0
+read_fault_of (Some (Blockers budget)) input output err held h = h.0
 read_fault_of (Some Listing) input output err held h = h.0
 read_fault_of (Some (Lint budget)) input output err held h = h.0
 read_fault_of (Some Inspect) input output err held h = h.0
@@ -128,6 +141,8 @@ write_fault_of (Some (Dead budget)) input output err held h = stops_failed h.tex
 write_fault_of (Some Style) input output err held h = stops_failed h.text h.report output err h.stopped
 write_fault_of (Some (Why from to budget)) input output err held h = stops_failed h.text h.report output err h.stopped
 write_fault_of (Some (Same split budget)) input output err held h = stops_failed h.text h.report output err h.stopped
+write_fault_of (Some (Diff split budget limit)) input output err held h = stops_failed h.text h.report output err h.stopped
+write_fault_of (Some (Blockers budget)) input output err held h = stops_failed h.text h.report output err h.stopped
 write_fault_of (Some Listing) input output err held h = stops_failed h.text h.report output err h.stopped
 write_fault_of (Some (Lint budget)) input output err held h = stops_failed h.text h.report output err h.stopped
 write_fault_of (Some Inspect) input output err held h = stops_failed h.text h.report output err h.stopped
@@ -227,6 +242,16 @@ pub told_same : (words : List (List ℕ)) (split : ℕ) (budget : Option ℕ) (s
     → form_of words ≡ Some (Same split budget) → IsSomeAnd input.old (λ read. (other : Status) → SameRefuses split other read → ⊥) → (HasFailed input → ⊥) → (HasFailed output → ⊥) → (status ≡ Done) ⊎ (status ≡ NoMemory)
 told_same words split budget status input output err held ran is none sure safe = completes_silent max_both nowhere (ComparesSheets split budget) (SameRefuses split) status input output err held (same_did words split budget status input output err held ran is) none sure safe
 
+pub differences_told : (words : List (List ℕ)) (split : ℕ) (budget : Option ℕ) (limit : ℕ) (status : Status) (input output err : Change) (held : Option PairsParts) → Ran words status input output err held
+    → form_of words ≡ Some (Diff split budget limit) → IsSomeAnd input.old (λ read. (other : Status) → SameRefuses split other read → ⊥) → (HasFailed input → ⊥) → (HasFailed output → ⊥) → (status ≡ Done) ⊎ (status ≡ Found) ⊎ (status ≡ NoMemory)
+differences_told words split budget limit status input output err held ran is none sure safe =
+    finds_silent same_line max_both (in_two_sheets split) (TellsDifferences split budget limit) (SameRefuses split) status input output err held (diff_did words split budget limit status input output err held ran is) none sure safe
+
+pub blockers_told : (words : List (List ℕ)) (budget : Option ℕ) (status : Status) (input output err : Change) (held : Option PairsParts) → Ran words status input output err held
+    → form_of words ≡ Some (Blockers budget) → IsSomeAnd input.old HasNoFault → (HasFailed input → ⊥) → (HasFailed output → ⊥) → (status ≡ Done) ⊎ (status ≡ NoMemory)
+blockers_told words budget status input output err held ran is has sure safe =
+    completes_silent max_bytes in_sheet (TellsBlockers budget) MinRefuses status input output err held (blockers_did words budget status input output err held ran is) (unrefused input.old has) sure safe
+
 pub items_listed : (words : List (List ℕ)) (status : Status) (input output err : Change) (held : Option PairsParts) → Ran words status input output err held
     → form_of words ≡ Some Listing → IsSomeAnd input.old HasNoFault → (HasFailed input → ⊥) → (HasFailed output → ⊥) → (status ≡ Done) ⊎ (status ≡ NoMemory)
 items_listed words status input output err held ran is has sure safe =
@@ -235,7 +260,7 @@ items_listed words status input output err held ran is has sure safe =
 pub findings_told : (words : List (List ℕ)) (budget : Option ℕ) (status : Status) (input output err : Change) (held : Option PairsParts) → Ran words status input output err held
     → form_of words ≡ Some (Lint budget) → IsSomeAnd input.old HasNoFault → (HasFailed input → ⊥) → (HasFailed output → ⊥) → (status ≡ Done) ⊎ (status ≡ Found) ⊎ (status ≡ NoMemory)
 findings_told words budget status input output err held ran is has sure safe =
-    finds_silent max_bytes in_sheet (TellsFound budget) MinRefuses status input output err held (lint_did words budget status input output err held ran is) (unrefused input.old has) sure safe
+    finds_silent [] max_bytes in_sheet (TellsFound budget) MinRefuses status input output err held (lint_did words budget status input output err held ran is) (unrefused input.old has) sure safe
 
 pub entries_told : (words : List (List ℕ)) (status : Status) (input output err : Change) (held : Option PairsParts) → Ran words status input output err held
     → form_of words ≡ Some Inspect → IsSomeAnd input.old (λ read. (other : Status) → StyleRefuses other read → ⊥) → (HasFailed input → ⊥) → (HasFailed output → ⊥) → (status ≡ Done) ⊎ (status ≡ NoMemory)
@@ -291,6 +316,8 @@ other_done (Dead budget) status input output err held h unneeded safe = absurd (
 other_done Style status input output err held h unneeded safe = absurd (false≢true (sym unneeded))
 other_done (Why from to budget) status input output err held h unneeded safe = absurd (false≢true (sym unneeded))
 other_done (Same split budget) status input output err held h unneeded safe = absurd (false≢true (sym unneeded))
+other_done (Diff split budget limit) status input output err held h unneeded safe = absurd (false≢true (sym unneeded))
+other_done (Blockers budget) status input output err held h unneeded safe = absurd (false≢true (sym unneeded))
 other_done Listing status input output err held h unneeded safe = absurd (false≢true (sym unneeded))
 other_done (Lint budget) status input output err held h unneeded safe = absurd (false≢true (sym unneeded))
 other_done Inspect status input output err held h unneeded safe = absurd (false≢true (sym unneeded))
@@ -355,6 +382,8 @@ told_of (Some (Dead budget)) status input output err held h silent undone unfail
 told_of (Some Style) status input output err held h silent undone unfailed = told_of_does max_bytes (Silent TellsWinners) StyleRefuses status input output err held h undone unfailed
 told_of (Some (Why from to budget)) status input output err held h silent undone unfailed = told_of_does max_bytes (Silent (ExplainsMove from to budget)) (WhyRefuses from to) status input output err held h undone unfailed
 told_of (Some (Same split budget)) status input output err held h silent undone unfailed = told_of_does max_both (Silent (ComparesSheets split budget)) (SameRefuses split) status input output err held h undone unfailed
+told_of (Some (Diff split budget limit)) status input output err held h silent undone unfailed = absurd (false≢true (sym silent))
+told_of (Some (Blockers budget)) status input output err held h silent undone unfailed = absurd (false≢true (sym silent))
 told_of (Some Listing) status input output err held h silent undone unfailed = absurd (false≢true (sym silent))
 told_of (Some (Lint budget)) status input output err held h silent undone unfailed = absurd (false≢true (sym silent))
 told_of (Some Inspect) status input output err held h silent undone unfailed = absurd (false≢true (sym silent))
@@ -365,38 +394,50 @@ told_of (Some Version) status input output err held h silent undone unfailed = s
 pub told_is : (words : List (List ℕ)) (status : Status) (input output err : Change) (held : Option PairsParts) → Ran words status input output err held → tells_places (form_of words) ≡ false → (status ≡ Done → ⊥) → (status ≡ WriteFault → ⊥) → Tells status err
 told_is words status input output err held ran silent undone unfailed = told_of (form_of words) status input output err held ran.answers silent undone unfailed
 
--- where the fault of a sheet is
-placed_in : (left : Option (List ℕ)) (fault : SheetFault) (err : Change) → (read : List ℕ) × IfSome left (λ bytes. bytes ≡ read) × TellsAt (fault_place read fault) (SheetRefused fault) err
-    → IfSome left (λ read. TellsAt (fault_place read fault) (SheetRefused fault) err)
-placed_in None fault err told = tt
-placed_in (Some bytes) fault err told = subst (λ (read : List ℕ). TellsAt (fault_place read fault) (SheetRefused fault) err) (sym told.1) told.2
+-- where the fault of a sheet is, in a part of the bytes that were read
+placed_in : (part : List ℕ → List ℕ) (left : Option (List ℕ)) (fault : SheetFault) (status : Status) (err : Change) → (read : List ℕ) × IfSome left (λ bytes. bytes ≡ read) × TellsAt (fault_place (part read) fault) status err
+    → IfSome left (λ read. TellsAt (fault_place (part read) fault) status err)
+placed_in part None fault status err told = tt
+placed_in part (Some bytes) fault status err told = subst (λ (read : List ℕ). TellsAt (fault_place (part read) fault) status err) (sym told.1) told.2
 
 pub fault_placed : (words : List (List ℕ)) (status : Status) (input output err : Change) (held : Option PairsParts) (fault : SheetFault) → Ran words status input output err held
     → form_of words ≡ Some Listing → status ≡ SheetRefused fault → IfSome input.old (λ read. TellsAt (fault_place read fault) (SheetRefused fault) err)
 fault_placed words status input output err held fault ran list is =
     let does : ListDoes (SheetRefused fault) input output err held = subst (λ (s : Status). ListDoes s input output err held) is (list_did words status input output err held ran list) in
-    placed_in input.old fault err does.3
+    placed_in (λ read. read) input.old fault (SheetRefused fault) err does.3
 
 pub lint_placed : (words : List (List ℕ)) (budget : Option ℕ) (status : Status) (input output err : Change) (held : Option PairsParts) (fault : SheetFault) → Ran words status input output err held
     → form_of words ≡ Some (Lint budget) → status ≡ SheetRefused fault → IfSome input.old (λ read. TellsAt (fault_place read fault) (SheetRefused fault) err)
 lint_placed words budget status input output err held fault ran lint is =
     let does : LintDoes budget (SheetRefused fault) input output err held = subst (λ (s : Status). LintDoes budget s input output err held) is (lint_did words budget status input output err held ran lint) in
-    placed_in input.old fault err does.3
+    placed_in (λ read. read) input.old fault (SheetRefused fault) err does.3
 
--- where the fault of the sheet after a document is
-placed_after : (left : Option (List ℕ)) (fault : SheetFault) (err : Change) → (read : List ℕ) × IfSome left (λ bytes. bytes ≡ read) × TellsAt (fault_place (sheet_part read) fault) (SheetRefused fault) err
-    → IfSome left (λ read. TellsAt (fault_place (sheet_part read) fault) (SheetRefused fault) err)
-placed_after None fault err told = tt
-placed_after (Some bytes) fault err told = subst (λ (read : List ℕ). TellsAt (fault_place (sheet_part read) fault) (SheetRefused fault) err) (sym told.1) told.2
+pub blockers_placed : (words : List (List ℕ)) (budget : Option ℕ) (status : Status) (input output err : Change) (held : Option PairsParts) (fault : SheetFault) → Ran words status input output err held
+    → form_of words ≡ Some (Blockers budget) → status ≡ SheetRefused fault → IfSome input.old (λ read. TellsAt (fault_place read fault) (SheetRefused fault) err)
+blockers_placed words budget status input output err held fault ran blockers is =
+    let does : BlockersDoes budget (SheetRefused fault) input output err held = subst (λ (s : Status). BlockersDoes budget s input output err held) is (blockers_did words budget status input output err held ran blockers) in
+    placed_in (λ read. read) input.old fault (SheetRefused fault) err does.3
+
+pub diff_placed : (words : List (List ℕ)) (split : ℕ) (budget : Option ℕ) (limit : ℕ) (status : Status) (input output err : Change) (held : Option PairsParts) (fault : SheetFault) → Ran words status input output err held
+    → form_of words ≡ Some (Diff split budget limit) → status ≡ SheetRefused fault → IfSome input.old (λ read. TellsAt (fault_place (take split read) fault) (SheetRefused fault) err)
+diff_placed words split budget limit status input output err held fault ran diff is =
+    let does : DiffDoes split budget limit (SheetRefused fault) input output err held = subst (λ (s : Status). DiffDoes split budget limit s input output err held) is (diff_did words split budget limit status input output err held ran diff) in
+    placed_in (take split) input.old fault (SheetRefused fault) err does.3
+
+pub second_placed : (words : List (List ℕ)) (split : ℕ) (budget : Option ℕ) (limit : ℕ) (status : Status) (input output err : Change) (held : Option PairsParts) (fault : SheetFault) → Ran words status input output err held
+    → form_of words ≡ Some (Diff split budget limit) → status ≡ SecondRefused fault → IfSome input.old (λ read. TellsAt (fault_place (drop split read) fault) (SecondRefused fault) err)
+second_placed words split budget limit status input output err held fault ran diff is =
+    let does : DiffDoes split budget limit (SecondRefused fault) input output err held = subst (λ (s : Status). DiffDoes split budget limit s input output err held) is (diff_did words split budget limit status input output err held ran diff) in
+    placed_in (drop split) input.old fault (SecondRefused fault) err does.3
 
 pub inspect_placed : (words : List (List ℕ)) (status : Status) (input output err : Change) (held : Option PairsParts) (fault : SheetFault) → Ran words status input output err held
     → form_of words ≡ Some Inspect → status ≡ SheetRefused fault → IfSome input.old (λ read. TellsAt (fault_place (sheet_part read) fault) (SheetRefused fault) err)
 inspect_placed words status input output err held fault ran inspect is =
     let does : InspectDoes (SheetRefused fault) input output err held = subst (λ (s : Status). InspectDoes s input output err held) is (inspect_did words status input output err held ran inspect) in
-    placed_after input.old fault err does.3
+    placed_in sheet_part input.old fault (SheetRefused fault) err does.3
 
--- only `lint` finds something
-finds_of : (form : Option Form) (input output err : Change) (held : Option PairsParts) → Answers form Found input output err held → (budget : Option ℕ) × (form ≡ Some (Lint budget))
+-- only `lint` and `diff` find something
+finds_of : (form : Option Form) (input output err : Change) (held : Option PairsParts) → Answers form Found input output err held → MayFind form
 finds_of None input output err held h = absurd (let bad : ⊥ = let same : Found ≡ Usage = h.0 in cc in bad)
 finds_of (Some (Min budget asked)) input output err held h = absurd h.0
 finds_of (Some (Cmp left right budget log)) input output err held h = absurd h
@@ -405,15 +446,17 @@ finds_of (Some (Dead budget)) input output err held h = absurd h.0
 finds_of (Some Style) input output err held h = absurd h.0
 finds_of (Some (Why from to budget)) input output err held h = absurd h.0
 finds_of (Some (Same split budget)) input output err held h = absurd h.0
+finds_of (Some (Diff split budget limit)) input output err held h = inr (split, budget, limit, refl)
+finds_of (Some (Blockers budget)) input output err held h = absurd h.0
 finds_of (Some Listing) input output err held h = absurd h.0
-finds_of (Some (Lint budget)) input output err held h = (budget, refl)
+finds_of (Some (Lint budget)) input output err held h = inl (budget, refl)
 finds_of (Some Inspect) input output err held h = absurd h.0
 finds_of (Some (Trial rules)) input output err held h = absurd h
 finds_of (Some (Help about)) input output err held h = absurd h.0
 finds_of (Some Version) input output err held h = absurd h.0
 
-pub only_lint : (words : List (List ℕ)) (input output err : Change) (held : Option PairsParts) → Ran words Found input output err held → (budget : Option ℕ) × (form_of words ≡ Some (Lint budget))
-only_lint words input output err held ran = finds_of (form_of words) input output err held ran.answers
+pub only_two : (words : List (List ℕ)) (input output err : Change) (held : Option PairsParts) → Ran words Found input output err held → MayFind (form_of words)
+only_two words input output err held ran = finds_of (form_of words) input output err held ran.answers
 
 -- what was done by a command that has the form of the words
 pub answered : (form found : Option Form) (status : Status) (input output err : Change) (held : Option PairsParts) → found ≡ form → Answers found status input output err held → Answers form status input output err held

@@ -1,7 +1,9 @@
 -- What each command does, one module a command.
+pub mod Blockers
 pub mod Check
 pub mod Cmp
 pub mod Dead
+pub mod Diff
 pub mod Inspect
 pub mod Lint
 pub mod Listing

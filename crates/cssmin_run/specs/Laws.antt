@@ -1,5 +1,5 @@
 -- What follows from the contract of a run.
-use Rattle.std.specs.Prelude.{Bool, true, ◌≡◌, ◌⊎◌, ◌↔◌, ℕ, ◌<◌, false, List, Option, Some, None, IfSome, IsSomeAnd, IsNone}
+use Rattle.std.specs.Prelude.{Bool, true, ◌≡◌, ◌⊎◌, ◌↔◌, ℕ, ◌<◌, false, List, Option, Some, None, IfSome, IsSomeAnd, IsNone, take, drop}
 use Rattle.css_io.specs.Io.{last_count}
 use Rattle.css_model.specs.declared.fault.SheetFault.{SheetFault}
 use Rattle.css_model.specs.Sheets.Limits.{max_bytes}
@@ -7,13 +7,15 @@ use Rattle.cnf.specs.declared.lit.Lit.{Lit}
 use Rattle.css_model.specs.Documents.SelectorParts.{SelectorParts}
 use Rattle.overlap.specs.declared.answer.Answer.TheVariants.{Spent}
 use Rattle.overlap.specs.Remembered.{IsAnswered, IsTrueList}
-use Rattle.command_words.specs.Forms.{Form, Min, Style, Dead, Cmp, Check, Why, Same, Listing, Lint, Inspect, Trial, form_of}
+use Rattle.command_words.specs.Forms.{Form, Min, Style, Dead, Cmp, Check, Why, Same, Diff, Blockers, Listing, Lint, Inspect, Trial, form_of}
 use Rattle.overlap.specs.PairsParts.{PairsParts}
 use Rattle.style_text.specs.Inputs.{sheet_part}
 use Rattle.cssmin_run.specs.Change.{Change, HasFailed}
+use Rattle.cssmin_run.specs.Commands.Blockers.{BlockersDoes}
 use Rattle.cssmin_run.specs.Commands.Check.{CheckDoes, CheckRefuses}
 use Rattle.cssmin_run.specs.Commands.Cmp.{CmpDoes, unasked}
 use Rattle.cssmin_run.specs.Commands.Dead.{DeadDoes}
+use Rattle.cssmin_run.specs.Commands.Diff.{DiffDoes}
 use Rattle.cssmin_run.specs.Commands.Inspect.{InspectDoes}
 use Rattle.cssmin_run.specs.Commands.Lint.{LintDoes}
 use Rattle.cssmin_run.specs.Commands.Listing.{ListDoes}
@@ -29,7 +31,7 @@ use Rattle.cssmin_run.specs.SheetFaults.{HasFault, HasNoFault}
 use Rattle.cssmin_run.specs.Tasks.{Began, Did, IsRefused}
 use Rattle.cssmin_run.specs.Telling.{Tells}
 use Rattle.cssmin_run.specs.declared.status.Status.{Status}
-use Rattle.cssmin_run.specs.declared.status.Status.TheVariants.{Done, Found, Usage, SheetRefused, ReadFault, WriteFault, NoMemory}
+use Rattle.cssmin_run.specs.declared.status.Status.TheVariants.{Done, Found, Usage, SheetRefused, SecondRefused, ReadFault, WriteFault, NoMemory}
 
 -- ---- Words
 
@@ -67,6 +69,18 @@ WhyDoesItsWord = (words : List (List ℕ)) (from to : ℕ) (budget : Option ℕ)
 abbrev pub SameDoesItsWord : Type 0
 SameDoesItsWord = (words : List (List ℕ)) (split : ℕ) (budget : Option ℕ) (status : Status) (input output err : Change) (held : Option PairsParts) → Ran words status input output err held → form_of words ≡ Some (Same split budget) → SameDoes split budget status input output err held
 
+-- words that ask for it do what `diff` says
+abbrev pub DiffDoesItsWord : Type 0
+DiffDoesItsWord =
+    (words : List (List ℕ)) (split : ℕ) (budget : Option ℕ) (limit : ℕ) (status : Status) (input output err : Change) (held : Option PairsParts) → Ran words status input output err held
+    → form_of words ≡ Some (Diff split budget limit) → DiffDoes split budget limit status input output err held
+
+-- words that ask for it do what `blockers` says
+abbrev pub BlockersDoesItsWord : Type 0
+BlockersDoesItsWord =
+    (words : List (List ℕ)) (budget : Option ℕ) (status : Status) (input output err : Change) (held : Option PairsParts) → Ran words status input output err held
+    → form_of words ≡ Some (Blockers budget) → BlockersDoes budget status input output err held
+
 -- words that ask for it do what `list` says
 abbrev pub ListDoesItsWord : Type 0
 ListDoesItsWord = (words : List (List ℕ)) (status : Status) (input output err : Change) (held : Option PairsParts) → Ran words status input output err held → form_of words ≡ Some Listing → ListDoes status input output err held
@@ -90,11 +104,13 @@ StatusIsTold =
     (words : List (List ℕ)) (status : Status) (input output err : Change) (held : Option PairsParts) → Ran words status input output err held
     → tells_places (form_of words) ≡ false → (status ≡ Done → ⊥) → (status ≡ WriteFault → ⊥) → Tells status err
 
--- only `lint` ends with the status that something was found
-abbrev pub OnlyLintFinds : Type 0
-OnlyLintFinds =
-    (words : List (List ℕ)) (input output err : Change) (held : Option PairsParts) → Ran words Found input output err held
-    → (budget : Option ℕ) × (form_of words ≡ Some (Lint budget))
+-- the words of a command that may end with the status that something was found
+abbrev pub MayFind : Option Form → Type 0
+MayFind form = ((budget : Option ℕ) × (form ≡ Some (Lint budget))) ⊎ ((split : ℕ) × (budget : Option ℕ) × (limit : ℕ) × (form ≡ Some (Diff split budget limit)))
+
+-- only `lint` and `diff` end so
+abbrev pub OnlyTwoFind : Type 0
+OnlyTwoFind = (words : List (List ℕ)) (input output err : Change) (held : Option PairsParts) → Ran words Found input output err held → MayFind (form_of words)
 
 -- by `list` with the line and the column of the fault
 abbrev pub FaultIsPlaced : Type 0
@@ -107,6 +123,23 @@ abbrev pub LintFaultIsPlaced : Type 0
 LintFaultIsPlaced =
     (words : List (List ℕ)) (budget : Option ℕ) (status : Status) (input output err : Change) (held : Option PairsParts) (fault : SheetFault) → Ran words status input output err held
     → form_of words ≡ Some (Lint budget) → status ≡ SheetRefused fault → IfSome input.old (λ read. TellsAt (fault_place read fault) (SheetRefused fault) err)
+
+-- so is that of `blockers`
+abbrev pub BlockersFaultIsPlaced : Type 0
+BlockersFaultIsPlaced =
+    (words : List (List ℕ)) (budget : Option ℕ) (status : Status) (input output err : Change) (held : Option PairsParts) (fault : SheetFault) → Ran words status input output err held
+    → form_of words ≡ Some (Blockers budget) → status ≡ SheetRefused fault → IfSome input.old (λ read. TellsAt (fault_place read fault) (SheetRefused fault) err)
+
+-- by `diff` the fault of the first sheet, and that of the second one, each in its own bytes
+abbrev pub DiffFaultIsPlaced : Type 0
+DiffFaultIsPlaced =
+    (words : List (List ℕ)) (split : ℕ) (budget : Option ℕ) (limit : ℕ) (status : Status) (input output err : Change) (held : Option PairsParts) (fault : SheetFault) → Ran words status input output err held
+    → form_of words ≡ Some (Diff split budget limit) → status ≡ SheetRefused fault → IfSome input.old (λ read. TellsAt (fault_place (take split read) fault) (SheetRefused fault) err)
+
+abbrev pub SecondFaultIsPlaced : Type 0
+SecondFaultIsPlaced =
+    (words : List (List ℕ)) (split : ℕ) (budget : Option ℕ) (limit : ℕ) (status : Status) (input output err : Change) (held : Option PairsParts) (fault : SheetFault) → Ran words status input output err held
+    → form_of words ≡ Some (Diff split budget limit) → status ≡ SecondRefused fault → IfSome input.old (λ read. TellsAt (fault_place (drop split read) fault) (SecondRefused fault) err)
 
 -- by `inspect` too, in the sheet after the document
 abbrev pub InspectFaultIsPlaced : Type 0
@@ -215,6 +248,18 @@ abbrev pub FindingsAreTold : Type 0
 FindingsAreTold =
     (words : List (List ℕ)) (budget : Option ℕ) (status : Status) (input output err : Change) (held : Option PairsParts) → Ran words status input output err held
     → form_of words ≡ Some (Lint budget) → IsSomeAnd input.old HasNoFault → (HasFailed input → ⊥) → (HasFailed output → ⊥) → (status ≡ Done) ⊎ (status ≡ Found) ⊎ (status ≡ NoMemory)
+
+-- what is found in two sheets that are not refused is told, where no read or write failed and the memory sufficed
+abbrev pub DifferencesAreTold : Type 0
+DifferencesAreTold =
+    (words : List (List ℕ)) (split : ℕ) (budget : Option ℕ) (limit : ℕ) (status : Status) (input output err : Change) (held : Option PairsParts) → Ran words status input output err held
+    → form_of words ≡ Some (Diff split budget limit) → IsSomeAnd input.old (λ read. (other : Status) → SameRefuses split other read → ⊥) → (HasFailed input → ⊥) → (HasFailed output → ⊥) → (status ≡ Done) ⊎ (status ≡ Found) ⊎ (status ≡ NoMemory)
+
+-- what stops the merges of a sheet without a fault is told, where no read or write failed and the memory sufficed
+abbrev pub BlockersAreTold : Type 0
+BlockersAreTold =
+    (words : List (List ℕ)) (budget : Option ℕ) (status : Status) (input output err : Change) (held : Option PairsParts) → Ran words status input output err held
+    → form_of words ≡ Some (Blockers budget) → IsSomeAnd input.old HasNoFault → (HasFailed input → ⊥) → (HasFailed output → ⊥) → (status ≡ Done) ⊎ (status ≡ NoMemory)
 
 -- what the rules of a sheet apply to an element is told, where neither page nor sheet is refused, no read or write failed and the
 -- memory sufficed

@@ -1,5 +1,5 @@
 -- Where in the input the fault is that a refusal names, by line and column (own).
-use Rattle.std.specs.Prelude.{◌≡◌, ℕ, Bool, true, false, if◌then◌else◌, List, [], ◌∷◌, ◌++◌, Option, Some, None, IfSome, codes}
+use Rattle.std.specs.Prelude.{◌≡◌, ℕ, Bool, true, false, if◌then◌else◌, List, [], ◌∷◌, ◌++◌, Option, Some, None, IfSome, codes, take, drop}
 use Rattle.css_model.specs.declared.fault.FaultKind.{FaultKind}
 use Rattle.css_model.specs.declared.fault.FaultKind.TheVariants.{TooLong}
 use Rattle.css_model.specs.declared.fault.SheetFault.{SheetFault}
@@ -11,7 +11,7 @@ use Rattle.cssmin_run.specs.Change.{Change}
 use Rattle.cssmin_run.specs.Status.{IsMessage}
 use Rattle.cssmin_run.specs.Telling.{IsTold}
 use Rattle.cssmin_run.specs.declared.status.Status.{Status}
-use Rattle.cssmin_run.specs.declared.status.Status.TheVariants.{SheetRefused}
+use Rattle.cssmin_run.specs.declared.status.Status.TheVariants.{SheetRefused, SecondRefused}
 
 -- ---- Which place a refusal tells
 
@@ -37,12 +37,23 @@ in_sheet status read = None
 abbrev pub in_sheet_part : Status → (read : List ℕ) → Option Place
 in_sheet_part status read = in_sheet status (sheet_part read)
 
+-- that of the fault of one of two sheets, in its own bytes, where the first one has so many
+abbrev pub in_two_sheets : (split : ℕ) → Status → (read : List ℕ) → Option Place
+in_two_sheets split (SheetRefused fault) read = fault_place (take split read) fault
+in_two_sheets split (SecondRefused fault) read = fault_place (drop split read) fault
+in_two_sheets split status read = None
+
 -- ---- How it is told
+
+-- the fault of a sheet and its place, to the end of the line
+abbrev pub placed_fault : SheetFault → Place → List ℕ
+placed_fault fault place = fault_text fault ++ codes " (" ++ place_text place ++ codes ")" ++ 10 ∷ []
 
 -- The status's message: with a place, the line and the column of the fault come after it in brackets.
 abbrev pub IsPlacedMessage : Option Place → Status → List ℕ → Type 0
 IsPlacedMessage None status text = IsMessage status text
-IsPlacedMessage (Some place) (SheetRefused fault) text = text ≡ codes "refused: " ++ fault_text fault ++ codes " (" ++ place_text place ++ codes ")" ++ 10 ∷ []
+IsPlacedMessage (Some place) (SheetRefused fault) text = text ≡ codes "refused: " ++ placed_fault fault place
+IsPlacedMessage (Some place) (SecondRefused fault) text = text ≡ codes "second refused: " ++ placed_fault fault place
 IsPlacedMessage (Some place) status text = IsMessage status text
 
 -- This message was written to standard error, or a front of it where a write failed.

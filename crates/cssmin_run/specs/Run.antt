@@ -1,15 +1,17 @@
 -- What a run of the program did, by what its words ask for and its status.
 use Rattle.std.specs.Prelude.{◌≡◌, ℕ, ◌+◌, Bool, true, false, List, Option, Some, None}
 use Rattle.command_texts.specs.Texts.{IsHelpOn, version_text}
-use Rattle.command_words.specs.Forms.{Form, Min, Style, Dead, Cmp, Check, Why, Same, Listing, Lint, Inspect, Trial, Help, Version, form_of}
+use Rattle.command_words.specs.Forms.{Form, Min, Style, Dead, Cmp, Check, Why, Same, Diff, Blockers, Listing, Lint, Inspect, Trial, Help, Version, form_of}
 use Rattle.css_model.specs.Sheets.Limits.{max_bytes}
 use Rattle.log_text.specs.CheckedTexts.{max_log_bytes}
 use Rattle.overlap.specs.PairsParts.{PairsParts}
 use Rattle.same_text.specs.SameTexts.{max_both}
 use Rattle.cssmin_run.specs.Change.{Change}
+use Rattle.cssmin_run.specs.Commands.Blockers.{BlockersDoes}
 use Rattle.cssmin_run.specs.Commands.Check.{CheckDoes}
 use Rattle.cssmin_run.specs.Commands.Cmp.{CmpDoes}
 use Rattle.cssmin_run.specs.Commands.Dead.{DeadDoes}
+use Rattle.cssmin_run.specs.Commands.Diff.{DiffDoes}
 use Rattle.cssmin_run.specs.Commands.Inspect.{InspectDoes}
 use Rattle.cssmin_run.specs.Commands.Lint.{LintDoes}
 use Rattle.cssmin_run.specs.Commands.Listing.{ListDoes}
@@ -33,6 +35,8 @@ Outcome (Cmp left right budget log) status input output err held = CmpDoes left 
 Outcome Check status input output err held = CheckDoes status input output err held
 Outcome (Why from to budget) status input output err held = WhyDoes from to budget status input output err held
 Outcome (Same split budget) status input output err held = SameDoes split budget status input output err held
+Outcome (Diff split budget limit) status input output err held = DiffDoes split budget limit status input output err held
+Outcome (Blockers budget) status input output err held = BlockersDoes budget status input output err held
 Outcome Listing status input output err held = ListDoes status input output err held
 Outcome (Lint budget) status input output err held = LintDoes budget status input output err held
 Outcome Inspect status input output err held = InspectDoes status input output err held
@@ -55,6 +59,8 @@ named_budget (Some (Cmp left right budget log)) = budget
 named_budget (Some Check) = None
 named_budget (Some (Why from to budget)) = budget
 named_budget (Some (Same split budget)) = budget
+named_budget (Some (Diff split budget limit)) = budget
+named_budget (Some (Blockers budget)) = budget
 named_budget (Some Listing) = None
 named_budget (Some (Lint budget)) = budget
 named_budget (Some Inspect) = None
@@ -72,6 +78,8 @@ needs_input (Some (Cmp left right budget log)) = false
 needs_input (Some Check) = true
 needs_input (Some (Why from to budget)) = true
 needs_input (Some (Same split budget)) = true
+needs_input (Some (Diff split budget limit)) = true
+needs_input (Some (Blockers budget)) = true
 needs_input (Some Listing) = true
 needs_input (Some (Lint budget)) = true
 needs_input (Some Inspect) = true
@@ -81,6 +89,8 @@ needs_input (Some Version) = false
 
 -- whether a refusal tells the line and the column of the fault
 abbrev pub tells_places : Option Form → Bool
+tells_places (Some (Diff split budget limit)) = true
+tells_places (Some (Blockers budget)) = true
 tells_places (Some Listing) = true
 tells_places (Some (Lint budget)) = true
 tells_places (Some Inspect) = true
@@ -90,6 +100,7 @@ tells_places form = false
 abbrev pub most_taken : Option Form → ℕ
 most_taken (Some Check) = max_log_bytes + 1
 most_taken (Some (Same split budget)) = max_both + 1
+most_taken (Some (Diff split budget limit)) = max_both + 1
 most_taken form = max_bytes + 1
 
 -- A run on these words ended with this status: it did what the words ask for, and told what came of that.

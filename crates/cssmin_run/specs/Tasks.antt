@@ -1,5 +1,6 @@
 -- What a command did that reads all of its input, makes a text of it and perhaps a report, and writes these.
-use Rattle.std.specs.Prelude.{◌≡◌, ◌≢◌, ℕ, Bool, true, false, ◌∷◌, ◌+◌, List, [], Option, Some, None, Result, Ok, Err, IfSome, drop}
+use Rattle.std.specs.Prelude.{◌≡◌, ◌≢◌, ◌==◌, ℕ, Bool, true, false, not, ◌+◌, List, [], Option, Some, None, Result, Ok, Err, IfSome, drop}
+use Rattle.std.specs.Cmp.Lexicographic.{pointwise}
 use Rattle.overlap.specs.PairsParts.{PairsParts}
 use Rattle.line_places.specs.declared.place.Place.{Place}
 use Rattle.cssmin_run.specs.Change.{Change, HasFailed, IsAllRead, Adds}
@@ -57,24 +58,25 @@ Does most Where Makes Refuses status input output err held = IsRefusal status ×
 
 -- ---- What a command did whose status says whether it found something
 
--- a command that makes so, with a text that is empty or that is not
-abbrev pub Empty : (Makes : (read text report : List ℕ) (held : Option PairsParts) → Type 0) → (read text report : List ℕ) (held : Option PairsParts) → Type 0
-Empty Makes read text report held = Makes read text report held × (text ≡ [])
+-- `nothing` is the text that says that nothing was found.
 
-abbrev pub Filled : (Makes : (read text report : List ℕ) (held : Option PairsParts) → Type 0) → (read text report : List ℕ) (held : Option PairsParts) → Type 0
-Filled Makes read text report held = Makes read text report held × (text ≢ [])
+-- a command that makes so, with the text that says that nothing was found, or with another one
+abbrev pub Clears : (nothing : List ℕ) (Makes : (read text report : List ℕ) (held : Option PairsParts) → Type 0) → (read text report : List ℕ) (held : Option PairsParts) → Type 0
+Clears nothing Makes read text report held = Makes read text report held × (text ≡ nothing)
 
--- What it did, by its status: it is done where its text is empty, and has found something where it is not.
-abbrev pub Finds : (most : ℕ) (Where : Status → List ℕ → Option Place) (Makes : (read text report : List ℕ) (held : Option PairsParts) → Type 0) (Refuses : Status → List ℕ → Type 0)
+abbrev pub Shows : (nothing : List ℕ) (Makes : (read text report : List ℕ) (held : Option PairsParts) → Type 0) → (read text report : List ℕ) (held : Option PairsParts) → Type 0
+Shows nothing Makes read text report held = Makes read text report held × (text ≢ nothing)
+
+-- What it did, by its status: it is done where its text says that nothing was found, and has found something where it does not.
+abbrev pub Finds : (nothing : List ℕ) (most : ℕ) (Where : Status → List ℕ → Option Place) (Makes : (read text report : List ℕ) (held : Option PairsParts) → Type 0) (Refuses : Status → List ℕ → Type 0)
     → Status → (input output err : Change) → (held : Option PairsParts) → Type 0
-Finds most Where Makes Refuses Done input output err held = Did (Empty Makes) input output err held
-Finds most Where Makes Refuses Found input output err held = Did (Filled Makes) input output err held
-Finds most Where Makes Refuses status input output err held = Does most Where Makes Refuses status input output err held
+Finds nothing most Where Makes Refuses Done input output err held = Did (Clears nothing Makes) input output err held
+Finds nothing most Where Makes Refuses Found input output err held = Did (Shows nothing Makes) input output err held
+Finds nothing most Where Makes Refuses status input output err held = Does most Where Makes Refuses status input output err held
 
--- whether a text has a byte
-abbrev pub is_filled : (text : List ℕ) → Bool
-is_filled [] = false
-is_filled (byte ∷ text) = true
+-- whether a text says more than that nothing was found
+abbrev pub says_more : (nothing text : List ℕ) → Bool
+says_more nothing text = not (pointwise ◌==◌ text nothing)
 
 -- the status of a command that is done, by whether it found something
 abbrev pub with_found : (found : Bool) → Status → Status

@@ -14,6 +14,8 @@ pub fn words_decide_usage()
     ensures dead { laws.DeadDoesItsWord }
     ensures check { laws.CheckDoesItsWord }
     ensures same { laws.SameDoesItsWord }
+    ensures diff { laws.DiffDoesItsWord }
+    ensures blockers { laws.BlockersDoesItsWord }
     ensures list { laws.ListDoesItsWord }
     ensures lint { laws.LintDoesItsWord }
     ensures inspect { laws.InspectDoesItsWord }
@@ -31,8 +33,11 @@ pub fn each_status_has_its_cause()
     ensures told { laws.StatusIsTold }
     ensures placed { laws.FaultIsPlaced }
     ensures lint_placed { laws.LintFaultIsPlaced }
+    ensures blockers_placed { laws.BlockersFaultIsPlaced }
+    ensures diff_placed { laws.DiffFaultIsPlaced }
+    ensures second_placed { laws.SecondFaultIsPlaced }
     ensures inspect_placed { laws.InspectFaultIsPlaced }
-    ensures found { laws.OnlyLintFinds }
+    ensures found { laws.OnlyTwoFind }
 {
     remaining_steps_are_blocked();
 }
@@ -55,6 +60,8 @@ pub fn each_sheet_has_its_status()
     ensures told_same { laws.SheetsAreCompared }
     ensures listed { laws.ItemsAreListed }
     ensures found { laws.FindingsAreTold }
+    ensures differences { laws.DifferencesAreTold }
+    ensures blockers { laws.BlockersAreTold }
     ensures inspected { laws.EntriesAreTold }
     ensures others { laws.OthersAreDone }
 {}

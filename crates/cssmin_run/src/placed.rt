@@ -1,6 +1,6 @@
 //! The place in an input that its refusal tells.
 
-ghost use Rattle.std.specs.Prelude.{◌≡◌};
+ghost use Rattle.std.specs.Prelude.{◌≡◌, take, drop};
 ghost use Rattle.cssmin_run.specs.Placed as spec;
 
 use crate::status::Status;
@@ -45,4 +45,28 @@ pub(crate) fn in_sheet_part(status: Status, bytes: &[u8]) -> Option<Place>
 {
     let (_, sheet) = split_input(bytes);
     in_sheet(status, sheet)
+}
+
+/// The bytes of two sheets, of which the first one has so many, or all that there are.
+fn split_sheets(bytes: &[u8], split: u32) -> (&[u8], &[u8])
+    ensures first { result.0.now ≡ take split bytes.now }
+    ensures second { result.1.now ≡ drop split bytes.now }
+{
+    if (split as usize) <= bytes.len() {
+        bytes.split_at(split as usize)
+    } else {
+        (bytes, &[])
+    }
+}
+
+/// The line and the column of the fault of one of two sheets, in its own bytes. The first sheet has so many bytes.
+pub(crate) fn in_two_sheets(split: u32, status: Status, bytes: &[u8]) -> Option<Place>
+    ensures { result ≡ spec.in_two_sheets split status bytes.now }
+{
+    let (first, second) = split_sheets(bytes, split);
+    match status {
+        Status::SheetRefused(fault) => fault_place(first, fault),
+        Status::SecondRefused(fault) => fault_place(second, fault),
+        _ => None,
+    }
 }

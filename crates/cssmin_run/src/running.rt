@@ -8,9 +8,11 @@ ghost use Rattle.cssmin_run.specs.Run.{most_taken, needs_input, Answers, Ran};
 ghost use Rattle.cssmin_run.specs.Telling.{Tells};
 
 use crate::commands::about::{help, version};
+use crate::commands::blockers::Blockers;
 use crate::commands::check::Check;
 use crate::commands::cmp::cmp;
 use crate::commands::dead::Dead;
+use crate::commands::diff::Diff;
 use crate::commands::inspect::Inspect;
 use crate::commands::lint::Lint;
 use crate::commands::listing::Listing;
@@ -84,9 +86,26 @@ fn obey<S: Source, O: Sink, E: Sink>(
         Some(Command::Same { split, budget }) => {
             perform(alloc, words, &Same { split, budget }, input, out, err, held)
         }
+        Some(
+            Command::Diff {
+                split,
+                budget,
+                limit,
+            },
+        ) => {
+            let task = Diff {
+                split,
+                budget,
+                limit,
+            };
+            perform_finding(alloc, words, &task, b"same\n", input, out, err, held)
+        }
+        Some(Command::Blockers { budget }) => {
+            perform(alloc, words, &Blockers { budget }, input, out, err, held)
+        }
         Some(Command::Listing) => perform(alloc, words, &Listing, input, out, err, held),
         Some(Command::Lint { budget }) => {
-            perform_finding(alloc, words, &Lint { budget }, input, out, err, held)
+            perform_finding(alloc, words, &Lint { budget }, b"", input, out, err, held)
         }
         Some(Command::Inspect) => perform(alloc, words, &Inspect, input, out, err, held),
         Some(Command::Trial { rules }) => trial(alloc, rules.number(), out, err, held),
@@ -107,6 +126,10 @@ fn obey<S: Source, O: Sink, E: Sink>(
 /// - `style` reads a document and a sheet, and writes to `out` which declarations win.
 /// - `why FROM TO` reads a sheet, and writes to `out` what hinders the move of one rule to another.
 /// - `same N` reads two sheets, the first one of N bytes, and writes to `out` what is found in them.
+/// - `diff N` reads two sheets as `same` does, and writes to `out` all that is found in them. If it refuses one of them, it
+///   writes to `err` the line and the column of the fault in it too.
+/// - `blockers` reads a sheet, and writes to `out` which items stop the merges that are left in it. It refuses a sheet as
+///   `list` does.
 /// - `list` reads a sheet, and writes to `out` where each of its items is. If it refuses the sheet, it writes to `err` the
 ///   line and the column of the fault too.
 /// - `lint` reads a sheet, and writes to `out` which selectors match nothing, and which declarations each selector of
@@ -121,15 +144,16 @@ fn obey<S: Source, O: Sink, E: Sink>(
 ///
 /// What else happened is written to `err`.
 ///
-/// - `Found` comes exactly where the text of `lint` was written and is not empty.
+/// - `Found` comes exactly where the text of `lint` was written and is not empty, and where that of `diff` was written and is
+///   not `same`.
 /// - `Usage` comes exactly where the words have no form.
 /// - `SheetRefused` comes where a sheet has a fault, or has more than 1,048,576 bytes, of which one more is read; for
-///   `same` the limit is 2,097,152 bytes for both.
+///   `same` and `diff` the limit is 2,097,152 bytes for both.
 /// - `SecondRefused` comes where the second sheet has a fault.
 /// - `DocRefused` comes where a document has a fault.
 /// - `LogRefused` comes where a log has a fault, or has more than 134,217,728 bytes.
 /// - `NoItem` comes exactly where the sheet has no item of one of the numbers of `why`.
-/// - `NoSplit` comes exactly where there are fewer bytes than the number of `same`.
+/// - `NoSplit` comes exactly where there are fewer bytes than the number of `same` or `diff`.
 /// - `ReadFault` comes only where a read failed: the count of faults rose, or has its last value.
 /// - `WriteFault` comes only if a write failed: a count of faults rose, or has its last value. A front of the text is then
 ///   on `out`, or all of it and a front of the report on `err`.

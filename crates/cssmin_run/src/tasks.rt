@@ -3,7 +3,7 @@
 ghost use Rattle.std.specs.Prelude.{◌≡◌, ◌≢◌, ◌+◌, ◌-◌, ◌^◌, ◌<◌, ◌≤◌, ℕ, List, Option, None, length};
 ghost use Rattle.cssmin_run.specs.Change.{change_of, TakesAtMost};
 ghost use Rattle.cssmin_run.specs.Status.{IsRefusal};
-ghost use Rattle.cssmin_run.specs.Tasks.{Does, Finds, IsAnswered, Reads, is_filled, with_found};
+ghost use Rattle.cssmin_run.specs.Tasks.{Does, Finds, IsAnswered, Reads, says_more, with_found};
 ghost use Rattle.line_places.specs.declared.place.Place.{Place};
 ghost use Rattle.cssmin_run.specs.declared.status.Status.{Status};
 ghost use Rattle.overlap.specs.PairsParts.{PairsParts};
@@ -146,14 +146,11 @@ pub(crate) fn perform<T: Task, S: Source, O: Sink, E: Sink>(
     write_text(answer.text.as_slice(), answer.report.as_slice(), out, err)
 }
 
-/// Whether a text has a byte.
-fn is_filled_text(text: &[u8]) -> bool
-    ensures { result ≡ is_filled text.now }
+/// Whether a text says more than that nothing was found.
+fn is_more(nothing: &[u8], text: &[u8]) -> bool
+    ensures { result ≡ says_more nothing.now text.now }
 {
-    match text {
-        [] => false,
-        [_, ..] => true,
-    }
+    text != nothing
 }
 
 /// The status of a command, by whether it found something if it is done.
@@ -166,13 +163,14 @@ fn found_status(found: bool, status: Status) -> Status
     }
 }
 
-/// Does what [`perform`] does, for a command whose text tells what it found. The status is `Found` where the text is
-/// written and has a byte, and `Done` where it is empty.
+/// Does what [`perform`] does, for a command whose text tells what it found. Where the text is written, the status is
+/// `Done` if it is the one that says that nothing was found, and `Found` otherwise.
 #[tactic(auto, using(crate::proofs::Findings::stopped_finding, crate::proofs::Findings::found_wrote, crate::proofs::Findings::found_untouched))]
 pub(crate) fn perform_finding<T: Task, S: Source, O: Sink, E: Sink>(
     alloc: Global,
     words: &Vec<String>,
     task: &T,
+    nothing: &[u8],
     input: &mut S,
     out: &mut O,
     err: &mut E,
@@ -181,7 +179,7 @@ pub(crate) fn perform_finding<T: Task, S: Source, O: Sink, E: Sink>(
     requires out_fits { (bytes : List ℕ) → O.fits out.old bytes }
     requires err_fits { (bytes : List ℕ) → E.fits err.old bytes }
     requires unheld { held.old ≡ None }
-    ensures outcome { Finds (T.most task.now) (T.told_place task.now) (T.makes task.now) (T.refuses task.now) result
+    ensures outcome { Finds nothing.now (T.most task.now) (T.told_place task.now) (T.makes task.now) (T.refuses task.now) result
         (change_of S.left S.faults input.old input.new)
         (change_of O.written O.faults out.old out.new)
         (change_of E.written E.faults err.old err.new) held.new }
@@ -196,7 +194,7 @@ pub(crate) fn perform_finding<T: Task, S: Source, O: Sink, E: Sink>(
         Ok(answer) => answer,
         Err(refusal) => return tell_at(alloc, words, refusal.status, refusal.place, err),
     };
-    let found = is_filled_text(answer.text.as_slice());
+    let found = is_more(nothing, answer.text.as_slice());
     *held = answer.held;
     let status = write_text(answer.text.as_slice(), answer.report.as_slice(), out, err);
     found_status(found, status)

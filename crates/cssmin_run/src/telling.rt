@@ -31,6 +31,15 @@ fn placed_refusal(alloc: Global, fault: SheetFault, place: Place) -> Result<Stri
     format!(in alloc; "refused: {fault} ({line}:{column})\n")
 }
 
+/// The line that names the fault of the second sheet, with its line and column.
+fn placed_second(alloc: Global, fault: SheetFault, place: Place) -> Result<String, AllocError>
+    ensures { IfOk result (λ text. IsPlacedMessage (Some place) (Status.SecondRefused fault) (string_bytes text)) }
+{
+    let line = place.line;
+    let column = place.column;
+    format!(in alloc; "second refused: {fault} ({line}:{column})\n")
+}
+
 /// The line that names the fault of a log.
 fn log_refusal(alloc: Global, fault: LogFault) -> Result<String, AllocError>
     ensures { IfOk result (λ text. IsMessage (Status.LogRefused fault) (string_bytes text)) }
@@ -200,6 +209,9 @@ pub(crate) fn tell_at<E: Sink>(
     match (status, place) {
         (Status::SheetRefused(fault), Some(place)) => {
             tell_placed(placed_refusal(alloc, fault, place), status, place, err)
+        }
+        (Status::SecondRefused(fault), Some(place)) => {
+            tell_placed(placed_second(alloc, fault, place), status, place, err)
         }
         _ => tell(alloc, words, status, err),
     }

@@ -1,5 +1,5 @@
 -- What `lint` does: a style sheet on the input, on the output a line for each thing that can go from it.
-use Rattle.std.specs.Prelude.{◌≡◌, ℕ, List, Option, Some}
+use Rattle.std.specs.Prelude.{◌≡◌, ℕ, List, [], Option, Some}
 use Rattle.css_model.specs.Sheets.Limits.{max_bytes}
 use Rattle.css_model.specs.Sheets.Sheet.{sheet_of}
 use Rattle.lint_text.specs.Asking.{AsksOf}
@@ -19,4 +19,4 @@ TellsFound budget read text held = (pairs : PairsParts) × (held ≡ Some pairs)
 -- The status says whether something was found. A sheet is refused as `min` refuses it, with the line and the column of
 -- the fault.
 abbrev pub LintDoes : (budget : Option ℕ) → Status → (input output err : Change) → (held : Option PairsParts) → Type 0
-LintDoes budget status input output err held = Finds max_bytes in_sheet (Silent (TellsFound budget)) MinRefuses status input output err held
+LintDoes budget status input output err held = Finds [] max_bytes in_sheet (Silent (TellsFound budget)) MinRefuses status input output err held

@@ -1,4 +1,4 @@
-use Rattle.cssmin_run.proofs.Forms.{entries_told, findings_told, items_listed, told_same, told_why, told_style, told_dead, checked, completed, others_done, refused_for}
+use Rattle.cssmin_run.proofs.Forms.{blockers_told, differences_told, entries_told, findings_told, items_listed, told_same, told_why, told_style, told_dead, checked, completed, others_done, refused_for}
 use Rattle.cssmin_run.proofs.laws.each_sheet_has_its_status.Goals as goal
 
 pub returns-clause-refuses : goal.returns-clause-refuses
@@ -30,6 +30,12 @@ returns-clause-listed c = items_listed
 
 pub returns-clause-found : goal.returns-clause-found
 returns-clause-found c = findings_told
+
+pub returns-clause-differences : goal.returns-clause-differences
+returns-clause-differences c = differences_told
+
+pub returns-clause-blockers : goal.returns-clause-blockers
+returns-clause-blockers c = blockers_told
 
 pub returns-clause-inspected : goal.returns-clause-inspected
 returns-clause-inspected c = entries_told

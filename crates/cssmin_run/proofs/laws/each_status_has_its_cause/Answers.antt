@@ -1,4 +1,4 @@
-use Rattle.cssmin_run.proofs.Forms.{done_is, fault_placed, front_is, inspect_placed, lint_placed, only_lint, read_fault_is, refused_is, told_is, write_fault_is}
+use Rattle.cssmin_run.proofs.Forms.{blockers_placed, diff_placed, done_is, fault_placed, front_is, inspect_placed, lint_placed, only_two, read_fault_is, refused_is, second_placed, told_is, write_fault_is}
 use Rattle.cssmin_run.proofs.Remaining.{remaining}
 use Rattle.cssmin_run.proofs.laws.each_status_has_its_cause.Goals as goal
 
@@ -30,7 +30,16 @@ pub returns-clause-lint_placed : goal.returns-clause-lint_placed
 returns-clause-lint_placed c = lint_placed
 
 pub returns-clause-found : goal.returns-clause-found
-returns-clause-found c = only_lint
+returns-clause-found c = only_two
+
+pub returns-clause-blockers_placed : goal.returns-clause-blockers_placed
+returns-clause-blockers_placed c = blockers_placed
+
+pub returns-clause-diff_placed : goal.returns-clause-diff_placed
+returns-clause-diff_placed c = diff_placed
+
+pub returns-clause-second_placed : goal.returns-clause-second_placed
+returns-clause-second_placed c = second_placed
 
 pub returns-clause-inspect_placed : goal.returns-clause-inspect_placed
 returns-clause-inspect_placed c = inspect_placed

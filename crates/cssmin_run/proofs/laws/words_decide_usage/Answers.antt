@@ -1,4 +1,4 @@
-use Rattle.cssmin_run.proofs.Forms.{inspect_did, lint_did, list_did, same_did, why_did, style_did, dead_did, check_did, cmp_did, min_did, trial_did, usage_is}
+use Rattle.cssmin_run.proofs.Forms.{blockers_did, diff_did, inspect_did, lint_did, list_did, same_did, why_did, style_did, dead_did, check_did, cmp_did, min_did, trial_did, usage_is}
 use Rattle.cssmin_run.proofs.laws.words_decide_usage.Goals as goal
 
 pub returns-clause-usage : goal.returns-clause-usage
@@ -27,6 +27,12 @@ returns-clause-why c = why_did
 
 pub returns-clause-same : goal.returns-clause-same
 returns-clause-same c = same_did
+
+pub returns-clause-diff : goal.returns-clause-diff
+returns-clause-diff c = diff_did
+
+pub returns-clause-blockers : goal.returns-clause-blockers
+returns-clause-blockers c = blockers_did
 
 pub returns-clause-list : goal.returns-clause-list
 returns-clause-list c = list_did

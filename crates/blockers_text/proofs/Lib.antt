@@ -1,0 +1,9 @@
+mod Answered
+mod Counted
+mod Finding
+mod Freeing
+mod Planning
+mod Ranking
+mod Tallied
+mod Telling
+mod Writing

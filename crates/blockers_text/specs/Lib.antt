@@ -1,0 +1,10 @@
+pub mod BlockersTexts
+pub mod Bounds
+pub mod Later
+pub mod Laws
+pub mod Levels
+pub mod Lines
+pub mod Planned
+pub mod Sound
+pub mod Stopping
+pub mod Tallies

@@ -1,0 +1,10 @@
+mod Appended
+mod Best
+mod Fronts
+mod Kept
+mod Laid
+mod Nothing
+mod Pieces
+mod Ready
+mod Shown
+mod Worded

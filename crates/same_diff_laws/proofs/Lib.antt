@@ -1,0 +1,13 @@
+mod Alike
+mod Answered
+mod Couples
+mod Facts
+mod Found
+mod Lasting
+mod Levels
+mod Marks
+mod Members
+mod Nothing
+mod Sides
+mod Spots
+mod Word

@@ -1,0 +1,5 @@
+pub mod ForCallers
+mod Listed
+mod Placing
+mod Ready
+mod Repeats

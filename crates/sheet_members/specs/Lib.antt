@@ -1,0 +1,10 @@
+pub mod Compared
+pub mod Labels
+pub mod Layers
+pub mod Members
+pub mod Occurrences
+pub mod Ready
+pub mod Repeats
+pub mod SameLabels
+pub mod Seen
+pub mod Tables

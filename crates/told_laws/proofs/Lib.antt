@@ -1,0 +1,4 @@
+mod All
+mod Competing
+mod Showing
+mod Word

@@ -1,0 +1,4 @@
+mod Floors
+mod Tells
+mod Way
+mod Weights

@@ -1,0 +1,5 @@
+pub mod Telling
+pub mod Turned
+pub mod Walking
+pub mod Weighing
+pub mod Weight
