@@ -22,7 +22,8 @@ FACTS = "IsMergedOpened"
 LAW = ["DoneIsMerged", "change_of"]
 FIELDS = {
     "Merges": ["merged"],
-    "IsMergedOpened": ["old_read", "again_read", "winners", "no_longer"],
+    "MergesWithin": ["merged"],
+    "IsMergedWithin": ["old_read", "again_read", "winners", "no_longer"],
 }
 
 # What the law names and nobody has to believe: `run` gives `Ran`, so that the law rests on what `run` does, whatever

@@ -143,6 +143,10 @@ min --budget 1 --budget 1
 min --budget --report
 min --report --report
 min --report=1
+min --work
+min --work 07
+min --work=4294967296
+min --work 1 --work 1
 min --log
 min sheet.css
 min -

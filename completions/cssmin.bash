@@ -8,13 +8,13 @@ _cssmin() {
             mapfile -t COMPREPLY < <(compgen -f -- "$word")
             return
             ;;
-        --budget | --limit | =) return ;;
+        --budget | --limit | --work | =) return ;;
     esac
     if [ "$COMP_CWORD" = 1 ]; then
         words='min cmp dead style why same diff blockers list lint inspect check trial help --help --version'
     else
         case ${COMP_WORDS[1]} in
-            min) words='--budget --report' ;;
+            min) words='--budget --work --report' ;;
             cmp) words='--budget --log' ;;
             diff) words='--budget --limit' ;;
             dead | why | same | blockers | lint) words='--budget' ;;

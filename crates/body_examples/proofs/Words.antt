@@ -11,7 +11,7 @@ use Rattle.cssmin_run.specs.Tasks.{says_more, with_found}
 
 -- ---- Words
 
-min_alone_minifies : form_of (codes "min" ∷ []) ≡ Some (Min None false)
+min_alone_minifies : form_of (codes "min" ∷ []) ≡ Some (Min None None false)
 unfolding command_named number_up_to
 min_alone_minifies = refl
 
@@ -20,9 +20,18 @@ more_words_have_no_form : form_of (codes "min" ∷ codes "a.css" ∷ []) ≡ Non
 unfolding command_named number_up_to
 more_words_have_no_form = refl
 
-report_is_asked_for : form_of (codes "min" ∷ codes "--report" ∷ codes "--budget" ∷ codes "7" ∷ []) ≡ Some (Min (Some 7) true)
+report_is_asked_for : form_of (codes "min" ∷ codes "--report" ∷ codes "--budget" ∷ codes "7" ∷ []) ≡ Some (Min (Some 7) None true)
 unfolding command_named digits number_up_to
 report_is_asked_for = refl
+
+work_is_bounded : form_of (codes "min" ∷ codes "--work=4294967295" ∷ []) ≡ Some (Min None (Some 4294967295) false)
+unfolding command_named digits number_up_to
+work_is_bounded = refl
+
+-- one more is no number of it
+more_work_has_no_form : form_of (codes "min" ∷ codes "--work=4294967296" ∷ []) ≡ None
+unfolding command_named digits number_up_to
+more_work_has_no_form = refl
 
 -- both selectors, the left one first
 both_selectors_are_taken : form_of (codes "cmp" ∷ codes "a" ∷ codes "b" ∷ []) ≡ Some (Cmp (codes "a") (codes "b") None false)

@@ -112,6 +112,67 @@ const REPORTED: &[Row] = &[
     ),
 ];
 
+// A bound of the work: the steps and the answers count together, also those of opened blocks.
+const BOUNDED: &[Row] = &[
+    (
+        "cssmin min --work 0 --report",
+        b"a{top:0}a{left:0}a{right:0}",
+        Status::Done,
+        "a{top:0}a{left:0}a{right:0}",
+        "items 3 3\nbytes 27 27\nsteps 0\nwork spent\n",
+    ),
+    (
+        "cssmin min --report --work=1",
+        b"a{top:0}a{left:0}a{right:0}",
+        Status::Done,
+        "a{top:0;left:0}a{right:0}",
+        "items 3 2\nbytes 27 25\nsteps 1\nwork spent\n",
+    ),
+    (
+        "cssmin min --work 1",
+        b"a{top:0}a{left:0}a{right:0}",
+        Status::Done,
+        "a{top:0;left:0}a{right:0}",
+        "",
+    ),
+    (
+        "cssmin min --work 1 --report",
+        b"a{top:0}a{left:0}@media print{b{top:0}b{left:0}}",
+        Status::Done,
+        "a{top:0;left:0}@media print{b{top:0}b{left:0}}",
+        "items 5 4\nbytes 48 46\nsteps 1\nwork spent\n",
+    ),
+    (
+        "cssmin min --work 1 --report",
+        b".a{top:0}.b{top:1px}.a{top:2px}",
+        Status::Done,
+        ".a{top:0}.b{top:1px}.a{top:2px}",
+        "items 3 3\nbytes 31 31\nsteps 0\nwork spent\n",
+    ),
+    // Nothing is left to do.
+    (
+        "cssmin min --work 3 --report",
+        b"a{top:0}a{left:0}a{right:0}",
+        Status::Done,
+        "a{top:0;left:0;right:0}",
+        "items 3 1\nbytes 27 23\nsteps 2\n",
+    ),
+    (
+        "cssmin min --work 9 --report",
+        b".a{top:0}.b{top:1px}.a{top:2px}",
+        Status::Done,
+        ".a{top:0}.b{top:1px}.a{top:2px}",
+        "items 3 3\nbytes 31 31\nsteps 0\nblocked JoinSelUp 1 3 meet 2\nblocked JoinSelDown 1 3 meet 2\n",
+    ),
+    (
+        "cssmin min --work 0 --report",
+        b"",
+        Status::Done,
+        "",
+        "items 0 0\nbytes 0 0\nsteps 0\n",
+    ),
+];
+
 const REFUSED: &[Row] = &[
     (
         "cssmin min",
@@ -181,6 +242,7 @@ fn sheets_are_merged(rt: HostRuntime) {
 #[test]
 fn sheets_are_reported_or_refused(rt: HostRuntime) {
     end_so(&rt, rt.alloc(), REPORTED);
+    end_so(&rt, rt.alloc(), BOUNDED);
     end_so(&rt, rt.alloc(), REFUSED);
 }
 

@@ -6,23 +6,37 @@ use cssmin_run::Status;
 
 /// Lines with the commands that they are, as `Debug` shows them.
 const FORMS: &[(&str, &str)] = &[
-    ("cssmin min", "Min { budget: None, report: false }"),
+    (
+        "cssmin min",
+        "Min { budget: None, work: None, report: false }",
+    ),
     (
         "cssmin min --budget 9",
-        "Min { budget: Some(9), report: false }",
+        "Min { budget: Some(9), work: None, report: false }",
     ),
     (
         "cssmin min --budget=20000",
-        "Min { budget: Some(20000), report: false }",
+        "Min { budget: Some(20000), work: None, report: false }",
     ),
-    ("cssmin min --report", "Min { budget: None, report: true }"),
+    (
+        "cssmin min --report",
+        "Min { budget: None, work: None, report: true }",
+    ),
     (
         "cssmin min --budget 9 --report",
-        "Min { budget: Some(9), report: true }",
+        "Min { budget: Some(9), work: None, report: true }",
     ),
     (
         "cssmin min --report --budget 9",
-        "Min { budget: Some(9), report: true }",
+        "Min { budget: Some(9), work: None, report: true }",
+    ),
+    (
+        "cssmin min --work 4294967295",
+        "Min { budget: None, work: Some(4294967295), report: false }",
+    ),
+    (
+        "cssmin min --report --work=0 --budget 9",
+        "Min { budget: Some(9), work: Some(0), report: true }",
     ),
     ("cssmin trial 0", "Trial { rules: RuleCount { number: 0 } }"),
     (
@@ -141,6 +155,11 @@ const WRONG: &[&str] = &[
     "cssmin min --budget 07",
     "cssmin min --budget --report",
     "cssmin min --budget 1 --budget=1",
+    "cssmin min --work",
+    "cssmin min --work 07",
+    "cssmin min --work=4294967296",
+    "cssmin min --work 1 --work=1",
+    "cssmin lint --work 1",
     "cssmin min --log",
     "cssmin min --help --report",
     "cssmin min --version",

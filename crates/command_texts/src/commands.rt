@@ -34,11 +34,18 @@ link is both visited and unvisited, and nothing is both enabled and disabled.
 The case of attribute values counts, even if HTML ignores it. So write a value
 such as that of `type` in one way. In quirks mode the winners may change.
 
+With `--work N`, cssmin ends when its steps and the answers for pairs of
+selectors that it holds are N or more together. Then it writes the sheet as it
+is by then, with the same winners. The report says `work spent` if steps may be
+left.
+
 With `--report`, standard error lists the items and bytes before and after, the
 number of steps, and each step that would still save bytes. The last words of
 such a line say what blocks the step: `meet`, a rule that the same element may
 match; `kept`, an item that stays as written; `outside R` or `spent`, as in
-`cssmin cmp`. Nothing limits the time. Use `timeout` and `ulimit -v`.";
+`cssmin cmp`.
+
+No option limits the seconds and the memory. Use `timeout` and `ulimit -v`.";
 
 const CMP_HELP: &str = "\
 Writes one of these to standard output, and reads no input:
@@ -113,6 +120,15 @@ fn style_command<'a>(alloc: Global) -> Command<'a> {
         .after_help(STYLE_HELP)
 }
 
+/// The option that bounds the steps and the answers of a run.
+fn work<'a>(alloc: Global) -> Arg<'a> {
+    Arg::new(alloc, "work")
+        .long("work")
+        .value_name("N")
+        .value_parser(value_parser!(u32))
+        .help("Stop when N steps and answers are made [default: go on\nuntil no step is left]")
+}
+
 /// The command `min`.
 fn min_command<'a>(alloc: Global) -> Result<Command<'a>, AllocError> {
     let report = Arg::new(alloc, "report")
@@ -124,6 +140,7 @@ fn min_command<'a>(alloc: Global) -> Result<Command<'a>, AllocError> {
         .override_usage("cssmin min [OPTIONS] <SHEET >TARGET")
         .after_help(MIN_HELP)
         .arg(budget(alloc))?
+        .arg(work(alloc))?
         .arg(report)
 }
 

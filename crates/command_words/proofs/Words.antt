@@ -3,7 +3,7 @@ use Rattle.std.proofs.Common.{◌≡◌, ◌≤◌, ◌-◌, ◌+◌, ℕ, List,
 use Rattle.std.proofs.lemmas.Bool.{false≢true}
 use Rattle.std.proofs.lemmas.List.{take_all}
 use Rattle.std.specs.Prelude.{codes}
-use Rattle.command_words.specs.Forms.{Arguments, is_operand, is_word, most_budget, most_limit, count_up_to, number_up_to, takes_number, with_budget, with_limit, with_number, with_other_word, with_word, with_words}
+use Rattle.command_words.specs.Forms.{Arguments, is_operand, is_word, most_budget, most_limit, most_number, count_up_to, number_up_to, takes_number, with_budget, with_limit, with_number, with_other_word, with_word, with_words, with_work}
 
 -- what words behind the first ones are read as
 rest_is : {X : Type 0} (rest : List X) (n m : ℕ) → n ≡ m + length rest → take (n - m) rest ≡ rest
@@ -48,21 +48,28 @@ no_limit : (number : Option ℕ) → with_limit number None ≡ None
 no_limit None = refl
 no_limit (Some number) = refl
 
+no_work : (number : Option ℕ) → with_work number None ≡ None
+no_work None = refl
+no_work (Some number) = refl
+
 no_number : (option number : List ℕ) → with_number option number None ≡ None
-no_number option number = by (is_word option (codes "--budget"))
+no_number option number = by (is_word option (codes "--budget")) (is_word option (codes "--limit"))
   where
-    by : (b : Bool) → cond b (with_budget (number_up_to most_budget number) None) (with_limit (count_up_to most_limit number) None) ≡ None
-    by true = no_budget (number_up_to most_budget number)
-    by false = no_limit (count_up_to most_limit number)
+    by : (b c : Bool) → cond b (with_budget (number_up_to most_budget number) None) (cond c (with_limit (count_up_to most_limit number) None) (with_work (number_up_to most_number number) None)) ≡ None
+    by true c = no_budget (number_up_to most_budget number)
+    by false true = no_limit (count_up_to most_limit number)
+    by false false = no_work (number_up_to most_number number)
 
 no_other_word : (word : List ℕ) → with_other_word word None ≡ None
-no_other_word word = by (is_word (take 9 word) (codes "--budget=")) (is_word (take 8 word) (codes "--limit=")) (is_operand word)
+no_other_word word = by (is_word (take 9 word) (codes "--budget=")) (is_word (take 8 word) (codes "--limit=")) (is_word (take 7 word) (codes "--work=")) (is_operand word)
   where
-    by : (b c d : Bool) → cond b (with_budget (number_up_to most_budget (drop 9 word)) None) (cond c (with_limit (count_up_to most_limit (drop 8 word)) None) (cond {A = Option Arguments} d None None)) ≡ None
-    by true c d = no_budget (number_up_to most_budget (drop 9 word))
-    by false true d = no_limit (count_up_to most_limit (drop 8 word))
-    by false false true = refl
-    by false false false = refl
+    by : (b c d e : Bool)
+        → cond b (with_budget (number_up_to most_budget (drop 9 word)) None) (cond c (with_limit (count_up_to most_limit (drop 8 word)) None) (cond d (with_work (number_up_to most_number (drop 7 word)) None) (cond {A = Option Arguments} e None None))) ≡ None
+    by true c d e = no_budget (number_up_to most_budget (drop 9 word))
+    by false true d e = no_limit (count_up_to most_limit (drop 8 word))
+    by false false true e = no_work (number_up_to most_number (drop 7 word))
+    by false false false true = refl
+    by false false false false = refl
 
 no_word : (word : List ℕ) → with_word word None ≡ None
 no_word word = by (is_word word (codes "--log")) (is_word word (codes "--report"))

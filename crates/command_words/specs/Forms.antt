@@ -8,7 +8,7 @@ use Rattle.command_words.specs.declared.command.Topic.TheVariants as topic
 -- What words ask for: what a command does, with its operands and options, how the program or a command is used, or
 -- the version.
 pub data Form : Type 0 where
-  Min : (budget : Option ℕ) (report : Bool) → Form
+  Min : (budget work : Option ℕ) (report : Bool) → Form
   Style : Form
   Dead : (budget : Option ℕ) → Form
   Cmp : (left right : List ℕ) (budget : Option ℕ) (log : Bool) → Form
@@ -43,7 +43,7 @@ is_operand (c ∷ cs) = not (c == 45)
 abbrev pub most_budget : ℕ
 most_budget = 20000
 
--- the greatest number of an item or of bytes that words may name
+-- the greatest number of an item, of bytes or of work that words may name
 abbrev pub most_number : ℕ
 most_number = 4294967295
 
@@ -70,60 +70,71 @@ count_up_to most word = if is_word word (codes "0") then None else number_up_to 
 
 -- ---- Operands and options
 
--- What may stand behind the name of a command: operands, in their order, the budget and the limit, if they are named, and
--- whether a log or a report is asked for.
+-- What may stand behind the name of a command: operands, in their order, the budget, the limit and the work, if they are named,
+-- and whether a log or a report is asked for.
 pub data Arguments : Type 0 where
-  arguments : (operands : List (List ℕ)) (budget limit : Option ℕ) (log report : Bool) → Arguments
+  arguments : (operands : List (List ℕ)) (budget limit work : Option ℕ) (log report : Bool) → Arguments
 
 -- one operand more; no command takes three
 abbrev pub with_operand : List ℕ → Option Arguments → Option Arguments
-with_operand word (Some (arguments [] budget limit log report)) = Some (arguments (word ∷ []) budget limit log report)
-with_operand word (Some (arguments (first ∷ []) budget limit log report)) = Some (arguments (first ∷ word ∷ []) budget limit log report)
+with_operand word (Some (arguments [] budget limit work log report)) = Some (arguments (word ∷ []) budget limit work log report)
+with_operand word (Some (arguments (first ∷ []) budget limit work log report)) = Some (arguments (first ∷ word ∷ []) budget limit work log report)
 with_operand word before = None
 
 -- a budget, if none is named before
 abbrev pub with_budget : Option ℕ → Option Arguments → Option Arguments
-with_budget (Some number) (Some (arguments operands None limit log report)) = Some (arguments operands (Some number) limit log report)
+with_budget (Some number) (Some (arguments operands None limit work log report)) = Some (arguments operands (Some number) limit work log report)
 with_budget number before = None
 
 -- a limit, if none is named before
 abbrev pub with_limit : Option ℕ → Option Arguments → Option Arguments
-with_limit (Some number) (Some (arguments operands budget None log report)) = Some (arguments operands budget (Some number) log report)
+with_limit (Some number) (Some (arguments operands budget None work log report)) = Some (arguments operands budget (Some number) work log report)
 with_limit number before = None
+
+-- a bound of work, if none is named before
+abbrev pub with_work : Option ℕ → Option Arguments → Option Arguments
+with_work (Some number) (Some (arguments operands budget limit None log report)) = Some (arguments operands budget limit (Some number) log report)
+with_work number before = None
 
 -- a log, if none is asked for before
 abbrev pub with_log : Option Arguments → Option Arguments
-with_log (Some (arguments operands budget limit false report)) = Some (arguments operands budget limit true report)
+with_log (Some (arguments operands budget limit work false report)) = Some (arguments operands budget limit work true report)
 with_log before = None
 
 -- a report, if none is asked for before
 abbrev pub with_report : Option Arguments → Option Arguments
-with_report (Some (arguments operands budget limit log false)) = Some (arguments operands budget limit log true)
+with_report (Some (arguments operands budget limit work log false)) = Some (arguments operands budget limit work log true)
 with_report before = None
 
 -- whether the word behind this one is its number
 abbrev pub takes_number : List ℕ → Bool
-takes_number option = is_word option (codes "--budget") || is_word option (codes "--limit")
+takes_number option = is_word option (codes "--budget") || is_word option (codes "--limit") || is_word option (codes "--work")
 
 -- such an option with its number
 abbrev pub with_number : (option number : List ℕ) → Option Arguments → Option Arguments
 with_number option number before =
     if is_word option (codes "--budget") then with_budget (number_up_to most_budget number) before
-    else with_limit (count_up_to most_limit number) before
+    else if is_word option (codes "--limit") then with_limit (count_up_to most_limit number) before
+    else with_work (number_up_to most_number number) before
 
--- one word more: `--budget=N`, `--limit=K`, or an operand
+-- one word more that is no option: an operand, if it may be one
+abbrev pub with_plain_word : List ℕ → Option Arguments → Option Arguments
+with_plain_word word before = if is_operand word then with_operand word before else None
+
+-- one word more: `--budget=N`, `--limit=K`, `--work=N`, or an operand
 abbrev pub with_other_word : List ℕ → Option Arguments → Option Arguments
 with_other_word word before =
     if is_word (take 9 word) (codes "--budget=") then with_budget (number_up_to most_budget (drop 9 word)) before
     else if is_word (take 8 word) (codes "--limit=") then with_limit (count_up_to most_limit (drop 8 word)) before
-    else if is_operand word then with_operand word before else None
+    else if is_word (take 7 word) (codes "--work=") then with_work (number_up_to most_number (drop 7 word)) before
+    else with_plain_word word before
 
 -- the same, or `--log` or `--report`
 abbrev pub with_word : List ℕ → Option Arguments → Option Arguments
 with_word word before =
     if is_word word (codes "--log") then with_log before else if is_word word (codes "--report") then with_report before else with_other_word word before
 
--- More words, read from the left: the word behind `--budget` or `--limit` is its number.
+-- More words, read from the left: the word behind `--budget`, `--limit` or `--work` is its number.
 abbrev pub with_words : Option Arguments → List (List ℕ) → Option Arguments
 with_words before [] = before
 with_words before (word ∷ []) = with_word word before
@@ -133,7 +144,7 @@ with_words before (word ∷ next ∷ words) =
 
 -- what words behind the name of a command are: an option stands once at most, and anywhere
 abbrev pub arguments_of : List (List ℕ) → Option Arguments
-arguments_of words = with_words (Some (arguments [] None None false false)) words
+arguments_of words = with_words (Some (arguments [] None None None false false)) words
 
 -- ---- What words ask for
 
@@ -164,19 +175,19 @@ tried None = None
 
 -- what a command with these operands and options asks for
 abbrev pub asked : Topic → Option Arguments → Option Form
-asked topic.Min (Some (arguments [] budget None false report)) = Some (Min budget report)
-asked topic.Dead (Some (arguments [] budget None false false)) = Some (Dead budget)
-asked topic.Style (Some (arguments [] None None false false)) = Some Style
-asked topic.Cmp (Some (arguments (left ∷ right ∷ []) budget None log false)) = Some (Cmp left right budget log)
-asked topic.Check (Some (arguments [] None None false false)) = Some Check
-asked topic.Why (Some (arguments (from ∷ to ∷ []) budget None false false)) = moved (number_up_to most_number from) (number_up_to most_number to) budget
-asked topic.Same (Some (arguments (split ∷ []) budget None false false)) = compared (number_up_to most_number split) budget
-asked topic.Diff (Some (arguments (split ∷ []) budget limit false false)) = differing (number_up_to most_number split) budget limit
-asked topic.Blockers (Some (arguments [] budget None false false)) = Some (Blockers budget)
-asked topic.Listing (Some (arguments [] None None false false)) = Some Listing
-asked topic.Lint (Some (arguments [] budget None false false)) = Some (Lint budget)
-asked topic.Inspect (Some (arguments [] None None false false)) = Some Inspect
-asked topic.Trial (Some (arguments (rules ∷ []) None None false false)) = tried (number_up_to most_rules rules)
+asked topic.Min (Some (arguments [] budget None work false report)) = Some (Min budget work report)
+asked topic.Dead (Some (arguments [] budget None None false false)) = Some (Dead budget)
+asked topic.Style (Some (arguments [] None None None false false)) = Some Style
+asked topic.Cmp (Some (arguments (left ∷ right ∷ []) budget None None log false)) = Some (Cmp left right budget log)
+asked topic.Check (Some (arguments [] None None None false false)) = Some Check
+asked topic.Why (Some (arguments (from ∷ to ∷ []) budget None None false false)) = moved (number_up_to most_number from) (number_up_to most_number to) budget
+asked topic.Same (Some (arguments (split ∷ []) budget None None false false)) = compared (number_up_to most_number split) budget
+asked topic.Diff (Some (arguments (split ∷ []) budget limit None false false)) = differing (number_up_to most_number split) budget limit
+asked topic.Blockers (Some (arguments [] budget None None false false)) = Some (Blockers budget)
+asked topic.Listing (Some (arguments [] None None None false false)) = Some Listing
+asked topic.Lint (Some (arguments [] budget None None false false)) = Some (Lint budget)
+asked topic.Inspect (Some (arguments [] None None None false false)) = Some Inspect
+asked topic.Trial (Some (arguments (rules ∷ []) None None None false false)) = tried (number_up_to most_rules rules)
 asked about words = None
 
 -- the command of a name

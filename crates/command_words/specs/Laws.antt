@@ -3,9 +3,9 @@ use Rattle.std.specs.Prelude.{◌≡◌, ◌↔◌, ℕ, true, false, List, [], 
 use Rattle.command_words.specs.Forms.{Min, Cmp, form_of, is_operand, most_budget, most_limit, most_rules, usual_limit}
 use Rattle.command_words.specs.declared.command.TheConstants.{MOST_BUDGET, MOST_LIMIT, MOST_RULES, USUAL_LIMIT}
 
--- exactly the one word `min` minifies with no budget named and no report asked for
+-- exactly the one word `min` minifies with no budget and no work named, and no report asked for
 abbrev pub MinIsOneWord : Type 0
-MinIsOneWord = (words : List (List ℕ)) → (form_of words ≡ Some (Min None false)) ↔ (words ≡ codes "min" ∷ [])
+MinIsOneWord = (words : List (List ℕ)) → (form_of words ≡ Some (Min None None false)) ↔ (words ≡ codes "min" ∷ [])
 
 -- `cmp` and two words that do not begin with `-` compare them
 abbrev pub CmpComparesTwoWords : Type 0

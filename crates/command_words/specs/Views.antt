@@ -9,7 +9,7 @@ use Rattle.command_words.specs.declared.arguments.Operands.TheVariants as operan
 
 -- the form of a command: its texts in place of the places where they stand
 abbrev pub form : Command → Form
-form (command.Min budget report) = Min budget report
+form (command.Min budget work report) = Min budget work report
 form command.Style = Style
 form (command.Dead budget) = Dead budget
 form (command.Cmp left right budget log) = Cmp left.now right.now budget log
@@ -37,4 +37,4 @@ texts (operands.Two first second) = first.now ∷ second.now ∷ []
 
 abbrev pub arguments_if_some : Option read.Arguments → Option Arguments
 arguments_if_some None = None
-arguments_if_some (Some read) = Some (arguments (texts read.operands) read.budget read.limit read.log read.report)
+arguments_if_some (Some read) = Some (arguments (texts read.operands) read.budget read.limit read.work read.log read.report)

@@ -15,12 +15,13 @@ pub(crate) enum Operands<'a> {
     Two(&'a str, &'a str),
 }
 
-/// Operands, the budget and the limit, if they are named, and whether a log or a report is asked for.
+/// Operands, the budget, the limit and the work, if they are named, and whether a log or a report is asked for.
 #[derive(Clone, Copy, Debug)]
 pub(crate) struct Arguments<'a> {
     pub(crate) operands: Operands<'a>,
     pub(crate) budget: Option<u32>,
     pub(crate) limit: Option<u32>,
+    pub(crate) work: Option<u32>,
     pub(crate) log: bool,
     pub(crate) report: bool,
 }
@@ -75,6 +76,20 @@ fn with_limit<'a>(number: &str, before: Arguments<'a>) -> Option<Arguments<'a>>
     }
 }
 
+/// Arguments with the work of this word, where none is named before.
+fn with_work<'a>(number: &str, before: Arguments<'a>) -> Option<Arguments<'a>>
+    ensures { arguments_if_some result
+        ≡ forms.with_work (forms.number_up_to forms.most_number number.now) (arguments_if_some (Some before.entry)) }
+{
+    match (before.work, number_up_to(u32::MAX, number)) {
+        (None, Some(work)) => Some(Arguments {
+            work: Some(work),
+            ..before
+        }),
+        _ => None,
+    }
+}
+
 /// Arguments with a log, where none is asked for before.
 fn with_log<'a>(before: Arguments<'a>) -> Option<Arguments<'a>>
     ensures { arguments_if_some result ≡ forms.with_log (arguments_if_some (Some before.entry)) }
@@ -107,7 +122,7 @@ fn with_report<'a>(before: Arguments<'a>) -> Option<Arguments<'a>>
 fn takes_number(option: &str) -> bool
     ensures { result ≡ forms.takes_number option.now }
 {
-    option == "--budget" || option == "--limit"
+    option == "--budget" || option == "--limit" || option == "--work"
 }
 
 /// Arguments with such an option and its number.
@@ -117,8 +132,21 @@ fn with_number<'a>(option: &str, number: &str, before: Arguments<'a>) -> Option<
 {
     if option == "--budget" {
         with_budget(number, before)
-    } else {
+    } else if option == "--limit" {
         with_limit(number, before)
+    } else {
+        with_work(number, before)
+    }
+}
+
+/// Arguments with one more word that is no option.
+fn with_plain_word<'a>(word: &'a str, before: Arguments<'a>) -> Option<Arguments<'a>>
+    ensures { arguments_if_some result ≡ forms.with_plain_word word.now (arguments_if_some (Some before.entry)) }
+{
+    if is_operand(word) {
+        with_operand(word, before)
+    } else {
+        None
     }
 }
 
@@ -129,15 +157,12 @@ fn with_other_word<'a>(word: &'a str, before: Arguments<'a>) -> Option<Arguments
     if let Some(number) = word.strip_prefix("--budget=") {
         return with_budget(number, before);
     }
-    match word.strip_prefix("--limit=") {
-        Some(number) => with_limit(number, before),
-        None => {
-            if is_operand(word) {
-                with_operand(word, before)
-            } else {
-                None
-            }
-        }
+    if let Some(number) = word.strip_prefix("--limit=") {
+        return with_limit(number, before);
+    }
+    match word.strip_prefix("--work=") {
+        Some(number) => with_work(number, before),
+        None => with_plain_word(word, before),
     }
 }
 
@@ -186,6 +211,7 @@ pub(crate) fn arguments_of<'a>(words: &'a [String]) -> Option<Arguments<'a>>
         operands: Operands::None,
         budget: None,
         limit: None,
+        work: None,
         log: false,
         report: false,
     };

@@ -72,6 +72,8 @@ pub enum Command<'a> {
     Min {
         /// How many clauses may be learned for a pair, where the words say it: at most `MOST_BUDGET`.
         budget: Option<u32>,
+        /// How many steps and answers may be made before the plan ends, where the words say it.
+        work: Option<u32>,
         /// Whether a report is to be written.
         report: bool,
     },

@@ -2,7 +2,7 @@
 
 ghost use Rattle.command_words.specs.Laws.{CmpComparesTwoWords, MinIsOneWord, MostBudgetIsDefined, MostLimitIsDefined, MostRulesIsDefined, UsualLimitIsDefined};
 
-/// Exactly the one word `min` minifies with no budget named and no report asked for.
+/// Exactly the one word `min` minifies with no budget and no work named, and no report asked for.
 #[tactic(auto, using(crate::proofs::FormLaws::min_is_one_word))]
 pub fn min_is_one_word()
     ensures { MinIsOneWord }

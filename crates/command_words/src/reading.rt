@@ -84,39 +84,46 @@ fn asked<'a>(about: Topic, words: Option<Arguments<'a>>) -> Option<Command<'a>>
         arguments.operands,
         arguments.budget,
         arguments.limit,
+        arguments.work,
         arguments.log,
         arguments.report,
     ) {
-        (Topic::Min, Operands::None, budget, None, false, report) => {
-            Some(Command::Min { budget, report })
-        }
-        (Topic::Style, Operands::None, None, None, false, false) => Some(Command::Style),
-        (Topic::Dead, Operands::None, budget, None, false, false) => {
+        (Topic::Min, Operands::None, budget, None, work, false, report) => Some(Command::Min {
+            budget,
+            work,
+            report,
+        }),
+        (Topic::Style, Operands::None, None, None, None, false, false) => Some(Command::Style),
+        (Topic::Dead, Operands::None, budget, None, None, false, false) => {
             Some(Command::Dead { budget })
         }
-        (Topic::Cmp, Operands::Two(left, right), budget, None, log, false) => Some(Command::Cmp {
-            left,
-            right,
-            budget,
-            log,
-        }),
-        (Topic::Check, Operands::None, None, None, false, false) => Some(Command::Check),
-        (Topic::Why, Operands::Two(from, to), budget, None, false, false) => {
+        (Topic::Cmp, Operands::Two(left, right), budget, None, None, log, false) => Some(
+            Command::Cmp {
+                left,
+                right,
+                budget,
+                log,
+            },
+        ),
+        (Topic::Check, Operands::None, None, None, None, false, false) => Some(Command::Check),
+        (Topic::Why, Operands::Two(from, to), budget, None, None, false, false) => {
             moved(from, to, budget)
         }
-        (Topic::Same, Operands::One(split), budget, None, false, false) => compared(split, budget),
-        (Topic::Diff, Operands::One(split), budget, limit, false, false) => {
+        (Topic::Same, Operands::One(split), budget, None, None, false, false) => compared(
+            split, budget,
+        ),
+        (Topic::Diff, Operands::One(split), budget, limit, None, false, false) => {
             differing(split, budget, limit)
         }
-        (Topic::Blockers, Operands::None, budget, None, false, false) => {
+        (Topic::Blockers, Operands::None, budget, None, None, false, false) => {
             Some(Command::Blockers { budget })
         }
-        (Topic::Listing, Operands::None, None, None, false, false) => Some(Command::Listing),
-        (Topic::Lint, Operands::None, budget, None, false, false) => {
+        (Topic::Listing, Operands::None, None, None, None, false, false) => Some(Command::Listing),
+        (Topic::Lint, Operands::None, budget, None, None, false, false) => {
             Some(Command::Lint { budget })
         }
-        (Topic::Inspect, Operands::None, None, None, false, false) => Some(Command::Inspect),
-        (Topic::Trial, Operands::One(rules), None, None, false, false) => tried(rules),
+        (Topic::Inspect, Operands::None, None, None, None, false, false) => Some(Command::Inspect),
+        (Topic::Trial, Operands::One(rules), None, None, None, false, false) => tried(rules),
         _ => None,
     }
 }

@@ -35,7 +35,7 @@ use Rattle.cssmin_run.specs.Commands.Diff.{TellsDifferences, same_line}
 use Rattle.cssmin_run.specs.Commands.Inspect.{TellsGroups}
 use Rattle.cssmin_run.specs.Commands.Lint.{TellsFound}
 use Rattle.cssmin_run.specs.Commands.Listing.{ListsItems}
-use Rattle.cssmin_run.specs.Commands.Min.{Merges, MinRefuses}
+use Rattle.cssmin_run.specs.Commands.Min.{MergesBy, MinRefuses}
 use Rattle.cssmin_run.specs.Commands.Same.{ComparesSheets, SameRefuses}
 use Rattle.cssmin_run.specs.Commands.Style.{StyleRefuses, TellsWinners}
 use Rattle.cssmin_run.specs.Commands.Trial.{TrialDoes}
@@ -85,8 +85,9 @@ same_held budget held p q first h second = subst (λ (pairs : PairsParts). AreTr
 unheld : {X : Type 0} (held : Option PairsParts) (pairs : PairsParts) → held ≡ None → held ≡ Some pairs → X
 unheld held pairs none is = absurd (let bad : ⊥ = cc in bad)
 
-of_merges : (budget : Option ℕ) (asked : Bool) (read text report : List ℕ) (held : Option PairsParts) (pairs : PairsParts) → Merges budget asked read text report held → held ≡ Some pairs → AreTrueFor budget pairs
-of_merges budget asked read text report held pairs m is = same_held budget held m.pairs pairs m.held_is (record { same_budget = m.same_budget; all_true = m.all_true }) is
+of_merges : (work budget : Option ℕ) (asked : Bool) (read text report : List ℕ) (held : Option PairsParts) (pairs : PairsParts) → MergesBy work budget asked read text report held → held ≡ Some pairs → AreTrueFor budget pairs
+of_merges None budget asked read text report held pairs m is = same_held budget held m.pairs pairs m.held_is (record { same_budget = m.same_budget; all_true = m.all_true }) is
+of_merges (Some work) budget asked read text report held pairs m is = same_held budget held m.pairs pairs m.held_is (record { same_budget = m.same_budget; all_true = m.all_true }) is
 
 of_compared : (log : Bool) (budget : Option ℕ) (left right : Result SelectorParts ℕ) (pairs : PairsParts) (text : List ℕ) → AsksFor left right (unasked budget) pairs → IsTextOf log left right pairs text → AreTrueFor budget pairs
 of_compared false budget (Ok x) (Ok y) pairs text asked told = record { same_budget = asked.budget; all_true = told.all_true }
@@ -195,8 +196,8 @@ trial_held rules NoMemory output err held pairs does is = unheld held pairs does
 
 held_by : (form : Option Form) (status : Status) (input output err : Change) (held : Option PairsParts) (pairs : PairsParts) → Answers form status input output err held → held ≡ Some pairs → AreTrueFor (named_budget form) pairs
 held_by None status input output err held pairs h is = unheld held pairs h.1 is
-held_by (Some (Min budget asked)) status input output err held pairs h is =
-    let m = made max_bytes nowhere (Merges budget asked) MinRefuses status input output err held pairs h is in of_merges budget asked m.0 m.1 m.2 held pairs m.3 is
+held_by (Some (Min budget work asked)) status input output err held pairs h is =
+    let m = made max_bytes nowhere (MergesBy work budget asked) MinRefuses status input output err held pairs h is in of_merges work budget asked m.0 m.1 m.2 held pairs m.3 is
 held_by (Some (Dead budget)) status input output err held pairs h is =
     let m = made max_bytes nowhere (Silent (TellsLives budget)) MinRefuses status input output err held pairs h is in of_lives budget m.0 m.1 held pairs m.3.0 is
 held_by (Some Style) status input output err held pairs h is = let m = made max_bytes nowhere (Silent TellsWinners) StyleRefuses status input output err held pairs h is in unheld held pairs m.3.0.1 is

@@ -1,12 +1,12 @@
 -- A sheet has one fault at most, and none where it is merged.
-use Rattle.std.proofs.Common.{◌≡◌, ◌<◌, Bool, true, false, cond, List, ℕ, Result, Ok, Err, IsOk, length, nat_lt, refl, sym, ◌∙◌, subst, arith}
+use Rattle.std.proofs.Common.{◌≡◌, ◌<◌, Bool, true, false, cond, List, ℕ, Option, Result, Ok, Err, IsOk, length, nat_lt, refl, sym, ◌∙◌, subst, arith}
 use Rattle.std.proofs.lemmas.Bool.{false≢true}
 use Rattle.css_model.specs.declared.fault.FaultKind.TheVariants.{TooLong}
 use Rattle.css_model.specs.declared.fault.SheetFault.{SheetFault}
 use Rattle.css_model.specs.Sheets.Limits.{max_bytes}
 use Rattle.css_model.specs.declared.sheet.Item.{Item}
 use Rattle.css_model.specs.Sheets.Sheet.{sheet_of}
-use Rattle.opened_merge_laws.specs.Merged.{IsMergedOpened}
+use Rattle.opened_merge_laws.specs.Merged.{IsMergedWithin}
 use Rattle.step_laws.specs.Free.{Answered}
 use Rattle.cssmin_run.specs.SheetFaults.{HasFault, HasNoFault}
 
@@ -35,6 +35,6 @@ pub fault_or_none : (read : List ℕ) (f : SheetFault) → HasFault read f → H
 unfolding HasFault HasNoFault
 fault_or_none read f fault none = absurd (false≢true (subst (λ (r : Result (List Item) SheetFault). IsOk r) fault none))
 
-pub merged_no_fault : (answers : List Answered) (read text : List ℕ) (f : SheetFault) → IsMergedOpened answers read text → HasFault read f → ⊥
+pub merged_no_fault : (spent : Option ℕ) (answers : List Answered) (read text : List ℕ) (f : SheetFault) → IsMergedWithin spent answers read text → HasFault read f → ⊥
 unfolding HasFault
-merged_no_fault answers read text f is fault = let same : ◌≡◌ {A = Result (List Item) SheetFault} (Ok is.old) (Err f) = sym is.old_read ∙ fault in cc
+merged_no_fault spent answers read text f is fault = let same : ◌≡◌ {A = Result (List Item) SheetFault} (Ok is.old) (Err f) = sym is.old_read ∙ fault in cc

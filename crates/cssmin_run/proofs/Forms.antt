@@ -18,7 +18,7 @@ use Rattle.cssmin_run.specs.Commands.Diff.{DiffDoes, TellsDifferences, same_line
 use Rattle.cssmin_run.specs.Commands.Inspect.{InspectDoes, TellsGroups}
 use Rattle.cssmin_run.specs.Commands.Lint.{LintDoes, TellsFound}
 use Rattle.cssmin_run.specs.Commands.Listing.{ListDoes, ListsItems}
-use Rattle.cssmin_run.specs.Commands.Min.{Merges, MinDoes, MinRefuses}
+use Rattle.cssmin_run.specs.Commands.Min.{IsToldWithin, MergesBy, MinDoesBy, MinRefuses}
 use Rattle.cssmin_run.specs.Commands.Same.{ComparesSheets, SameDoes, SameRefuses}
 use Rattle.cssmin_run.specs.Commands.Style.{StyleDoes, StyleRefuses, TellsWinners}
 use Rattle.cssmin_run.specs.Commands.Trial.{TrialDoes}
@@ -32,6 +32,7 @@ use Rattle.cssmin_run.specs.Telling.{Tells}
 use Rattle.cssmin_run.specs.Writing.{Stops, WritesSome}
 use Rattle.cssmin_run.specs.declared.status.Status.{Status}
 use Rattle.cssmin_run.specs.declared.status.Status.TheVariants.{Done, Found, Usage, SheetRefused, NoItem, DocRefused, LogRefused, NoSplit, SecondRefused, ReadFault, WriteFault, NoMemory}
+use Rattle.planner.specs.Working.{spent_of}
 use Rattle.cssmin_run.proofs.Faults.{one_fault, fault_or_none, merged_no_fault}
 use Rattle.cssmin_run.proofs.Findings.{finds_silent}
 use Rattle.cssmin_run.proofs.Outcomes.{completes, completes_silent, refuses, stops_failed, stops_out, told_of_does}
@@ -42,8 +43,8 @@ use Rattle.cssmin_run.proofs.Outcomes.{completes, completes_silent, refuses, sto
 did : (words : List (List ℕ)) (form : Option Form) (status : Status) (input output err : Change) (held : Option PairsParts) → Ran words status input output err held → form_of words ≡ form → Answers form status input output err held
 did words form status input output err held ran is = subst (λ (f : Option Form). Answers f status input output err held) is ran.answers
 
-pub min_did : (words : List (List ℕ)) (budget : Option ℕ) (asked : Bool) (status : Status) (input output err : Change) (held : Option PairsParts) → Ran words status input output err held → form_of words ≡ Some (Min budget asked) → MinDoes budget asked status input output err held
-min_did words budget asked status input output err held ran is = did words (Some (Min budget asked)) status input output err held ran is
+pub min_did : (words : List (List ℕ)) (budget work : Option ℕ) (asked : Bool) (status : Status) (input output err : Change) (held : Option PairsParts) → Ran words status input output err held → form_of words ≡ Some (Min budget work asked) → MinDoesBy work budget asked status input output err held
+min_did words budget work asked status input output err held ran is = did words (Some (Min budget work asked)) status input output err held ran is
 
 pub cmp_did : (words : List (List ℕ)) (left right : List ℕ) (budget : Option ℕ) (log : Bool) (status : Status) (input output err : Change) (held : Option PairsParts) → Ran words status input output err held
     → form_of words ≡ Some (Cmp left right budget log) → CmpDoes left right budget log status output err held
@@ -85,7 +86,7 @@ trial_did words rules status input output err held ran is = did words (Some (Tri
 -- ---- Usage
 
 no_usage : (form : Form) (input output err : Change) (held : Option PairsParts) → Outcome form Usage input output err held → ⊥
-no_usage (Min budget asked) input output err held h = h.0
+no_usage (Min budget work asked) input output err held h = h.0
 no_usage (Cmp left right budget log) input output err held h = h
 no_usage Check input output err held h = h.0
 no_usage (Dead budget) input output err held h = h.0
@@ -113,7 +114,7 @@ usage_is words status input output err held ran = usage_of (form_of words) statu
 
 read_fault_of : (form : Option Form) (input output err : Change) (held : Option PairsParts) → Answers form ReadFault input output err held → HasFailed input
 read_fault_of None input output err held h = absurd (let bad : ⊥ = let same : ReadFault ≡ Usage = h.0 in cc in bad)
-read_fault_of (Some (Min budget asked)) input output err held h = h.0
+read_fault_of (Some (Min budget work asked)) input output err held h = h.0
 read_fault_of (Some (Cmp left right budget log)) input output err held h = absurd h
 read_fault_of (Some Check) input output err held h = h.0
 read_fault_of (Some (Dead budget)) input output err held h = h.0
@@ -134,7 +135,7 @@ read_fault_is words status input output err held ran is = read_fault_of (form_of
 
 write_fault_of : (form : Option Form) (input output err : Change) (held : Option PairsParts) → Answers form WriteFault input output err held → HasFailed output ⊎ HasFailed err
 write_fault_of None input output err held h = absurd (let bad : ⊥ = let same : WriteFault ≡ Usage = h.0 in cc in bad)
-write_fault_of (Some (Min budget asked)) input output err held h = stops_failed h.text h.report output err h.stopped
+write_fault_of (Some (Min budget work asked)) input output err held h = stops_failed h.text h.report output err h.stopped
 write_fault_of (Some (Cmp left right budget log)) input output err held h = stops_failed h.0 [] output err h.2
 write_fault_of (Some Check) input output err held h = stops_failed h.text h.report output err h.stopped
 write_fault_of (Some (Dead budget)) input output err held h = stops_failed h.text h.report output err h.stopped
@@ -154,17 +155,17 @@ pub write_fault_is : (words : List (List ℕ)) (status : Status) (input output e
 write_fault_is words status input output err held ran is = write_fault_of (form_of words) input output err held (subst (λ (s : Status). Answers (form_of words) s input output err held) is ran.answers)
 
 -- `min` by its status
-by_status : (words : List (List ℕ)) (budget : Option ℕ) (asked : Bool) (wanted status : Status) (input output err : Change) (held : Option PairsParts) → Ran words status input output err held → form_of words ≡ Some (Min budget asked) → status ≡ wanted → MinDoes budget asked wanted input output err held
-by_status words budget asked wanted status input output err held ran min is = subst (λ (s : Status). MinDoes budget asked s input output err held) is (min_did words budget asked status input output err held ran min)
+by_status : (words : List (List ℕ)) (budget work : Option ℕ) (asked : Bool) (wanted status : Status) (input output err : Change) (held : Option PairsParts) → Ran words status input output err held → form_of words ≡ Some (Min budget work asked) → status ≡ wanted → MinDoesBy work budget asked wanted input output err held
+by_status words budget work asked wanted status input output err held ran min is = subst (λ (s : Status). MinDoesBy work budget asked s input output err held) is (min_did words budget work asked status input output err held ran min)
 
-pub done_is : (words : List (List ℕ)) (budget : Option ℕ) (asked : Bool) (status : Status) (input output err : Change) (held : Option PairsParts) → Ran words status input output err held → form_of words ≡ Some (Min budget asked) → status ≡ Done → Did (Merges budget asked) input output err held
-done_is words budget asked status input output err held ran min is = by_status words budget asked Done status input output err held ran min is
+pub done_is : (words : List (List ℕ)) (budget work : Option ℕ) (asked : Bool) (status : Status) (input output err : Change) (held : Option PairsParts) → Ran words status input output err held → form_of words ≡ Some (Min budget work asked) → status ≡ Done → Did (MergesBy work budget asked) input output err held
+done_is words budget work asked status input output err held ran min is = by_status words budget work asked Done status input output err held ran min is
 
-pub refused_is : (words : List (List ℕ)) (budget : Option ℕ) (asked : Bool) (status : Status) (input output err : Change) (held : Option PairsParts) (fault : SheetFault) → Ran words status input output err held → form_of words ≡ Some (Min budget asked) → status ≡ SheetRefused fault → IsRefused max_bytes (λ read. HasFault read fault) input
-refused_is words budget asked status input output err held fault ran min is = (by_status words budget asked (SheetRefused fault) status input output err held ran min is).1
+pub refused_is : (words : List (List ℕ)) (budget work : Option ℕ) (asked : Bool) (status : Status) (input output err : Change) (held : Option PairsParts) (fault : SheetFault) → Ran words status input output err held → form_of words ≡ Some (Min budget work asked) → status ≡ SheetRefused fault → IsRefused max_bytes (λ read. HasFault read fault) input
+refused_is words budget work asked status input output err held fault ran min is = (by_status words budget work asked (SheetRefused fault) status input output err held ran min is).1
 
-pub front_is : (words : List (List ℕ)) (budget : Option ℕ) (asked : Bool) (status : Status) (input output err : Change) (held : Option PairsParts) → Ran words status input output err held → form_of words ≡ Some (Min budget asked) → status ≡ WriteFault → Began (Merges budget asked) input output err held
-front_is words budget asked status input output err held ran min is = by_status words budget asked WriteFault status input output err held ran min is
+pub front_is : (words : List (List ℕ)) (budget work : Option ℕ) (asked : Bool) (status : Status) (input output err : Change) (held : Option PairsParts) → Ran words status input output err held → form_of words ≡ Some (Min budget work asked) → status ≡ WriteFault → Began (MergesBy work budget asked) input output err held
+front_is words budget work asked status input output err held ran min is = by_status words budget work asked WriteFault status input output err held ran min is
 
 -- ---- Which status comes
 
@@ -202,25 +203,40 @@ unrefused : (left : Option (List ℕ)) → IsSomeAnd left HasNoFault → IsSomeA
 unrefused None has = absurd has
 unrefused (Some read) has = λ other cause. no_refusal read other has cause
 
-pub refused_for : (words : List (List ℕ)) (budget : Option ℕ) (asked : Bool) (status : Status) (input output err : Change) (held : Option PairsParts) (fault : SheetFault) → Ran words status input output err held
-    → form_of words ≡ Some (Min budget asked) → IsSomeAnd input.old (λ bytes. HasFault bytes fault) → (HasFailed input → ⊥) → (status ≡ SheetRefused fault) ⊎ (status ≡ NoMemory)
-refused_for words budget asked status input output err held fault ran min has sure =
-    refuses max_bytes nowhere (Merges budget asked) MinRefuses (SheetRefused fault) status input output err held (min_did words budget asked status input output err held ran min)
-    (λ read text report held made has. merged_no_fault _ read text fault made.merged has) (λ read other cause has. one_refusal read other fault cause has) has sure
+-- what is merged has no fault
+made_no_fault : (work budget : Option ℕ) (asked : Bool) (read text report : List ℕ) (held : Option PairsParts) (fault : SheetFault) → MergesBy work budget asked read text report held → HasFault read fault → ⊥
+made_no_fault None budget asked read text report held fault made has = merged_no_fault None _ read text fault made.merged has
+made_no_fault (Some work) budget asked read text report held fault made has = merged_no_fault (spent_of (Some work) made.spent) _ read text fault made.merged has
+
+pub refused_for : (words : List (List ℕ)) (budget work : Option ℕ) (asked : Bool) (status : Status) (input output err : Change) (held : Option PairsParts) (fault : SheetFault) → Ran words status input output err held
+    → form_of words ≡ Some (Min budget work asked) → IsSomeAnd input.old (λ bytes. HasFault bytes fault) → (HasFailed input → ⊥) → (status ≡ SheetRefused fault) ⊎ (status ≡ NoMemory)
+refused_for words budget work asked status input output err held fault ran min has sure =
+    refuses max_bytes nowhere (MergesBy work budget asked) MinRefuses (SheetRefused fault) status input output err held (min_did words budget work asked status input output err held ran min)
+    (λ read text report held made has. made_no_fault work budget asked read text report held fault made has) (λ read other cause has. one_refusal read other fault cause has) has sure
+
+-- no report is told where none is asked for
+made_no_report : (work budget : Option ℕ) (read text report : List ℕ) (held : Option PairsParts) → MergesBy work budget false read text report held → report ≡ []
+made_no_report None budget read text report held made = made.told
+made_no_report (Some work) budget read text report held made = by made.spent made.told
+  where
+    by : (spent : Bool) → IsToldWithin work spent false made.pairs.answers read text report → report ≡ []
+    by true told = told
+    by false told = told
 
 -- no write of `min` failed, where its report did not fail if one is asked for
-unfailed : (budget : Option ℕ) (asked : Bool) (input output err : Change) (held : Option PairsParts) → (HasFailed output → ⊥) → (asked ≡ true → HasFailed err → ⊥) → Began (Merges budget asked) input output err held → ⊥
-unfailed budget true input output err held safe told began = which (stops_failed began.text began.report output err began.stopped)
+unfailed : (work budget : Option ℕ) (asked : Bool) (input output err : Change) (held : Option PairsParts) → (HasFailed output → ⊥) → (asked ≡ true → HasFailed err → ⊥) → Began (MergesBy work budget asked) input output err held → ⊥
+unfailed work budget true input output err held safe told began = which (stops_failed began.text began.report output err began.stopped)
   where
     which : HasFailed output ⊎ HasFailed err → ⊥
     which (inl h) = safe h
     which (inr h) = told refl h
-unfailed budget false input output err held safe told began = safe (stops_out began.text output err (subst (λ (report : List ℕ). Stops began.text report output err) began.made.told began.stopped))
+unfailed work budget false input output err held safe told began =
+    safe (stops_out began.text output err (subst (λ (report : List ℕ). Stops began.text report output err) (made_no_report work budget began.read began.text began.report held began.made) began.stopped))
 
-pub completed : (words : List (List ℕ)) (budget : Option ℕ) (asked : Bool) (status : Status) (input output err : Change) (held : Option PairsParts) → Ran words status input output err held
-    → form_of words ≡ Some (Min budget asked) → IsSomeAnd input.old HasNoFault → (HasFailed input → ⊥) → (HasFailed output → ⊥) → (asked ≡ true → HasFailed err → ⊥) → (status ≡ Done) ⊎ (status ≡ NoMemory)
-completed words budget asked status input output err held ran min has sure safe told =
-    completes max_bytes nowhere (Merges budget asked) MinRefuses status input output err held (min_did words budget asked status input output err held ran min) (unrefused input.old has) sure (unfailed budget asked input output err held safe told)
+pub completed : (words : List (List ℕ)) (budget work : Option ℕ) (asked : Bool) (status : Status) (input output err : Change) (held : Option PairsParts) → Ran words status input output err held
+    → form_of words ≡ Some (Min budget work asked) → IsSomeAnd input.old HasNoFault → (HasFailed input → ⊥) → (HasFailed output → ⊥) → (asked ≡ true → HasFailed err → ⊥) → (status ≡ Done) ⊎ (status ≡ NoMemory)
+completed words budget work asked status input output err held ran min has sure safe told =
+    completes max_bytes nowhere (MergesBy work budget asked) MinRefuses status input output err held (min_did words budget work asked status input output err held ran min) (unrefused input.old has) sure (unfailed work budget asked input output err held safe told)
 
 pub checked : (words : List (List ℕ)) (status : Status) (input output err : Change) (held : Option PairsParts) → Ran words status input output err held
     → form_of words ≡ Some Check → IsSomeAnd input.old (λ read. (other : Status) → CheckRefuses other read → ⊥) → (HasFailed input → ⊥) → (HasFailed output → ⊥) → (status ≡ Done) ⊎ (status ≡ NoMemory)
@@ -309,7 +325,7 @@ trial_done rules WriteFault output err held h safe = absurd (safe (stops_out h.0
 trial_done rules NoMemory output err held h safe = inr refl
 
 other_done : (form : Form) (status : Status) (input output err : Change) (held : Option PairsParts) → Outcome form status input output err held → needs_input (Some form) ≡ false → (HasFailed output → ⊥) → (status ≡ Done) ⊎ (status ≡ NoMemory)
-other_done (Min budget asked) status input output err held h unneeded safe = absurd (false≢true (sym unneeded))
+other_done (Min budget work asked) status input output err held h unneeded safe = absurd (false≢true (sym unneeded))
 other_done (Cmp left right budget log) status input output err held h unneeded safe = cmp_done left right budget log status output err held h safe
 other_done Check status input output err held h unneeded safe = absurd (false≢true (sym unneeded))
 other_done (Dead budget) status input output err held h unneeded safe = absurd (false≢true (sym unneeded))
@@ -375,7 +391,7 @@ trial_told rules NoMemory output err held h undone unfailed = h.1
 
 told_of : (form : Option Form) (status : Status) (input output err : Change) (held : Option PairsParts) → Answers form status input output err held → tells_places form ≡ false → (status ≡ Done → ⊥) → (status ≡ WriteFault → ⊥) → Tells status err
 told_of None status input output err held h silent undone unfailed = subst (λ (s : Status). Tells s err) (sym h.0) h.2
-told_of (Some (Min budget asked)) status input output err held h silent undone unfailed = told_of_does max_bytes (Merges budget asked) MinRefuses status input output err held h undone unfailed
+told_of (Some (Min budget work asked)) status input output err held h silent undone unfailed = told_of_does max_bytes (MergesBy work budget asked) MinRefuses status input output err held h undone unfailed
 told_of (Some (Cmp left right budget log)) status input output err held h silent undone unfailed = cmp_told left right budget log status output err held h undone unfailed
 told_of (Some Check) status input output err held h silent undone unfailed = told_of_does max_log_bytes (Silent Checks) CheckRefuses status input output err held h undone unfailed
 told_of (Some (Dead budget)) status input output err held h silent undone unfailed = told_of_does max_bytes (Silent (TellsLives budget)) MinRefuses status input output err held h undone unfailed
@@ -439,7 +455,7 @@ inspect_placed words status input output err held fault ran inspect is =
 -- only `lint` and `diff` find something
 finds_of : (form : Option Form) (input output err : Change) (held : Option PairsParts) → Answers form Found input output err held → MayFind form
 finds_of None input output err held h = absurd (let bad : ⊥ = let same : Found ≡ Usage = h.0 in cc in bad)
-finds_of (Some (Min budget asked)) input output err held h = absurd h.0
+finds_of (Some (Min budget work asked)) input output err held h = absurd h.0
 finds_of (Some (Cmp left right budget log)) input output err held h = absurd h
 finds_of (Some Check) input output err held h = absurd h.0
 finds_of (Some (Dead budget)) input output err held h = absurd h.0

@@ -8,3 +8,4 @@ mod Remaining
 mod Staying
 mod Told
 mod Wrote
+mod Working

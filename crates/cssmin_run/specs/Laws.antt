@@ -19,13 +19,13 @@ use Rattle.cssmin_run.specs.Commands.Diff.{DiffDoes}
 use Rattle.cssmin_run.specs.Commands.Inspect.{InspectDoes}
 use Rattle.cssmin_run.specs.Commands.Lint.{LintDoes}
 use Rattle.cssmin_run.specs.Commands.Listing.{ListDoes}
-use Rattle.cssmin_run.specs.Commands.Min.{Merges, MinDoes, MinRefuses}
+use Rattle.cssmin_run.specs.Commands.Min.{MergesBy, MinDoesBy, MinRefuses}
 use Rattle.cssmin_run.specs.Commands.Same.{SameDoes, SameRefuses}
 use Rattle.cssmin_run.specs.Commands.Style.{StyleDoes, StyleRefuses}
 use Rattle.cssmin_run.specs.Commands.Trial.{TrialDoes}
 use Rattle.cssmin_run.specs.Commands.Why.{WhyDoes, WhyRefuses}
 use Rattle.cssmin_run.specs.Placed.{fault_place, TellsAt}
-use Rattle.cssmin_run.specs.Remaining.{LeavesOnlyBlocked}
+use Rattle.cssmin_run.specs.Remaining.{LeavesOnlyBlockedBy}
 use Rattle.cssmin_run.specs.Run.{Ran, named_budget, needs_input, tells_places}
 use Rattle.cssmin_run.specs.SheetFaults.{HasFault, HasNoFault}
 use Rattle.cssmin_run.specs.Tasks.{Began, Did, IsRefused}
@@ -41,7 +41,7 @@ OtherWordsAreUsage = (words : List (List ℕ)) (status : Status) (input output e
 
 -- words that minify do what `min` says
 abbrev pub MinDoesItsWord : Type 0
-MinDoesItsWord = (words : List (List ℕ)) (budget : Option ℕ) (asked : Bool) (status : Status) (input output err : Change) (held : Option PairsParts) → Ran words status input output err held → form_of words ≡ Some (Min budget asked) → MinDoes budget asked status input output err held
+MinDoesItsWord = (words : List (List ℕ)) (budget work : Option ℕ) (asked : Bool) (status : Status) (input output err : Change) (held : Option PairsParts) → Ran words status input output err held → form_of words ≡ Some (Min budget work asked) → MinDoesBy work budget asked status input output err held
 
 -- words that compare do what `cmp` says
 abbrev pub CmpDoesItsWord : Type 0
@@ -163,22 +163,23 @@ NoBudgetIsSpent =
 
 -- ---- `min`, by its status
 
--- the text that was written is that of the sheet that was read, all that was left, merged by the answers that are held
+-- the text that was written is that of the sheet that was read, all that was left, merged by the answers that are held; nothing is left
+-- to do then, or, if the words bound the work, it was spent
 abbrev pub DoneIsMerged : Type 0
-DoneIsMerged = (words : List (List ℕ)) (budget : Option ℕ) (asked : Bool) (status : Status) (input output err : Change) (held : Option PairsParts) → Ran words status input output err held → form_of words ≡ Some (Min budget asked) → status ≡ Done → Did (Merges budget asked) input output err held
+DoneIsMerged = (words : List (List ℕ)) (budget work : Option ℕ) (asked : Bool) (status : Status) (input output err : Change) (held : Option PairsParts) → Ran words status input output err held → form_of words ≡ Some (Min budget work asked) → status ≡ Done → Did (MergesBy work budget asked) input output err held
 
 -- After `Done`, each step that would still save bytes in the text that was written is blocked (own). It reverses a pair and a kept
 -- item, or two pairs: a legal document shows an element that the selectors of both match, or they are outside of what is decided, or
--- the budget was spent on them.
+-- the budget was spent on them. Or, if the words bound the work, it was spent.
 abbrev pub RemainingIsBlocked : Type 0
 RemainingIsBlocked =
-    (words : List (List ℕ)) (budget : Option ℕ) (asked : Bool) (status : Status) (input output err : Change) (held : Option PairsParts) → Ran words status input output err held
-    → form_of words ≡ Some (Min budget asked) → status ≡ Done → Did (λ read text report held. LeavesOnlyBlocked budget text held) input output err held
+    (words : List (List ℕ)) (budget work : Option ℕ) (asked : Bool) (status : Status) (input output err : Change) (held : Option PairsParts) → Ran words status input output err held
+    → form_of words ≡ Some (Min budget work asked) → status ≡ Done → Did (λ read text report held. LeavesOnlyBlockedBy work budget read text held) input output err held
 
 -- a sheet is refused only for a fault that it has
 abbrev pub RefusedHasTheFault : Type 0
 RefusedHasTheFault =
-    (words : List (List ℕ)) (budget : Option ℕ) (asked : Bool) (status : Status) (input output err : Change) (held : Option PairsParts) (fault : SheetFault) → Ran words status input output err held → form_of words ≡ Some (Min budget asked) → status ≡ SheetRefused fault → IsRefused max_bytes (λ read. HasFault read fault) input
+    (words : List (List ℕ)) (budget work : Option ℕ) (asked : Bool) (status : Status) (input output err : Change) (held : Option PairsParts) (fault : SheetFault) → Ran words status input output err held → form_of words ≡ Some (Min budget work asked) → status ≡ SheetRefused fault → IsRefused max_bytes (λ read. HasFault read fault) input
 
 -- a read fault comes only where the count of faults of the input rose, or has its last value
 abbrev pub ReadFaultHasFailed : Type 0
@@ -191,21 +192,21 @@ WriteFaultHasFailed = (words : List (List ℕ)) (status : Status) (input output 
 -- after a write fault of `min` a front of the text stands there, or all of it and a front of the report
 abbrev pub WriteFaultLeavesAFront : Type 0
 WriteFaultLeavesAFront =
-    (words : List (List ℕ)) (budget : Option ℕ) (asked : Bool) (status : Status) (input output err : Change) (held : Option PairsParts) → Ran words status input output err held → form_of words ≡ Some (Min budget asked) → status ≡ WriteFault → Began (Merges budget asked) input output err held
+    (words : List (List ℕ)) (budget work : Option ℕ) (asked : Bool) (status : Status) (input output err : Change) (held : Option PairsParts) → Ran words status input output err held → form_of words ≡ Some (Min budget work asked) → status ≡ WriteFault → Began (MergesBy work budget asked) input output err held
 
 -- ---- Which status comes
 
 -- a sheet with a fault is refused for it, where no read failed and the memory sufficed
 abbrev pub FaultIsRefused : Type 0
 FaultIsRefused =
-    (words : List (List ℕ)) (budget : Option ℕ) (asked : Bool) (status : Status) (input output err : Change) (held : Option PairsParts) (fault : SheetFault) → Ran words status input output err held
-    → form_of words ≡ Some (Min budget asked) → IsSomeAnd input.old (λ bytes. HasFault bytes fault) → (HasFailed input → ⊥) → (status ≡ SheetRefused fault) ⊎ (status ≡ NoMemory)
+    (words : List (List ℕ)) (budget work : Option ℕ) (asked : Bool) (status : Status) (input output err : Change) (held : Option PairsParts) (fault : SheetFault) → Ran words status input output err held
+    → form_of words ≡ Some (Min budget work asked) → IsSomeAnd input.old (λ bytes. HasFault bytes fault) → (HasFailed input → ⊥) → (status ≡ SheetRefused fault) ⊎ (status ≡ NoMemory)
 
 -- a sheet without a fault is merged, where no read or write failed and the memory sufficed
 abbrev pub FaultlessIsDone : Type 0
 FaultlessIsDone =
-    (words : List (List ℕ)) (budget : Option ℕ) (asked : Bool) (status : Status) (input output err : Change) (held : Option PairsParts) → Ran words status input output err held
-    → form_of words ≡ Some (Min budget asked) → IsSomeAnd input.old HasNoFault → (HasFailed input → ⊥) → (HasFailed output → ⊥) → (asked ≡ true → HasFailed err → ⊥) → (status ≡ Done) ⊎ (status ≡ NoMemory)
+    (words : List (List ℕ)) (budget work : Option ℕ) (asked : Bool) (status : Status) (input output err : Change) (held : Option PairsParts) → Ran words status input output err held
+    → form_of words ≡ Some (Min budget work asked) → IsSomeAnd input.old HasNoFault → (HasFailed input → ⊥) → (HasFailed output → ⊥) → (asked ≡ true → HasFailed err → ⊥) → (status ≡ Done) ⊎ (status ≡ NoMemory)
 
 -- a log that is not refused is checked, where no read or write failed and the memory sufficed
 abbrev pub LogIsChecked : Type 0

@@ -15,7 +15,7 @@ use Rattle.cssmin_run.specs.Commands.Diff.{DiffDoes}
 use Rattle.cssmin_run.specs.Commands.Inspect.{InspectDoes}
 use Rattle.cssmin_run.specs.Commands.Lint.{LintDoes}
 use Rattle.cssmin_run.specs.Commands.Listing.{ListDoes}
-use Rattle.cssmin_run.specs.Commands.Min.{MinDoes}
+use Rattle.cssmin_run.specs.Commands.Min.{MinDoesBy}
 use Rattle.cssmin_run.specs.Commands.Same.{SameDoes}
 use Rattle.cssmin_run.specs.Commands.Style.{StyleDoes}
 use Rattle.cssmin_run.specs.Commands.Trial.{TrialDoes}
@@ -28,7 +28,7 @@ use Rattle.cssmin_run.specs.declared.status.Status.TheVariants.{Usage}
 -- What a run that ended with this status did to the input, the output and standard error, and which answers it holds,
 -- by what its words ask for. Each case says that the status is not `Usage`.
 abbrev pub Outcome : Form → Status → (input output err : Change) → (held : Option PairsParts) → Type 0
-Outcome (Min budget report) status input output err held = MinDoes budget report status input output err held
+Outcome (Min budget work report) status input output err held = MinDoesBy work budget report status input output err held
 Outcome (Dead budget) status input output err held = DeadDoes budget status input output err held
 Outcome Style status input output err held = StyleDoes status input output err held
 Outcome (Cmp left right budget log) status input output err held = CmpDoes left right budget log status output err held
@@ -52,7 +52,7 @@ Answers (Some form) status input output err held = Outcome form status input out
 -- the budget that the words name, if they name one (own)
 abbrev pub named_budget : Option Form → Option ℕ
 named_budget None = None
-named_budget (Some (Min budget report)) = budget
+named_budget (Some (Min budget work report)) = budget
 named_budget (Some (Dead budget)) = budget
 named_budget (Some Style) = None
 named_budget (Some (Cmp left right budget log)) = budget
@@ -71,7 +71,7 @@ named_budget (Some Version) = None
 -- whether the input is needed
 abbrev pub needs_input : Option Form → Bool
 needs_input None = false
-needs_input (Some (Min budget report)) = true
+needs_input (Some (Min budget work report)) = true
 needs_input (Some (Dead budget)) = true
 needs_input (Some Style) = true
 needs_input (Some (Cmp left right budget log)) = false

@@ -55,9 +55,19 @@ fn obey<S: Source, O: Sink, E: Sink>(
     ensures err_later { E.faults err.old ≤ E.faults err.new }
 {
     match command {
-        Some(Command::Min { budget, report }) => {
-            let asked = report;
-            perform(alloc, words, &Min { budget, asked }, input, out, err, held)
+        Some(
+            Command::Min {
+                budget,
+                work,
+                report,
+            },
+        ) => {
+            let task = Min {
+                work,
+                budget,
+                asked: report,
+            };
+            perform(alloc, words, &task, input, out, err, held)
         }
         Some(Command::Dead { budget }) => {
             perform(alloc, words, &Dead { budget }, input, out, err, held)
@@ -118,8 +128,8 @@ fn obey<S: Source, O: Sink, E: Sink>(
 /// Runs the program on the words after its name, and answers its status.
 ///
 /// - `min` reads a style sheet from `input` to its end, and writes it to `out`, in no more bytes and with the same
-///   winners of the cascade in every legal document. Its report is written to `err`, where it is asked for, after the
-///   text.
+///   winners of the cascade in every legal document. If the words bound the work, it may stop while something is left to
+///   do. Its report is written to `err`, where it is asked for, after the text.
 /// - `cmp LEFT RIGHT` compares two selectors, and writes to `out` whether one element of a legal document can match
 ///   both.
 /// - `dead` reads a sheet, and writes to `out` which of its selectors match nothing in any legal document.

@@ -5,4 +5,4 @@
 mod remaining;
 mod reporting;
 
-pub use reporting::{merge_report, merge_summary};
+pub use reporting::{merge_report, merge_summary, spent_report};

@@ -1,10 +1,10 @@
 //! The report of a merged text.
 
-ghost use Rattle.std.specs.Prelude.{◌≡◌, List, IfOk, Ok, map};
+ghost use Rattle.std.specs.Prelude.{◌≡◌, ℕ, List, IfOk, Ok, Some, map, true};
 ghost use Rattle.css_model.specs.declared.sheet.Item as declared;
 ghost use Rattle.css_model.specs.Sheets.Sheet.{sheet_of};
-ghost use Rattle.merge_report.specs.Reports.{IsReport, IsSummary};
-ghost use Rattle.merge_text.specs.MergedTexts.{IsTold};
+ghost use Rattle.merge_report.specs.Reports.{IsReport, IsSpentReport, IsSummary};
+ghost use Rattle.merge_text.specs.MergedTexts.{IsTold, IsToldBy};
 ghost use Rattle.opened_merge_laws.specs.Merged.{IsMergedOpened};
 ghost use Rattle.sheet_order.specs.Allowing.{Stays};
 ghost use Rattle.sheet_order.specs.Laws.{answer_seen};
@@ -67,4 +67,23 @@ pub fn merge_summary(
     let items = (merged.read_items, merged.written_items);
     let bytes = (source.len() as u64, merged.text.len() as u64);
     report(alloc, items, bytes, merged.taken, &[])
+}
+
+/// The report of a merged text whose work was spent, as bytes: its numbers, and the line `work spent`. It lists no steps:
+/// what blocks those that are left was not asked. `AllocError` where memory runs out.
+pub fn spent_report(
+    alloc: Global,
+    pairs: &Pairs,
+    source: &[u8],
+    merged: &MergedText,
+) -> Result<Vec<u8>, AllocError>
+    ensures { IfOk result (λ text. (work : ℕ) → merged.now.spent ≡ true → IsToldBy (Some work) (map answer_seen pairs.now.answers) source.now merged.now
+        → IsSpentReport work pairs.now.answers source.now merged.now.text.items text.items) }
+{
+    let _pairs = pairs;
+    let items = (merged.read_items, merged.written_items);
+    let bytes = (source.len() as u64, merged.text.len() as u64);
+    let mut text = report(alloc, items, bytes, merged.taken, &[])?;
+    text.extend_from_slice(b"work spent\n")?;
+    Ok(text)
 }

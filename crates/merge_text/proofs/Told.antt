@@ -17,10 +17,11 @@ use Rattle.merge_laws.specs.Merged.{LeadingMakesOf}
 use Rattle.merge_laws.specs.Reading.{ReadKeepsTheLimits}
 use Rattle.merge_text.specs.Counts.{is_block, most_items}
 use Rattle.merge_text.specs.declared.planned.Planned.{Planned}
+use Rattle.planner.specs.Working.{spent_of}
 use Rattle.merge_text.specs.MergedTexts.{IsPlannedFrom}
-use Rattle.opened_merge_laws.specs.Merged.{IsMergedOpened, PlannedIsMergedOpened}
-use Rattle.opened_merge_laws.specs.Plans.{AreBodyPlans}
-use Rattle.opened_merge_laws.specs.Told.{IsToldOpened, PlannedIsToldOpened, items_in, items_opened}
+use Rattle.opened_merge_laws.specs.Merged.{IsMergedWithin, PlannedIsMergedOpened}
+use Rattle.opened_merge_laws.specs.Plans.{AreBodyPlansWithin}
+use Rattle.opened_merge_laws.specs.Told.{IsToldWithin, PlannedIsToldOpened, items_in, items_opened}
 use Rattle.sheet_laws.specs.Reading.{ReadIsSound}
 use Rattle.step_laws.specs.Free.{Answered, AreTrue}
 
@@ -49,19 +50,19 @@ texts_without : (source : List ℕ) (items : List Item) → texts_with source []
 texts_without source [] = refl
 texts_without source (item ∷ items) = ap (λ (text : List ℕ). printed_item source item ++ text) (texts_without source items)
 
-no_bodies : (answers : List Answered) (source : List ℕ) (steps : ℕ) (bodies : List SheetParts) → AreBodyPlans answers source [] steps bodies → bodies ≡ []
-no_bodies answers source steps [] plans = refl
-no_bodies answers source steps (body ∷ bodies) plans = absurd plans
+no_bodies : (spent : Option ℕ) (answers : List Answered) (source : List ℕ) (steps : ℕ) (bodies : List SheetParts) → AreBodyPlansWithin spent answers source [] steps bodies → bodies ≡ []
+no_bodies spent answers source steps [] plans = refl
+no_bodies spent answers source steps (body ∷ bodies) plans = absurd plans
 
 pub media_none : (items media : List Media) → media ≡ items → (b : Bool) → b ≡ (length media == 0) → b ≡ true → items ≡ []
 media_none items [] same b test is = sym same
 media_none items (m ∷ media) same b test is = (let e : (length (m ∷ media) == 0) ≡ true = sym test ∙ is in grind (arith, e))
 
-pub printed_plain : (answers : List Answered) (source : List ℕ) (p : Planned) → IsPlannedFrom answers source p → p.media.items ≡ [] →
+pub printed_plain : (work : Option ℕ) (answers : List Answered) (source : List ℕ) (p : Planned) → IsPlannedFrom work answers source p → p.media.items ≡ [] →
     printed source p.sheet.items ≡ printed_with source p.media.items p.bodies.items p.sheet.items
-printed_plain answers source p from none =
-    let plans = subst (λ (media : List Media). AreBodyPlans answers source media from.body_steps p.bodies.items) (sym from.opened ∙ none) from.body_plans in
-    let empty : p.bodies.items ≡ [] = no_bodies answers source from.body_steps p.bodies.items plans in
+printed_plain work answers source p from none =
+    let plans = subst (λ (media : List Media). AreBodyPlansWithin (spent_of work p.spent) answers source media from.body_steps p.bodies.items) (sym from.opened ∙ none) from.body_plans in
+    let empty : p.bodies.items ≡ [] = no_bodies (spent_of work p.spent) answers source from.body_steps p.bodies.items plans in
     sym (ap₂ (λ (media : List Media) (bodies : List SheetParts). printed_with source media bodies p.sheet.items) none empty ∙ ap behind_mark (texts_without source p.sheet.items))
 
 pub printed_alike : {X E : Type 0} (result : Result X E) (text_of : X → List ℕ) (source : List ℕ) (items : List Item) (text : List ℕ) → printed source items ≡ text →
@@ -96,50 +97,50 @@ module _ (limits : ReadKeepsTheLimits) where
 
   module _ (make : LeadingMakesOf) (sound : ReadIsSound) where
     -- so does each that was planned
-    planned_few : (answers : List Answered) (source : List ℕ) (media : List Media) (steps : ℕ) (bodies : List SheetParts) → AllByRecursion (IsBlockOf source) media →
-        AreBodyPlans answers source media steps bodies → items_in bodies ≤ length media * max_items
-    planned_few answers source [] steps [] blocks plans = omega arith
-    planned_few answers source [] steps (body ∷ bodies) blocks plans = absurd plans
-    planned_few answers source (m ∷ media) steps [] blocks plans = absurd plans
-    planned_few answers source (m ∷ media) steps (body ∷ bodies) (block, others) (some, left, plan, rest, is) =
+    planned_few : (spent : Option ℕ) (answers : List Answered) (source : List ℕ) (media : List Media) (steps : ℕ) (bodies : List SheetParts) → AllByRecursion (IsBlockOf source) media →
+        AreBodyPlansWithin spent answers source media steps bodies → items_in bodies ≤ length media * max_items
+    planned_few spent answers source [] steps [] blocks plans = omega arith
+    planned_few spent answers source [] steps (body ∷ bodies) blocks plans = absurd plans
+    planned_few spent answers source (m ∷ media) steps [] blocks plans = absurd plans
+    planned_few spent answers source (m ∷ media) steps (body ∷ bodies) (block, others) (some, left, plan, rest, is) =
         let text = text_at source m.body in
         let first : length body.items ≤ max_items =
         (make answers text some m.sheet.items body.items (sound text m.sheet.items block.reads) (limits text m.sheet.items block.reads).1 plan.leads).few_items in
-        let later = planned_few answers source media left bodies others rest in
+        let later = planned_few spent answers source media left bodies others rest in
         omega (arith, first, later)
 
-    pub bodies_few : OpenedBlocksAreSheets → (answers : List Answered) (source : List ℕ) (p : Planned) → IsPlannedFrom answers source p → items_in p.bodies.items ≤ most_items
-    bodies_few sheets answers source p from =
-        let each = planned_few answers source (opened_of from.old source) from.body_steps p.bodies.items (sheets source from.old) from.body_plans in
+    pub bodies_few : OpenedBlocksAreSheets → (work : Option ℕ) (answers : List Answered) (source : List ℕ) (p : Planned) → IsPlannedFrom work answers source p → items_in p.bodies.items ≤ most_items
+    bodies_few sheets work answers source p from =
+        let each = planned_few (spent_of work p.spent) answers source (opened_of from.old source) from.body_steps p.bodies.items (sheets source from.old) from.body_plans in
         let blocks = few_from source 0 from.old in
         let few : length from.old ≤ max_items = (limits source from.old from.old_read).1 in
         omega (arith, few, each, blocks)
 
     -- a planned sheet is sound, and has no more items than one may have
-    pub sheet_sound : (answers : List Answered) (source : List ℕ) (p : Planned) → IsPlannedFrom answers source p → IsSound source p.sheet.items
-    sheet_sound answers source p from =
+    pub sheet_sound : (work : Option ℕ) (answers : List Answered) (source : List ℕ) (p : Planned) → IsPlannedFrom work answers source p → IsSound source p.sheet.items
+    sheet_sound work answers source p from =
         (make answers source from.steps from.old p.sheet.items (sound source from.old from.old_read) (limits source from.old from.old_read).1 from.plan.leads).sound
 
-    pub sheet_few : (answers : List Answered) (source : List ℕ) (p : Planned) → IsPlannedFrom answers source p → length p.sheet.items ≤ max_items
-    sheet_few answers source p from =
+    pub sheet_few : (work : Option ℕ) (answers : List Answered) (source : List ℕ) (p : Planned) → IsPlannedFrom work answers source p → length p.sheet.items ≤ max_items
+    sheet_few work answers source p from =
         (make answers source from.steps from.old p.sheet.items (sound source from.old from.old_read) (limits source from.old from.old_read).1 from.plan.leads).few_items
 
 -- ---- its text
 
-pub text_merged : PlannedIsMergedOpened → (answers : List Answered) (source : List ℕ) (p : Planned) (text : List ℕ) → AreTrue answers → IsPlannedFrom answers source p →
-    text ≡ printed_with source p.media.items p.bodies.items p.sheet.items → IsMergedOpened answers source text
-text_merged law answers source p text are_true from is =
+pub text_merged : PlannedIsMergedOpened → (work : Option ℕ) (answers : List Answered) (source : List ℕ) (p : Planned) (text : List ℕ) → AreTrue answers → IsPlannedFrom work answers source p →
+    text ≡ printed_with source p.media.items p.bodies.items p.sheet.items → IsMergedWithin (spent_of work p.spent) answers source text
+text_merged law work answers source p text are_true from is =
     let printed_is : text ≡ printed_with source (opened_of from.old source) p.bodies.items p.sheet.items = is ∙ ap (λ (media : List Media). printed_with source media p.bodies.items p.sheet.items) from.opened in
-    subst (IsMergedOpened answers source) (sym printed_is) (law answers are_true source from.steps from.body_steps from.old p.sheet.items p.bodies.items from.old_read from.plan from.body_plans)
+    subst (IsMergedWithin (spent_of work p.spent) answers source) (sym printed_is) (law (spent_of work p.spent) answers are_true source from.steps from.body_steps from.old p.sheet.items p.bodies.items from.old_read from.plan from.body_plans from.enough)
 
-pub text_told : PlannedIsToldOpened → (answers : List Answered) (source : List ℕ) (p : Planned) (text : List ℕ) (written : ℕ) → AreTrue answers → IsPlannedFrom answers source p →
-    text ≡ printed_with source p.media.items p.bodies.items p.sheet.items → written ≡ length p.sheet.items + items_in p.bodies.items → IsToldOpened answers source text p.read_items written p.taken
-text_told law answers source p text written are_true from is counted =
+pub text_told : PlannedIsToldOpened → (work : Option ℕ) (answers : List Answered) (source : List ℕ) (p : Planned) (text : List ℕ) (written : ℕ) → AreTrue answers → IsPlannedFrom work answers source p →
+    text ≡ printed_with source p.media.items p.bodies.items p.sheet.items → written ≡ length p.sheet.items + items_in p.bodies.items → IsToldWithin (spent_of work p.spent) answers source text p.read_items written p.taken
+text_told law work answers source p text written are_true from is counted =
     let printed_text = printed_with source (opened_of from.old source) p.bodies.items p.sheet.items in
     let printed_is : text ≡ printed_text = is ∙ ap (λ (media : List Media). printed_with source media p.bodies.items p.sheet.items) from.opened in
-    let told : IsToldOpened answers source printed_text (items_opened from.old source) (length p.sheet.items + items_in p.bodies.items) (from.steps + from.body_steps) =
-    law answers are_true source from.steps from.body_steps from.old p.sheet.items p.bodies.items from.old_read from.plan from.body_plans in
-    subst (λ (bytes : List ℕ). IsToldOpened answers source bytes p.read_items written p.taken) (sym printed_is)
-    (subst (λ (n : ℕ). IsToldOpened answers source printed_text n written p.taken) (sym from.counted)
-    (subst (λ (n : ℕ). IsToldOpened answers source printed_text (items_opened from.old source) n p.taken) (sym counted)
-    (subst (λ (n : ℕ). IsToldOpened answers source printed_text (items_opened from.old source) (length p.sheet.items + items_in p.bodies.items) n) (sym from.taken_is) told)))
+    let told : IsToldWithin (spent_of work p.spent) answers source printed_text (items_opened from.old source) (length p.sheet.items + items_in p.bodies.items) (from.steps + from.body_steps) =
+    law (spent_of work p.spent) answers are_true source from.steps from.body_steps from.old p.sheet.items p.bodies.items from.old_read from.plan from.body_plans from.enough in
+    subst (λ (bytes : List ℕ). IsToldWithin (spent_of work p.spent) answers source bytes p.read_items written p.taken) (sym printed_is)
+    (subst (λ (n : ℕ). IsToldWithin (spent_of work p.spent) answers source printed_text n written p.taken) (sym from.counted)
+    (subst (λ (n : ℕ). IsToldWithin (spent_of work p.spent) answers source printed_text (items_opened from.old source) n p.taken) (sym counted)
+    (subst (λ (n : ℕ). IsToldWithin (spent_of work p.spent) answers source printed_text (items_opened from.old source) (length p.sheet.items + items_in p.bodies.items) n) (sym from.taken_is) told)))

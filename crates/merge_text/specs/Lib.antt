@@ -1,2 +1,3 @@
 pub mod Counts
 pub mod MergedTexts
+pub mod Working

@@ -7,4 +7,4 @@ mod counting;
 mod merged;
 mod planned;
 
-pub use merged::{MergedText, merge_text};
+pub use merged::{MergedText, merge_text, merge_text_within};

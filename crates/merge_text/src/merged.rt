@@ -1,9 +1,9 @@
 //! A merged text for a style sheet.
 
-ghost use Rattle.std.specs.Prelude.{◌≡◌, IfErr, IfOk};
+ghost use Rattle.std.specs.Prelude.{◌≡◌, ℕ, IfErr, IfOk, Option};
 ghost use Rattle.css_model.specs.Sheets.Sheet.{sheet_of};
 ghost use Rattle.media_groups.specs.Printed.{printed_with};
-ghost use Rattle.merge_text.specs.MergedTexts.{IsPlannedFrom, IsTold};
+ghost use Rattle.merge_text.specs.MergedTexts.{IsMergedBy, IsPlannedFrom, IsTold, IsToldBy};
 ghost use Rattle.opened_merge_laws.specs.Merged.{IsMergedOpened};
 ghost use Rattle.sheet_read.specs.Reading.{Refuses};
 ghost use Rattle.step_laws.specs.Free.{AreAmong};
@@ -29,14 +29,16 @@ pub struct MergedText {
     pub written_items: u32,
     /// How many steps were taken, with those inside opened blocks.
     pub taken: u32,
+    /// Whether it ended because its work was spent. Something may be left to do then.
+    pub spent: bool,
 }
 
 /// The text of a planned sheet, with what a report says of it.
 fn told<O: Obstacles>(obstacles: &O, source: &[u8], planned: &Planned, text: Vec<u8>) -> MergedText
-    requires from { IsPlannedFrom (O.answers obstacles.now) source.now planned.now }
+    requires from { (work : Option ℕ) × IsPlannedFrom work (O.answers obstacles.now) source.now planned.now }
     requires printed { text.items ≡ printed_with source.now planned.now.media.items planned.now.bodies.items planned.now.sheet.items }
-    ensures merged { IsMergedOpened (O.answers obstacles.now) source.now result.text.items }
-    ensures told { IsTold (O.answers obstacles.now) source.now result }
+    ensures merged { (work : Option ℕ) → IsPlannedFrom work (O.answers obstacles.now) source.now planned.now → IsMergedBy work (O.answers obstacles.now) source.now result }
+    ensures told { (work : Option ℕ) → IsPlannedFrom work (O.answers obstacles.now) source.now planned.now → IsToldBy work (O.answers obstacles.now) source.now result }
 {
     read_keeps_the_limits();
     read_is_sound();
@@ -51,7 +53,34 @@ fn told<O: Obstacles>(obstacles: &O, source: &[u8], planned: &Planned, text: Vec
         read_items: planned.read_items,
         written_items,
         taken: planned.taken,
+        spent: planned.spent,
     }
+}
+
+/// The merged text of a style sheet with bounded work, as bytes: the plan ends where nothing is left to do, or where the
+/// steps that were taken and the answers that `obstacles` holds are together `work` or more. The steps are those of the
+/// sheet and of its opened bodies together. Each step is the next one, whatever the bound. Without a bound it does what
+/// `merge_text` does.
+///
+/// `source` is any list of bytes. `Fault` exactly where the sheet has one, with its place in bytes from 0. `NoMemory`
+/// where memory is short. All earlier answers stay, and the budget.
+pub fn merge_text_within<O: Obstacles>(
+    alloc: Global,
+    obstacles: &mut O,
+    source: &[u8],
+    work: Option<u32>,
+) -> Result<MergedText, SheetError>
+    ensures asked { AreAmong (O.answers obstacles.old) (O.answers obstacles.new) }
+    ensures same_budget { O.budget obstacles.new ≡ O.budget obstacles.old }
+    ensures merged { IfOk result (λ m. IsMergedBy work (O.answers obstacles.new) source.now m) }
+    ensures told { IfOk result (λ m. IsToldBy work (O.answers obstacles.new) source.now m) }
+    ensures err { IfErr result (λ e. Refuses e (sheet_of source.now)) }
+{
+    let sheet = read_sheet(alloc, source)?;
+    let media = blocks_of(alloc, &sheet, source)?;
+    let planned = plan(alloc, obstacles, source, sheet, media, work)?;
+    let text = print_planned(alloc, obstacles, source, &planned)?;
+    Ok(told(obstacles, source, &planned, text))
 }
 
 /// The merged text of a style sheet, as bytes: no more of them than the source has, with the same winners of related
@@ -72,9 +101,5 @@ pub fn merge_text<O: Obstacles>(
     ensures told { IfOk result (λ m. IsTold (O.answers obstacles.new) source.now m) }
     ensures err { IfErr result (λ e. Refuses e (sheet_of source.now)) }
 {
-    let sheet = read_sheet(alloc, source)?;
-    let media = blocks_of(alloc, &sheet, source)?;
-    let planned = plan(alloc, obstacles, source, sheet, media)?;
-    let text = print_planned(alloc, obstacles, source, &planned)?;
-    Ok(told(obstacles, source, &planned, text))
+    merge_text_within(alloc, obstacles, source, None)
 }

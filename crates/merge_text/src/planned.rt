@@ -1,6 +1,6 @@
 //! A sheet that was planned with the bodies of its opened blocks.
 
-ghost use Rattle.std.specs.Prelude.{◌≡◌, IfOk, Ok};
+ghost use Rattle.std.specs.Prelude.{◌≡◌, ℕ, IfOk, Ok, Option};
 ghost use Rattle.std.specs.List.{list_any};
 ghost use Rattle.css_model.specs.Sheets.Sheet.{sheet_of};
 ghost use Rattle.media_groups.specs.Opened.{opened_of};
@@ -9,7 +9,7 @@ ghost use Rattle.merge_text.specs.Counts.{is_block};
 ghost use Rattle.merge_text.specs.MergedTexts.{IsPlannedFrom};
 ghost use Rattle.step_laws.specs.Free.{AreAmong};
 
-use crate::bodies::merge_bodies;
+use crate::bodies::{left, merge_bodies};
 use crate::counting::{count, count_bodies};
 use css_model::{Item, Sheet};
 use css_print::print_sheet;
@@ -17,7 +17,7 @@ use media_groups::{Media, open_media, opened_blocks_are_sheets, print_opened};
 use merge_laws::{leading_makes_of, read_is_plannable, read_keeps_the_limits};
 use obstacles::Obstacles;
 use opened_merge_laws::{opened_bodies_stand_apart, planned_bodies_are_sound};
-use planner::merge;
+use planner::merge_within;
 use print_laws::printed_is_no_longer;
 use sheet_laws::read_is_sound;
 use std::alloc::{AllocError, Global};
@@ -35,6 +35,8 @@ pub(crate) struct Planned {
     pub read_items: u32,
     /// How many steps were taken, with those in the bodies.
     pub taken: u32,
+    /// Whether the work was spent.
+    pub spent: bool,
 }
 
 /// Whether an item is a kept block.
@@ -70,19 +72,20 @@ pub(crate) fn blocks_of(
     }
 }
 
-/// Plans a sheet that was read, and then the body of each of its opened blocks.
+/// Plans a sheet that was read, and then the body of each of its opened blocks, all with one bound if there is one.
 pub(crate) fn plan<O: Obstacles>(
     alloc: Global,
     obstacles: &mut O,
     source: &[u8],
     sheet: Sheet,
     media: Vec<Media>,
+    work: Option<u32>,
 ) -> Result<Planned, AllocError>
     requires read { sheet_of source.now ≡ Ok sheet.items }
     requires media { media.items ≡ opened_of sheet.items source.now }
     ensures asked { AreAmong (O.answers obstacles.old) (O.answers obstacles.new) }
     ensures same_budget { O.budget obstacles.new ≡ O.budget obstacles.old }
-    ensures planned { IfOk result (λ p. IsPlannedFrom (O.answers obstacles.new) source.now p) }
+    ensures planned { IfOk result (λ p. IsPlannedFrom work (O.answers obstacles.new) source.now p) }
 {
     read_is_plannable();
     read_keeps_the_limits();
@@ -91,14 +94,16 @@ pub(crate) fn plan<O: Obstacles>(
     printed_is_no_longer();
     let blocks = media.as_slice();
     let read_items = count(&sheet) + count_bodies(blocks);
-    let outside = merge(alloc, obstacles, source, sheet)?;
-    let inside = merge_bodies(alloc, obstacles, source, blocks)?;
+    let outside = merge_within(alloc, obstacles, source, sheet, work)?;
+    let room = left(work, outside.taken);
+    let inside = merge_bodies(alloc, obstacles, source, blocks, room, outside.spent)?;
     Ok(Planned {
         sheet: outside.sheet,
         media,
         bodies: inside.sheets,
         read_items,
         taken: outside.taken + inside.taken,
+        spent: inside.spent,
     })
 }
 
@@ -109,7 +114,7 @@ pub(crate) fn print_planned<O: Obstacles>(
     source: &[u8],
     planned: &Planned,
 ) -> Result<Vec<u8>, AllocError>
-    requires { IsPlannedFrom (O.answers obstacles.now) source.now planned.now }
+    requires { (work : Option ℕ) × IsPlannedFrom work (O.answers obstacles.now) source.now planned.now }
     ensures { IfOk result (λ text. text.items ≡ printed_with source.now planned.now.media.items planned.now.bodies.items planned.now.sheet.items) }
 {
     read_keeps_the_limits();

@@ -1,6 +1,6 @@
 //! What is asked of a step while a sheet is planned.
 
-ghost use Rattle.std.specs.Prelude.{◌≡◌, ℕ, List, IfNone, IfOk, IfSome, map};
+ghost use Rattle.std.specs.Prelude.{◌≡◌, ℕ, List, IfNone, IfOk, IfSome, length, map};
 ghost use Rattle.obstacles.specs.Blocking.{IsBlockedBy};
 ghost use Rattle.item_masks.specs.Masks.{item_mask};
 ghost use Rattle.order_laws.specs.Edits.{Edit};
@@ -25,6 +25,10 @@ pub trait Obstacles {
     /// The answers are true: selectors that are answered to be apart do not meet. It does nothing.
     fn answers_are_true(&self)
         ensures { AreTrue (answers self.now) };
+
+    /// How many answers there are so far.
+    fn held(&self) -> usize
+        ensures { result ≡ length (answers self.now) };
 
     /// What blocks a step of a sheet, and `None` exactly where it is free. `masks` are those of its items. All that was
     /// answered stays, and the budget. `AllocError` where memory runs out; all that was answered stays then too.

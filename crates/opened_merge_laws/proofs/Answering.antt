@@ -1,36 +1,32 @@
 -- What merging made of a sheet with opened blocks, while more is answered.
-use Rattle.std.proofs.Common.{ℕ, List, [], ◌∷◌}
+use Rattle.std.proofs.Common.{ℕ, List, [], ◌∷◌, None}
 use Rattle.std.specs.List.{AllByRecursion}
 use Rattle.css_model.specs.declared.sheet.Item.{Item}
 use Rattle.css_model.specs.Text.Source.{text_at}
 use Rattle.media_groups.specs.declared.media.Media.{Media}
 use Rattle.media_groups.specs.Opened.{opened_of}
-use Rattle.opened_merge_laws.specs.Merged.{IsDoneOpened, IsMergedOpened, IsPlannedOpened}
+use Rattle.opened_merge_laws.specs.Merged.{IsDoneOpened, IsMergedOpened, IsPlannedWithin}
 use Rattle.opened_merge_laws.specs.Told.{IsToldOpened}
-use Rattle.opened_merge_laws.proofs.BodyPlans.{plan_more, plans_more}
-use Rattle.plan_laws.proofs.ForCallers.{blocked_more}
+use Rattle.opened_merge_laws.proofs.BodyPlans as bodies
 use Rattle.step_laws.specs.Free.{Answered, AreAmong}
 use Rattle.step_laws.specs.Leading.{IsDone}
 
 module _ (a a' : List Answered) (more : AreAmong a a') where
-  done_more : (source : List ℕ) (items : List Item) → IsDone a source items → IsDone a' source items
-  done_more source items done k e n step saves some = blocked_more a a' more items e (done k e n step saves some)
-
   done_opened_more : (source : List ℕ) (items : List Item) → IsDoneOpened a source items → IsDoneOpened a' source items
-  done_opened_more source items done = record { outside = done_more source items done.outside; inside = each (opened_of items source) done.inside }
+  done_opened_more source items done = record { outside = bodies.done_more a a' more source items done.outside; inside = each (opened_of items source) done.inside }
     where
       each : (media : List Media) → AllByRecursion (λ m. IsDone a (text_at source m.body) m.sheet.items) media → AllByRecursion (λ m. IsDone a' (text_at source m.body) m.sheet.items) media
       each [] all = tt
-      each (m ∷ media) (one, rest) = (done_more (text_at source m.body) m.sheet.items one, each media rest)
+      each (m ∷ media) (one, rest) = (bodies.done_more a a' more (text_at source m.body) m.sheet.items one, each media rest)
 
-  planned_more : (read : List ℕ) (old : List Item) (written : List ℕ) (again : List Item) → IsPlannedOpened a read old written again → IsPlannedOpened a' read old written again
+  planned_more : (read : List ℕ) (old : List Item) (written : List ℕ) (again : List Item) → IsPlannedWithin None a read old written again → IsPlannedWithin None a' read old written again
   planned_more read old written again is = record {
     new = is.new;
     steps = is.steps;
-    plan = plan_more a a' more read is.steps old is.new is.plan;
+    plan = bodies.plan_more None a a' more read is.steps old is.new is.plan;
     bodies = is.bodies;
     body_steps = is.body_steps;
-    body_plans = plans_more a a' more read (opened_of old read) is.body_steps is.bodies is.body_plans;
+    body_plans = bodies.plans_more None a a' more read (opened_of old read) is.body_steps is.bodies is.body_plans;
     printed_is = is.printed_is;
     same = is.same;
     done = done_opened_more written again is.done;

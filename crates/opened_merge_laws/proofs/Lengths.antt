@@ -1,5 +1,5 @@
 -- The written text of a planned sheet with opened blocks is no longer than what was read.
-use Rattle.std.proofs.Common.{◌≡◌, ℕ, zero, suc, ◌+◌, ◌≤◌, nat_eq, Bool, true, false, List, [], ◌∷◌, map, length, Ok, refl, sym, ap, ◌∙◌, subst, arith}
+use Rattle.std.proofs.Common.{◌≡◌, ℕ, zero, suc, ◌+◌, ◌≤◌, nat_eq, Bool, true, false, List, [], ◌∷◌, map, length, Ok, Option, refl, sym, ap, ◌∙◌, subst, arith}
 use Rattle.std.specs.Prelude.{if◌then◌else◌}
 use Rattle.std.specs.List.{AllZip, starts_with}
 use Rattle.css_model.specs.declared.sheet.Item.{Item}
@@ -16,7 +16,7 @@ use Rattle.media_groups.specs.Opened.{opened_of}
 use Rattle.media_groups.specs.Printed.{printed_with, texts_with}
 use Rattle.opened_laws.specs.Media.Lengths.{OpenedIsNoLonger}
 use Rattle.merge_laws.proofs.ForCallers.{leads_shorter, printed_size}
-use Rattle.opened_merge_laws.specs.Plans.{AreBodyPlans}
+use Rattle.opened_merge_laws.specs.Plans.{AreBodyPlansWithin}
 use Rattle.opened_merge_laws.proofs.Marks.{IsMarked, marked_alike}
 use Rattle.print_laws.proofs.ForCallers.{Ground}
 use Rattle.step_laws.specs.Free.{Answered}
@@ -32,12 +32,12 @@ body_shorter answers text (suc steps) old new leads =
     let before = (printed_size text old).0 in
     omega (arith, shorter, after, before)
 
-bodies_shorter : (answers : List Answered) (source : List ℕ) (media : List Media) (steps : ℕ) (bodies : List SheetParts) → AreBodyPlans answers source media steps bodies → AllZip (IsNoLongerBody source) media bodies
-bodies_shorter answers source [] steps [] plans = tt
-bodies_shorter answers source [] steps (body ∷ bodies) plans = absurd plans
-bodies_shorter answers source (m ∷ media) steps [] plans = absurd plans
-bodies_shorter answers source (m ∷ media) steps (body ∷ bodies) (some, others, plan, rest, is) =
-    (body_shorter answers (text_at source m.body) some m.sheet.items body.items plan.leads, bodies_shorter answers source media others bodies rest)
+bodies_shorter : (spent : Option ℕ) (answers : List Answered) (source : List ℕ) (media : List Media) (steps : ℕ) (bodies : List SheetParts) → AreBodyPlansWithin spent answers source media steps bodies → AllZip (IsNoLongerBody source) media bodies
+bodies_shorter spent answers source [] steps [] plans = tt
+bodies_shorter spent answers source [] steps (body ∷ bodies) plans = absurd plans
+bodies_shorter spent answers source (m ∷ media) steps [] plans = absurd plans
+bodies_shorter spent answers source (m ∷ media) steps (body ∷ bodies) (some, others, plan, rest, is) =
+    (body_shorter answers (text_at source m.body) some m.sheet.items body.items plan.leads, bodies_shorter spent answers source media others bodies rest)
 
 -- a space before a mark
 marked : (text : List ℕ) → length (behind_mark text) ≤ length text + 1
@@ -65,11 +65,11 @@ marked_shorter text other shorter alike = which (starts_with nat_eq text byte_or
     which false false is there = shorter
 
 module _ (merged : MergedIsNoLonger) (opened : OpenedIsNoLonger) where
-  pub written_shorter : (answers : List Answered) (source : List ℕ) (steps body_steps : ℕ) (old new : List Item) (bodies : List SheetParts) → sheet_of source ≡ Ok old → Ground source → Follows new old →
-      Leads answers source steps old new → AreBodyPlans answers source (opened_of old source) body_steps bodies → length (printed_with source (opened_of old source) bodies new) ≤ length source
-  written_shorter answers source zero body_steps old new bodies read ground follows leads plans =
+  pub written_shorter : (spent : Option ℕ) (answers : List Answered) (source : List ℕ) (steps body_steps : ℕ) (old new : List Item) (bodies : List SheetParts) → sheet_of source ≡ Ok old → Ground source → Follows new old →
+      Leads answers source steps old new → AreBodyPlansWithin spent answers source (opened_of old source) body_steps bodies → length (printed_with source (opened_of old source) bodies new) ≤ length source
+  written_shorter spent answers source zero body_steps old new bodies read ground follows leads plans =
       let media = opened_of old source in
-      let bodies_ = bodies_shorter answers source media body_steps bodies plans in
+      let bodies_ = bodies_shorter spent answers source media body_steps bodies plans in
       let same : size source new ≡ size source old = ap (size source) (sym leads) in
       let texts : length (texts_with source media bodies new) + 0 ≤ length (texts_with source media (map (λ m. m.sheet) media) old) = merged source old new bodies 0 follows (omega (arith, same)) bodies_ in
       let alike : IsMarked (texts_with source media bodies new) → IsMarked (texts_with source media (map (λ m. m.sheet) media) old) =
@@ -77,11 +77,11 @@ module _ (merged : MergedIsNoLonger) (opened : OpenedIsNoLonger) where
       let shorter = marked_shorter (texts_with source media bodies new) (texts_with source media (map (λ m. m.sheet) media) old) (omega (arith, texts)) alike in
       let most = opened source old read in
       omega (arith, shorter, most)
-  written_shorter answers source (suc steps) body_steps old new bodies read ground follows leads plans =
+  written_shorter spent answers source (suc steps) body_steps old new bodies read ground follows leads plans =
       let media = opened_of old source in
       let sizes : size source new + suc steps ≤ size source old = leads_shorter answers source (suc steps) old new leads in
       let texts : length (texts_with source media bodies new) + suc steps ≤ length (texts_with source media (map (λ m. m.sheet) media) old) =
-      merged source old new bodies (suc steps) follows sizes (bodies_shorter answers source media body_steps bodies plans) in
+      merged source old new bodies (suc steps) follows sizes (bodies_shorter spent answers source media body_steps bodies plans) in
       let after = marked (texts_with source media bodies new) in
       let before = unmarked (texts_with source media (map (λ m. m.sheet) media) old) in
       let most = opened source old read in

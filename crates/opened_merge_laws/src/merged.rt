@@ -4,7 +4,7 @@ ghost use Rattle.opened_merge_laws.specs.Merged.{PlannedIsMergedOpened};
 ghost use Rattle.opened_merge_laws.specs.Told.{PlannedIsToldOpened};
 
 use media_groups::{blocks_stay, merged_is_no_longer, opened_blocks_are_sheets};
-use merge_laws::read_keeps_the_limits;
+use merge_laws::{leading_makes_of, read_keeps_the_limits};
 use opened_laws::{
     bodies_count_by_winners, opened_is_no_longer, opened_reads_back, scenes_give_meanings,
 };
@@ -21,6 +21,7 @@ fn planned_is_written()
 {
     read_is_sound();
     read_keeps_the_limits();
+    leading_makes_of();
     planned_comes_from();
     opened_blocks_are_sheets();
     blocks_stay();

@@ -56,6 +56,13 @@ impl Pairs {
         }
     }
 
+    /// How many answers are held.
+    pub fn held(&self) -> usize
+        ensures { result ≡ length self.now.answers }
+    {
+        self.answers.len()
+    }
+
     /// The answer that is held for the ordered pair; `None` exactly where there is none.
     pub fn known(&self, x: &Selector, y: &Selector) -> Option<&Answer>
         ensures known { spec.Known self.now.answers x.now y.now result }

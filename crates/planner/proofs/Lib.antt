@@ -1,4 +1,5 @@
 mod Watched
+mod Ended
 mod Followed
 mod Passed
 mod Results

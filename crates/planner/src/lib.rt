@@ -5,7 +5,9 @@ mod barring;
 mod following;
 mod merging;
 mod passing;
+mod repeats;
 mod trying;
 mod watching;
+mod working;
 
-pub use merging::{Merged, merge};
+pub use merging::{Merged, merge, merge_within};

@@ -15,18 +15,21 @@ ghost use Rattle.step_laws.specs.Free.{AreAmong, IsFree};
 ghost use Rattle.step_laws.specs.Steps.{HasStep, IsStep};
 
 use crate::passing::{pass_barred, pass_blocked, pass_none, queue_again};
+use crate::repeats::is_repeat_cut;
 use indexed_sheet::IndexedSheet;
 use next_step::{is_barred, step_of_candidate};
 use obstacles::{Obstacle, Obstacles};
 use pending_laws::{first_candidate_is_taken, priorities_are_ordered};
 use planner_state::Plan;
 use queue_laws::{answers_may_come, barriers_stay};
+use repeat_laws::repeats_are_free;
 use saved_bytes::KnownLengths;
 use std::alloc::{AllocError, Global};
 use step_laws::Step;
 use step_queue::Candidate;
 
 /// Returns what blocks a step of an indexed sheet, or `None` if it is free by the answers held afterwards.
+/// It looks for nothing if the step cuts a part that its rule has again.
 fn obstacle_on<O: Obstacles>(
     obstacles: &mut O,
     indexed: &IndexedSheet,
@@ -39,6 +42,10 @@ fn obstacle_on<O: Obstacles>(
     ensures free { IfOk result (λ found. IfNone found ((e : Edit) → IsStep indexed.now.items step.now e → IsFree (O.answers obstacles.new) indexed.now.items e)) }
     ensures blocked { IfOk result (λ found. IfSome found (λ o. IsBlockedBy (O.answers obstacles.new) indexed.now.items step.now o)) }
 {
+    if is_repeat_cut(indexed.sheet(), step) {
+        repeats_are_free();
+        return Ok(None);
+    }
     obstacles.obstacle(indexed.sheet(), indexed.masks(), step)
 }
 

@@ -2,7 +2,7 @@
 
 ghost use Rattle.std.specs.Prelude.{◌≡◌};
 
-use crate::held::answers_are_true;
+use crate::held::{answers_are_true, count_answers};
 use crate::hints::{Hints, no_hints};
 use crate::step_search::step_obstacle;
 use css_model::Sheet;
@@ -60,6 +60,10 @@ impl Obstacles for PairObstacles {
 
     fn answers_are_true(&self) {
         answers_are_true(&self.pairs);
+    }
+
+    fn held(&self) -> usize {
+        count_answers(&self.pairs)
     }
 
     fn obstacle(

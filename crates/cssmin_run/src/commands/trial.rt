@@ -26,7 +26,7 @@ fn tried(alloc: Global, rules: u32) -> Result<(Pairs, Vec<u8>), SheetError>
     ensures err { IfErr result (λ e. Refuses e (sheet_of (made_sheet rules))) }
 {
     let sheet = make_sheet(alloc, rules)?;
-    let (pairs, merged) = merged(alloc, None, sheet.as_slice())?;
+    let (pairs, merged) = merged(alloc, None, None, sheet.as_slice())?;
     let text = merge_summary(alloc, &pairs, sheet.as_slice(), &merged)?;
     pairs.are_true();
     Ok((pairs, text))

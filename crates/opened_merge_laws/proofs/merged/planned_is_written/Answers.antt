@@ -6,6 +6,7 @@ returns c =
     let laws : Laws = record {
       sound = c.read_is_sound.ensures;
       limits = c.read_keeps_the_limits.ensures;
+      make = c.leading_makes_of.ensures;
       comes_from = c.planned_comes_from.ensures;
       sheets = c.opened_blocks_are_sheets.ensures.sheets;
       stay = c.blocks_stay.ensures.blocks;

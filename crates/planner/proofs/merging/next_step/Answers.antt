@@ -1,4 +1,4 @@
-use Rattle.std.proofs.Common.{List, sym, ap, ◌∙◌, subst}
+use Rattle.std.proofs.Common.{List, sym, subst}
 use Rattle.std.specs.List.{Contains}
 use Rattle.pending_laws.specs.Candidates as pending
 use Rattle.planner.proofs.Tried.{none_left}
@@ -6,7 +6,6 @@ use Rattle.planner.proofs.merging.next_step.Goals as goal
 use Rattle.step_queue.specs.Told.{candidate_told}
 use Rattle.list_facts.proofs.Members.{Contains-there}
 use Rattle.indexed_sheet.specs.IndexedParts.{IndexedParts}
-use Rattle.planner_state.specs.PlanParts.{PlanParts}
 use Rattle.step_laws.specs.Leading.{IsDone}
 
 pub try_candidate-requires-clause-first : goal.try_candidate-requires-clause-first

@@ -1,15 +1,18 @@
-use Rattle.std.proofs.Common.{map, refl, ◌∙◌}
-use Rattle.cssmin_run.proofs.Staying.{among}
+use Rattle.std.proofs.Common.{Some}
+use Rattle.cssmin_run.proofs.Working.{done_by, done_was, spent_by}
 use Rattle.cssmin_run.proofs.commands.min.merged_and_told.Goals as goal
-use Rattle.opened_merge_laws.proofs.ForCallers.{merged_more}
-use Rattle.sheet_order.specs.Laws.{answer_seen}
 
-pub returns-clause-ok : goal.returns-clause-ok
-returns-clause-ok c = record {
-  pairs = c.told_of.new.pairs;
-  held_is = refl;
-  same_budget = c.in_ok-report.ensures.stays.budget ∙ c.in_ok-pairs.ensures.ok.same_budget;
-  all_true = c.are_true.ensures;
-  merged = merged_more (map answer_seen c.in_ok-pairs.pairs.answers) (map answer_seen c.told_of.new.pairs.answers) (among c.in_ok-pairs.pairs c.told_of.new.pairs c.in_ok-report.ensures.stays) c.args.bytes.now c.in_ok-pairs.merged.text.items c.in_ok-pairs.ensures.ok.merged;
-  told = c.in_ok-report.ensures.told;
-}
+pub told_done-requires : goal.told_done-requires
+told_done-requires c = done_was c.args.work c.args.budget c.args.bytes.now c.in_ok-merged.merged.0 c.in_ok-merged.merged.1 (c.is_over.ensures.left c.if-is_over.false) c.in_ok-merged.ensures.ok
+
+pub returns-then-is_over-clause-ok : goal.returns-then-is_over-clause-ok
+returns-then-is_over-clause-ok c =
+    let over = c.is_over.ensures.over c.if-is_over.true in
+    spent_by c.told_spent.result (λ m. m.1.items) (λ m. m.2.items) (λ m. Some m.0) c.args.work c.args.budget c.args.asked c.args.bytes.now c.in_ok-merged.merged.0 c.in_ok-merged.merged.1 over.0 over.1 c.in_ok-merged.ensures.ok c.told_spent.ensures.ok
+
+pub returns-else-is_over-clause-ok : goal.returns-else-is_over-clause-ok
+returns-else-is_over-clause-ok c =
+    done_by c.told_done.result (λ m. m.1.items) (λ m. m.2.items) (λ m. Some m.0) c.args.work c.args.budget c.args.asked c.args.bytes.now c.told_done.ensures.ok
+
+pub told_spent-requires : goal.told_spent-requires
+told_spent-requires c = (c.is_over.ensures.over c.if-is_over.true).2

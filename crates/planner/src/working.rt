@@ -1,0 +1,74 @@
+//! Whether a plan ends because its work was spent.
+
+ghost use Rattle.std.specs.Prelude.{◌≡◌, ◌+◌, ◌<◌, ◌≤◌, ℕ, Some, length, true};
+ghost use Rattle.css_model.specs.Sheets.ComesFrom.{pair_count};
+ghost use Rattle.css_model.specs.Sheets.Limits.{max_pairs};
+ghost use Rattle.css_model.specs.Sheets.Sheet.{pairs_of};
+ghost use Rattle.planner.specs.Working.{MayEnd};
+
+use css_model::{Item, MAX_PAIRS, Sheet};
+use obstacles::Obstacles;
+use step_laws::Step;
+
+/// What a plan does next.
+#[derive(Clone, Copy, Debug)]
+pub(crate) enum Next {
+    /// It takes this step.
+    Take(Step),
+    /// It ends, since nothing is left to do.
+    Done,
+    /// It ends, since its work was spent.
+    Spent,
+}
+
+/// Returns `true` only if the steps that were taken and the answers that are held are as many as a bound, or more.
+fn is_spent<O: Obstacles>(obstacles: &O, work: Option<u32>, taken: u32) -> bool
+    ensures { result ≡ true → (n : ℕ) × (work ≡ Some n) × (n ≤ taken + length (O.answers obstacles.now)) }
+{
+    match work {
+        Some(work) => work.saturating_sub(taken) as usize <= obstacles.held(),
+        None => false,
+    }
+}
+
+/// Returns so many pairs and those of an item, or the greatest number if they are more.
+fn with_pairs_of(pairs: u64, item: &Item) -> u64
+    ensures few { pairs + pairs_of item.now ≤ MAX_PAIRS → result ≡ pairs + pairs_of item.now }
+    ensures many { MAX_PAIRS < pairs + pairs_of item.now → MAX_PAIRS < result }
+{
+    match item {
+        Item::Rule(rule) => {
+            let more = (rule.selectors.len() as u64).saturating_mul(rule.decls.len() as u64);
+            pairs.saturating_add(more)
+        }
+        _ => pairs,
+    }
+}
+
+/// Returns `true` only if items have no more pairs of a selector and a declaration than a sheet may have that is read.
+fn has_few_pairs(items: &[Item]) -> bool
+    ensures { result ≡ true → pair_count items.now ≤ max_pairs }
+{
+    let mut pairs = 0;
+    let mut rest = items;
+    'items: while let Some((item, others)) = rest.split_first() {
+        pairs = with_pairs_of(pairs, item);
+        if pairs > u64::from(MAX_PAIRS) {
+            return false;
+        }
+        rest = others;
+    }
+    true
+}
+
+/// Returns `true` only if a plan of a sheet may end by its bound, if it has one.
+pub(crate) fn may_end<O: Obstacles>(
+    obstacles: &O,
+    sheet: &Sheet,
+    work: Option<u32>,
+    taken: u32,
+) -> bool
+    ensures { result ≡ true → MayEnd work (O.answers obstacles.now) taken sheet.now.items }
+{
+    is_spent(obstacles, work, taken) && has_few_pairs(sheet.items.as_slice())
+}

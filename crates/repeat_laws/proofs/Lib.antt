@@ -1,0 +1,5 @@
+mod Cutting
+mod Finding
+mod Places
+mod Removing
+pub mod ForCallers
