@@ -1,3 +1,4 @@
 mod Decimals
 mod FormLaws
+mod Limits
 mod Words

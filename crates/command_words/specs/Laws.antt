@@ -1,6 +1,6 @@
 -- Laws on the forms of a command line.
-use Rattle.std.specs.Prelude.{◌≡◌, ◌↔◌, ℕ, true, false, List, [], ◌∷◌, Some, None, codes}
-use Rattle.command_words.specs.Forms.{Min, Cmp, form_of, is_operand, most_budget, most_limit, most_rules, usual_limit}
+use Rattle.std.specs.Prelude.{◌≡◌, ◌<◌, ◌↔◌, ℕ, true, false, List, [], ◌∷◌, Option, Some, None, codes}
+use Rattle.command_words.specs.Forms.{Min, Cmp, Diff, form_of, is_operand, most_budget, most_limit, most_rules, usual_limit}
 use Rattle.command_words.specs.declared.command.TheConstants.{MOST_BUDGET, MOST_LIMIT, MOST_RULES, USUAL_LIMIT}
 
 -- exactly the one word `min` minifies with no budget and no work named, and no report asked for
@@ -10,6 +10,10 @@ MinIsOneWord = (words : List (List ℕ)) → (form_of words ≡ Some (Min None N
 -- `cmp` and two words that do not begin with `-` compare them
 abbrev pub CmpComparesTwoWords : Type 0
 CmpComparesTwoWords = (left right : List ℕ) → is_operand left ≡ true → is_operand right ≡ true → form_of (codes "cmp" ∷ left ∷ right ∷ []) ≡ Some (Cmp left right None false)
+
+-- the words of `diff` let it tell at least one couple
+abbrev pub SomeMayBeTold : Type 0
+SomeMayBeTold = (words : List (List ℕ)) (split : ℕ) (budget : Option ℕ) (limit : ℕ) → form_of words ≡ Some (Diff split budget limit) → 0 < limit
 
 -- the greatest budget
 abbrev pub MostBudgetIsDefined : Type 0

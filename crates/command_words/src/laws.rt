@@ -1,6 +1,6 @@
 //! What follows from the definition of the forms, as functions that do nothing.
 
-ghost use Rattle.command_words.specs.Laws.{CmpComparesTwoWords, MinIsOneWord, MostBudgetIsDefined, MostLimitIsDefined, MostRulesIsDefined, UsualLimitIsDefined};
+ghost use Rattle.command_words.specs.Laws.{CmpComparesTwoWords, MinIsOneWord, MostBudgetIsDefined, MostLimitIsDefined, MostRulesIsDefined, SomeMayBeTold, UsualLimitIsDefined};
 
 /// Exactly the one word `min` minifies with no budget and no work named, and no report asked for.
 #[tactic(auto, using(crate::proofs::FormLaws::min_is_one_word))]
@@ -12,6 +12,11 @@ pub fn min_is_one_word()
 #[tactic(auto, using(crate::proofs::FormLaws::cmp_compares))]
 pub fn cmp_compares_two_words()
     ensures { CmpComparesTwoWords }
+{}
+
+/// The words of `diff` let it tell at least one couple of pairs in another order.
+pub fn some_may_be_told()
+    ensures { SomeMayBeTold }
 {}
 
 /// The greatest budget is that of the definition.

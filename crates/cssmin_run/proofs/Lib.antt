@@ -1,4 +1,5 @@
 mod Budgets
+mod Differences
 mod Faults
 mod Findings
 mod Forms

@@ -24,6 +24,7 @@ use Rattle.cssmin_run.specs.Commands.Same.{SameDoes, SameRefuses}
 use Rattle.cssmin_run.specs.Commands.Style.{StyleDoes, StyleRefuses}
 use Rattle.cssmin_run.specs.Commands.Trial.{TrialDoes}
 use Rattle.cssmin_run.specs.Commands.Why.{WhyDoes, WhyRefuses}
+use Rattle.cssmin_run.specs.Differences.{AreAlike, TellsTrueOrder}
 use Rattle.cssmin_run.specs.Placed.{fault_place, TellsAt}
 use Rattle.cssmin_run.specs.Remaining.{LeavesOnlyBlockedBy}
 use Rattle.cssmin_run.specs.Run.{Ran, named_budget, needs_input, tells_places}
@@ -160,6 +161,21 @@ abbrev pub NoBudgetIsSpent : Type 0
 NoBudgetIsSpent =
     (words : List (List ℕ)) (status : Status) (input output err : Change) (held : Option PairsParts) (pairs : PairsParts) (x y : SelectorParts) (ledger : List (List Lit)) → Ran words status input output err held
     → named_budget (form_of words) ≡ None → held ≡ Some pairs → IsAnswered pairs.answers x y (Spent ledger) → ⊥
+
+-- ---- `diff`, by its status
+
+-- after `Done` nothing is found in the two sheets that were read, and they have the same winners
+abbrev pub SameSheetsWinAlike : Type 0
+SameSheetsWinAlike =
+    (words : List (List ℕ)) (split : ℕ) (budget : Option ℕ) (limit : ℕ) (status : Status) (input output err : Change) (held : Option PairsParts) → Ran words status input output err held
+    → form_of words ≡ Some (Diff split budget limit) → status ≡ Done → Did (λ read text report held. AreAlike split read) input output err held
+
+-- after `Found` what the text tells of their order is true: the order of the two pairs of each couple counts at its example, and for
+-- `reversed` the whole sheets have different winners there
+abbrev pub ToldOrderIsTrue : Type 0
+ToldOrderIsTrue =
+    (words : List (List ℕ)) (split : ℕ) (budget : Option ℕ) (limit : ℕ) (status : Status) (input output err : Change) (held : Option PairsParts) → Ran words status input output err held
+    → form_of words ≡ Some (Diff split budget limit) → status ≡ Found → Did (λ read text report held. TellsTrueOrder split limit read text held) input output err held
 
 -- ---- `min`, by its status
 

@@ -1,5 +1,6 @@
 pub mod Change
 pub mod Commands
+pub mod Differences
 pub mod Laws
 pub mod Placed
 pub mod Remaining

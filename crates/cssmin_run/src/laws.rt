@@ -2,7 +2,10 @@
 
 ghost use Rattle.cssmin_run.specs.Laws as laws;
 
+use command_words::some_may_be_told;
+use diff_laws::same_members_win_alike;
 use remaining_laws::remaining_steps_are_blocked;
+use told_laws::{same_text_means_same, told_couples_show_order, told_winners_win};
 
 /// Exactly words without a form are refused, and what other words ask for is done.
 pub fn words_decide_usage()
@@ -40,6 +43,21 @@ pub fn each_status_has_its_cause()
     ensures found { laws.OnlyTwoFind }
 {
     remaining_steps_are_blocked();
+}
+
+/// What follows from the text that `diff` wrote, over normal values. After `Done` the two sheets have the same winners in
+/// every legal document, in scenes in which blocks with one normal head hold together and alike kept items apply the
+/// same (CSS Cascading 3, section 6). After `Found` the order of each couple that is told counts at its example, and at
+/// that of a reversed one the sheets have different winners, if exactly its blocks hold and kept items apply nothing.
+pub fn told_differences_are_true()
+    ensures same { laws.SameSheetsWinAlike }
+    ensures order { laws.ToldOrderIsTrue }
+{
+    some_may_be_told();
+    same_text_means_same();
+    same_members_win_alike();
+    told_couples_show_order();
+    told_winners_win();
 }
 
 /// The answers that are held after a run are true, with the budget of its words. If the words name no budget, none of

@@ -13,7 +13,7 @@ mod writing;
 
 pub use laws::{
     constant_counts_answer_no_fault, each_sheet_has_its_status, each_status_has_its_cause,
-    held_answers_are_true, words_decide_usage,
+    held_answers_are_true, told_differences_are_true, words_decide_usage,
 };
 pub use running::{run, run_words};
 pub use status::{LogFault, Status};
