@@ -53,8 +53,8 @@ def orders(count):
 
 # The sheets by their numbers, and three of these numbers.
 KINDS = {
-    "equal declarations in a rule": (lambda n: f"a{{{f'{ONE};' * n}}}", (100, 200, 400)),
-    "equal selectors in a rule": (lambda n: f"{','.join('a' * n)}{{{ONE}}}", (1_000, 2_000, 4_000)),
+    "equal declarations in a rule": (lambda n: f"a{{{f'{ONE};' * n}}}", (65_536, 131_072, 262_143)),
+    "equal selectors in a rule": (lambda n: f"{','.join('a' * n)}{{{ONE}}}", (65_536, 131_072, 262_144)),
     "the same selectors in two orders": (orders, (1_000, 2_000, 4_000)),
     "utilities": (lambda n: each(n, utility), (2_000, 4_000, 8_000)),
     "common declarations": (lambda n: each(n, block), (500, 1_000, 2_000)),

@@ -35,7 +35,7 @@ a,.link{color:#06c;text-decoration:none}\
 @media (max-width: 600px){.half{width:100%}}";
 
 /// A source, its merged text, how many items both have, and how many steps are taken.
-const ROWS: [(&str, &str, u32, u32, u32); 20] = [
+const ROWS: [(&str, &str, u32, u32, u32); 21] = [
     (PAGE, MERGED_PAGE, 27, 23, 5),
     // Up is blocked, since both properties are of one family; down is free.
     (
@@ -64,6 +64,14 @@ const ROWS: [(&str, &str, u32, u32, u32); 20] = [
     ),
     // Both cuts save the same; the first is taken.
     ("a,b,a{top:0}", "b,a{top:0}", 1, 1, 1),
+    // A run of cuts: two of ten bytes, one of six, and one of a selector.
+    (
+        ".a,b,.a{color:red;top:0;color:red;top:0;color:red}",
+        "b,.a{top:0;color:red}",
+        1,
+        1,
+        4,
+    ),
     (".a,.b{top:0}.a{top:0}", ".a,.b{top:0}", 2, 1, 1),
     (
         ".a{top:0;color:red;clear:both}.b{color:red;clear:both;width:1px}",

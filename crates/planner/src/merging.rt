@@ -2,19 +2,20 @@
 
 ghost use Rattle.std.specs.Prelude.{◌≡◌, IfOk, OnOk};
 ghost use Rattle.planner.specs.Following.{IsNextFound};
-ghost use Rattle.planner.specs.Working.{HasEnded, IfDone, IfSpent, IfTake, MayEnd, spent_of};
+ghost use Rattle.planner.specs.Working.{HasEnded, IfDone, IfSpent, IfTake, IsWithin, MayEnd, MayGoOn, spent_of};
 ghost use Rattle.plan_laws.specs.Plannable.{IsPlannable};
 ghost use Rattle.planner_state.specs.State.{IsState};
 ghost use Rattle.step_laws.specs.Free.{AreAmong};
 ghost use Rattle.step_laws.specs.Leading.{IsDone, Leads};
 
 use crate::trying::try_candidate;
-use crate::working::{Next, may_end};
+use crate::working::{Next, may_end, steps_left};
 use css_model::Sheet;
 use merge_laws::read_keeps_the_limits;
 use obstacles::Obstacles;
 use pending_laws::no_candidate_is_done;
 use planner_state::Plan;
+use repeat_runs::cut_repeats;
 use saved_bytes::KnownLengths;
 use std::alloc::{AllocError, Global};
 
@@ -44,6 +45,7 @@ fn next_step<O: Obstacles>(
     ensures indexed { OnOk result (plan.new.indexed ≡ plan.old.indexed) }
     ensures state { IfOk result (λ next. IfTake next (λ _. IsState (O.answers obstacles.new) source.now plan.new)) }
     ensures found { IfOk result (λ next. IfTake next (IsNextFound (O.answers obstacles.new) source.now plan.old.indexed.items)) }
+    ensures goes_on { IfOk result (λ next. IfTake next (λ _. MayGoOn work taken plan.old.indexed.items)) }
     ensures done { IfOk result (λ next. IfDone next (IsDone (O.answers obstacles.new) source.now plan.old.indexed.items)) }
     ensures spent { IfOk result (λ next. IfSpent next (MayEnd work (O.answers obstacles.new) taken plan.old.indexed.items)) }
 {
@@ -73,7 +75,7 @@ fn merged_of(plan: Plan, taken: u32, spent: bool) -> Merged
     }
 }
 
-/// Merges a sheet of a source whose lengths are known, like `merge_within`.
+/// Merges a sheet of a source whose lengths are known, like `merge_within`. It begins with the repeats of the one rule of a sheet.
 fn merge_by<O: Obstacles>(
     alloc: Global,
     obstacles: &mut O,
@@ -85,10 +87,12 @@ fn merge_by<O: Obstacles>(
     ensures asked { AreAmong (O.answers obstacles.old) (O.answers obstacles.new) }
     ensures same_budget { O.budget obstacles.new ≡ O.budget obstacles.old }
     ensures leads { IfOk result (λ m. Leads (O.answers obstacles.new) source.now m.taken sheet.items m.sheet.items) }
+    ensures within { IfOk result (λ m. IsWithin work (O.answers obstacles.new) source.now m.taken sheet.items) }
     ensures ended { IfOk result (λ m. HasEnded (spent_of work m.spent) (O.answers obstacles.new) source.now m.taken m.sheet.items) }
 {
-    let mut plan = Plan::new(alloc, source, sheet)?;
-    let mut taken: u32 = 0;
+    let begun = cut_repeats(alloc, source, sheet, steps_left(obstacles, work))?;
+    let mut plan = Plan::new(alloc, source, begun.sheet)?;
+    let mut taken = begun.taken;
     'steps: loop {
         match next_step(alloc, obstacles, source, &mut plan, work, taken)? {
             Next::Take(step) => {
@@ -104,6 +108,7 @@ fn merge_by<O: Obstacles>(
 /// Merges a sheet with bounded work: takes steps until nothing is left to do, or until the steps that were taken and the answers
 /// that are held are together `work` or more. Without a bound it does what `merge` does.
 /// It ends by its bound only where the sheet can be read again: with no more than 262,144 pairs of a selector and a declaration.
+/// So it takes no more than `work` steps, unless they lead to a sheet that cannot be read again.
 /// For the rest it says and asks what `merge` does. Each step is the next one, whatever the bound.
 #[tactic(auto, using(saved_bytes::proofs::ForCallers::short_source))]
 pub fn merge_within<O: Obstacles>(
@@ -117,6 +122,7 @@ pub fn merge_within<O: Obstacles>(
     ensures asked { AreAmong (O.answers obstacles.old) (O.answers obstacles.new) }
     ensures same_budget { O.budget obstacles.new ≡ O.budget obstacles.old }
     ensures leads { IfOk result (λ m. Leads (O.answers obstacles.new) source.now m.taken sheet.items m.sheet.items) }
+    ensures within { IfOk result (λ m. IsWithin work (O.answers obstacles.new) source.now m.taken sheet.items) }
     ensures ended { IfOk result (λ m. HasEnded (spent_of work m.spent) (O.answers obstacles.new) source.now m.taken m.sheet.items) }
 {
     read_keeps_the_limits();

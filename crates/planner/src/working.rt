@@ -1,10 +1,10 @@
 //! Whether a plan ends because its work was spent.
 
-ghost use Rattle.std.specs.Prelude.{◌≡◌, ◌+◌, ◌<◌, ◌≤◌, ℕ, Some, length, true};
+ghost use Rattle.std.specs.Prelude.{◌≡◌, ◌+◌, ◌-◌, ◌<◌, ◌≤◌, ℕ, Some, false, length, true};
 ghost use Rattle.css_model.specs.Sheets.ComesFrom.{pair_count};
 ghost use Rattle.css_model.specs.Sheets.Limits.{max_pairs};
 ghost use Rattle.css_model.specs.Sheets.Sheet.{pairs_of};
-ghost use Rattle.planner.specs.Working.{MayEnd};
+ghost use Rattle.planner.specs.Working.{MayEnd, MayGoOn};
 
 use css_model::{Item, MAX_PAIRS, Sheet};
 use obstacles::Obstacles;
@@ -21,13 +21,25 @@ pub(crate) enum Next {
     Spent,
 }
 
-/// Returns `true` only if the steps that were taken and the answers that are held are as many as a bound, or more.
+/// Returns `true` only if the steps that were taken and the answers that are held are as many as a bound, or more. Else the steps
+/// alone are fewer, if there is a bound.
 fn is_spent<O: Obstacles>(obstacles: &O, work: Option<u32>, taken: u32) -> bool
-    ensures { result ≡ true → (n : ℕ) × (work ≡ Some n) × (n ≤ taken + length (O.answers obstacles.now)) }
+    ensures spent { result ≡ true → (n : ℕ) × (work ≡ Some n) × (n ≤ taken + length (O.answers obstacles.now)) }
+    ensures left { result ≡ false → (n : ℕ) → work ≡ Some n → taken < n }
 {
     match work {
         Some(work) => work.saturating_sub(taken) as usize <= obstacles.held(),
         None => false,
+    }
+}
+
+/// Returns how many steps may be taken before the first one that the bound does not allow, if there is a bound.
+pub(crate) fn steps_left<O: Obstacles>(obstacles: &O, work: Option<u32>) -> u32
+    ensures bound { (n : ℕ) → work ≡ Some n → result ≡ n - length (O.answers obstacles.now) }
+{
+    match work {
+        Some(work) => (work as usize).saturating_sub(obstacles.held()) as u32,
+        None => u32::MAX,
     }
 }
 
@@ -45,9 +57,10 @@ fn with_pairs_of(pairs: u64, item: &Item) -> u64
     }
 }
 
-/// Returns `true` only if items have no more pairs of a selector and a declaration than a sheet may have that is read.
+/// Returns `true` exactly if items have no more pairs of a selector and a declaration than a sheet may have that is read.
 fn has_few_pairs(items: &[Item]) -> bool
-    ensures { result ≡ true → pair_count items.now ≤ max_pairs }
+    ensures few { result ≡ true → pair_count items.now ≤ max_pairs }
+    ensures many { result ≡ false → max_pairs < pair_count items.now }
 {
     let mut pairs = 0;
     let mut rest = items;
@@ -61,14 +74,15 @@ fn has_few_pairs(items: &[Item]) -> bool
     true
 }
 
-/// Returns `true` only if a plan of a sheet may end by its bound, if it has one.
+/// Returns `true` only if a plan of a sheet may end by its bound, if it has one; else it may go on.
 pub(crate) fn may_end<O: Obstacles>(
     obstacles: &O,
     sheet: &Sheet,
     work: Option<u32>,
     taken: u32,
 ) -> bool
-    ensures { result ≡ true → MayEnd work (O.answers obstacles.now) taken sheet.now.items }
+    ensures end { result ≡ true → MayEnd work (O.answers obstacles.now) taken sheet.now.items }
+    ensures on { result ≡ false → MayGoOn work taken sheet.now.items }
 {
     is_spent(obstacles, work, taken) && has_few_pairs(sheet.items.as_slice())
 }

@@ -15,14 +15,15 @@ use Rattle.css_model.specs.Sheets.RuleParts.{RuleParts}
 use Rattle.css_model.specs.Sheets.Sound.{IsSound, IsSoundRule}
 use Rattle.list_facts.proofs.Members.{Contains-cons_cases, Contains-here, Contains-nil, Contains-there}
 use Rattle.order_laws.specs.Edits.{edited, whole_rule}
-use Rattle.repeat_laws.proofs.Places.{KeepsPlaces, Stays, StaysLater, Stood, free_by_places}
-use Rattle.repeat_laws.proofs.Removing.{Shifts, removed_back, removed_there, same_or_not, shifts_back, shifts_there, some_left}
+use Rattle.repeat_laws.proofs.Places.{KeepsPlaces, Stays, StaysLater, Stood, free_by_places, pairs_stay}
+use Rattle.repeat_laws.proofs.Removing.{Shifts, inside, removed_back, removed_there, same_or_not, shifts_back, shifts_there, some_left}
 use Rattle.repeat_laws.specs.Repeats.{IsDeclAgain, IsSelAgain, RepeatsAreFree}
 use Rattle.step_laws.proofs.ForCallers.{OneInParts, one_in_parts, rule_sound}
 use Rattle.step_laws.specs.declared.step.Step.TheVariants.{CutDecl, CutSel, JoinDeclDown, JoinDeclUp, JoinSelDown, JoinSelUp, Share}
 use Rattle.step_laws.specs.Free.{Answered, IsFree}
 use Rattle.step_laws.specs.RuleParting.{item_if_any, rule_or_none}
 use Rattle.step_laws.specs.StepEdits.{cut_decl, cut_selector}
+use Rattle.step_laws.specs.Steps.{IsStep}
 
 -- ---- One rule in the place of another
 
@@ -57,7 +58,7 @@ kept_alike (Rule x ∷ before) after r q (suc n) = kept_alike before after r q n
 kept_alike (KeptRule x ∷ before) after r q (suc n) = ap suc (kept_alike before after r q n)
 kept_alike (KeptBlock x ∷ before) after r q (suc n) = ap suc (kept_alike before after r q n)
 
-left_is : (ss : List SelItem) (ds : List DeclItem) (r : RuleParts) → ss ≢ [] → ds ≢ [] → item_if_any ss ds r ≡ Rule r ∷ []
+pub left_is : (ss : List SelItem) (ds : List DeclItem) (r : RuleParts) → ss ≢ [] → ds ≢ [] → item_if_any ss ds r ≡ Rule r ∷ []
 left_is [] ds r some some' = absurd (some refl)
 left_is (s ∷ ss) [] r some some' = absurd (some' refl)
 left_is (s ∷ ss) (d ∷ ds) r some some' = refl
@@ -175,17 +176,37 @@ module _ (before after : List Item) (r : RuleParts) (i : ℕ) (again : IsDeclAga
     kept = λ x y became. kept_alike before after r (without_decl r i) x.item ∙ ap (λ (n : ℕ). kept_before n cut) (sym became.0);
   }
 
-decl_free : (answers : List Answered) (source : List ℕ) (items : List Item) (n i : ℕ) (r : RuleParts) → IsSound source items → slice_get items n ≡ Some (Rule r) → IsDeclAgain r.decls i → IsFree answers items (cut_decl n i r)
-decl_free answers source items n i r sound at again =
+-- the places that are kept by a cut of a declaration
+decl_places : (source : List ℕ) (items : List Item) (n i : ℕ) (r : RuleParts) → IsSound source items → slice_get items n ≡ Some (Rule r) → IsDeclAgain r.decls i →
+    (m : ℕ) × KeepsPlaces items (edited (cut_decl n i r) items) (MovesUp m i)
+decl_places source items n i r sound at again =
     let rule : IsSoundRule source r = rule_sound source items n r sound at in
     let later = again.after in
     let left : remove r.decls i ≢ [] = some_left r.decls i again.later again.other again.other_at (λ e. omega (arith, e, later)) in
     let by : rule_or_none (without_decl r i) ≡ Rule (without_decl r i) ∷ [] = left_is r.selectors (remove r.decls i) (without_decl r i) rule.has_selectors left in
     let p : OneInParts items (edited (cut_decl n i r) items) r (rule_or_none (without_decl r i)) = one_in_parts items n (rule_or_none (without_decl r i)) (whole_rule n r) r at in
-    let new_is : edited (cut_decl n i r) items ≡ p.before ++ (Rule (without_decl r i) ∷ p.after) = p.new_is ∙ ap (λ (xs : List Item). p.before ++ (xs ++ p.after)) by in
-    free_by_places answers items (cut_decl n i r) (MovesUp (length p.before) i)
-    (subst (λ (xs : List Item). KeepsPlaces xs (edited (cut_decl n i r) items) (MovesUp (length p.before) i)) (sym p.old_is)
-    (subst (λ (xs : List Item). KeepsPlaces (p.before ++ (Rule r ∷ p.after)) xs (MovesUp (length p.before) i)) (sym new_is) (decl_keeps p.before p.after r i again)))
+    let new_is : edited (cut_decl n i r) items ≡ p.before ++ (Rule (without_decl r i) ∷ p.after) = p.new_is ∙ ap (λ (xs : List Item). p.before ++ (xs ++ p.after)) by in (
+      length p.before,
+      subst (λ (xs : List Item). KeepsPlaces xs (edited (cut_decl n i r) items) (MovesUp (length p.before) i)) (sym p.old_is)
+          (subst (λ (xs : List Item). KeepsPlaces (p.before ++ (Rule r ∷ p.after)) xs (MovesUp (length p.before) i)) (sym new_is) (decl_keeps p.before p.after r i again)),
+    )
+
+decl_free : (answers : List Answered) (source : List ℕ) (items : List Item) (n i : ℕ) (r : RuleParts) → IsSound source items → slice_get items n ≡ Some (Rule r) → IsDeclAgain r.decls i → IsFree answers items (cut_decl n i r)
+decl_free answers source items n i r sound at again =
+    let w = decl_places source items n i r sound at again in
+    free_by_places answers items (cut_decl n i r) (MovesUp w.0 i) w.1
+
+-- it is a step
+pub decl_cut_is_step : (source : List ℕ) (items : List Item) (n i : ℕ) (r : RuleParts) → IsSound source items → slice_get items n ≡ Some (Rule r) → IsDeclAgain r.decls i → IsStep items (CutDecl n i) (cut_decl n i r)
+decl_cut_is_step source items n i r sound at again =
+    let w = decl_places source items n i r sound at again in
+    record {
+      rule = r;
+      rule_at = at;
+      part = inside r.decls i again.one again.one_at;
+      no_pair_goes = pairs_stay items (edited (cut_decl n i r) items) (MovesUp w.0 i) w.1;
+      is = refl;
+    }
 
 -- ---- A selector
 
@@ -278,16 +299,30 @@ module _ (before after : List Item) (r : RuleParts) (i : ℕ) (again : IsSelAgai
     kept = λ x y e. kept_alike before after r (without_sel r i) x.item ∙ ap (λ (z : Place). kept_before z.item fewer) e;
   }
 
-sel_free : (answers : List Answered) (source : List ℕ) (items : List Item) (n i : ℕ) (r : RuleParts) → IsSound source items → slice_get items n ≡ Some (Rule r) → IsSelAgain r.selectors i → IsFree answers items (cut_selector n i r)
-sel_free answers source items n i r sound at again =
+-- the places that are kept by a cut of a selector
+sel_places : (source : List ℕ) (items : List Item) (n i : ℕ) (r : RuleParts) → IsSound source items → slice_get items n ≡ Some (Rule r) → IsSelAgain r.selectors i →
+    KeepsPlaces items (edited (cut_selector n i r) items) (λ x y. x ≡ y)
+sel_places source items n i r sound at again =
     let rule : IsSoundRule source r = rule_sound source items n r sound at in
     let left : remove r.selectors i ≢ [] = some_left r.selectors i again.place again.other again.other_at again.elsewhere in
     let by : rule_or_none (without_sel r i) ≡ Rule (without_sel r i) ∷ [] = left_is (remove r.selectors i) r.decls (without_sel r i) left rule.has_declarations in
     let p : OneInParts items (edited (cut_selector n i r) items) r (rule_or_none (without_sel r i)) = one_in_parts items n (rule_or_none (without_sel r i)) (whole_rule n r) r at in
     let new_is : edited (cut_selector n i r) items ≡ p.before ++ (Rule (without_sel r i) ∷ p.after) = p.new_is ∙ ap (λ (xs : List Item). p.before ++ (xs ++ p.after)) by in
-    free_by_places answers items (cut_selector n i r) (λ x y. x ≡ y)
-    (subst (λ (xs : List Item). KeepsPlaces xs (edited (cut_selector n i r) items) (λ x y. x ≡ y)) (sym p.old_is)
-    (subst (λ (xs : List Item). KeepsPlaces (p.before ++ (Rule r ∷ p.after)) xs (λ x y. x ≡ y)) (sym new_is) (sel_keeps p.before p.after r i again)))
+    subst (λ (xs : List Item). KeepsPlaces xs (edited (cut_selector n i r) items) (λ x y. x ≡ y)) (sym p.old_is)
+    (subst (λ (xs : List Item). KeepsPlaces (p.before ++ (Rule r ∷ p.after)) xs (λ x y. x ≡ y)) (sym new_is) (sel_keeps p.before p.after r i again))
+
+sel_free : (answers : List Answered) (source : List ℕ) (items : List Item) (n i : ℕ) (r : RuleParts) → IsSound source items → slice_get items n ≡ Some (Rule r) → IsSelAgain r.selectors i → IsFree answers items (cut_selector n i r)
+sel_free answers source items n i r sound at again = free_by_places answers items (cut_selector n i r) (λ x y. x ≡ y) (sel_places source items n i r sound at again)
+
+-- it is a step
+pub sel_cut_is_step : (source : List ℕ) (items : List Item) (n i : ℕ) (r : RuleParts) → IsSound source items → slice_get items n ≡ Some (Rule r) → IsSelAgain r.selectors i → IsStep items (CutSel n i) (cut_selector n i r)
+sel_cut_is_step source items n i r sound at again = record {
+  rule = r;
+  rule_at = at;
+  part = inside r.selectors i again.one again.one_at;
+  no_pair_goes = pairs_stay items (edited (cut_selector n i r) items) (λ x y. x ≡ y) (sel_places source items n i r sound at again);
+  is = refl;
+}
 
 -- ---- Both
 

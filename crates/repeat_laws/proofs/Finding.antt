@@ -1,5 +1,5 @@
 -- A part that is found among those after it, or before it, is in the list again.
-use Rattle.std.proofs.Common.{◌≡◌, ◌≢◌, ◌⊎◌, ℕ, zero, suc, ◌<◌, true, List, [], ◌∷◌, drop, map, take, Some, None, refl, ap, inl, inr, ◌∙◌, arith}
+use Rattle.std.proofs.Common.{◌≡◌, ◌⊎◌, ℕ, zero, suc, ◌<◌, true, List, [], ◌∷◌, drop, map, take, Some, None, refl, ap, inl, inr, ◌∙◌, arith}
 use Rattle.std.specs.Prelude.{slice_get}
 use Rattle.std.specs.List.{Contains}
 use Rattle.css_model.specs.declared.sheet.DeclItem.{DeclItem}
@@ -12,13 +12,13 @@ use Rattle.repeat_laws.specs.Repeats.{IsDeclAgain, IsSelAgain}
 -- ---- Where a part of some text or selector is
 
 -- an element whose part is this one is in the list
-record IsFound {X Y : Type 0} (part : X → Y) (xs : List X) (y : Y) : Type 0 where
-  number : ℕ
-  item : X
-  at : slice_get xs number ≡ Some item
-  is : part item ≡ y
+pub record IsFound {X Y : Type 0} (part : X → Y) (xs : List X) (y : Y) : Type 0 where
+  pub number : ℕ
+  pub item : X
+  pub at : slice_get xs number ≡ Some item
+  pub is : part item ≡ y
 
-found : {X Y : Type 0} (part : X → Y) (xs : List X) (y : Y) → Contains (map part xs) y → IsFound part xs y
+pub found : {X Y : Type 0} (part : X → Y) (xs : List X) (y : Y) → Contains (map part xs) y → IsFound part xs y
 found part [] y h = absurd (Contains-nil y h)
 found part (x ∷ xs) y h = which (found part xs y) (Contains-cons_cases (part x) (map part xs) y h)
   where

@@ -1,7 +1,7 @@
 -- Two sheets in which pairs stand in the same order: what is not reversed.
-use Rattle.std.proofs.Common.{◌≡◌, ◌⊎◌, ℕ, ◌<◌, ◌≤◌, List, sym, subst, inl, inr, ◌∙◌, arith}
+use Rattle.std.proofs.Common.{◌≡◌, ◌⊎◌, ℕ, ◌≤◌, List, sym, subst, inl, inr, ◌∙◌, arith}
 use Rattle.css_model.specs.declared.sheet.Item.{Item}
-use Rattle.css_model.specs.Cascade.Order.{IsBefore, IsBeforeKept, IsLast, IsPairAt, Pair}
+use Rattle.css_model.specs.Cascade.Order.{HasPair, IsBefore, IsBeforeKept, IsLast, IsPairAt, Pair}
 use Rattle.css_model.specs.Cascade.Winner.{IsLater, Place}
 use Rattle.css_model.specs.Sheets.KeptItems.{kept_before}
 use Rattle.order_laws.specs.Edits.{Edit, edited}
@@ -100,6 +100,14 @@ module _ (items new : List Item) (T : Place → Place → Type 0) (keeps : Keeps
   kept_back p number b =
       let x = last_back p b.place b.stands in
       record { place = x.place; stands = x.last; before = subst (λ (n : ℕ). n ≤ number) (sym (keeps.kept x.place b.place x.became)) b.before }
+
+-- no pair goes where places are kept
+pub pairs_stay : (items new : List Item) (T : Place → Place → Type 0) → KeepsPlaces items new T → (p : Pair) → HasPair items p → HasPair new p
+pairs_stay items new T keeps p has = which (keeps.there p has.0 has.1)
+  where
+    which : Stays new T p has.0 ⊎ StaysLater items new T p has.0 → HasPair new p
+    which (inl s) = (s.place, s.stands)
+    which (inr s) = (s.stays.place, s.stays.stands)
 
 -- an edit that keeps the places of a sheet is free
 pub free_by_places : (answers : List Answered) (items : List Item) (e : Edit) (T : Place → Place → Type 0) → KeepsPlaces items (edited e items) T → IsFree answers items e

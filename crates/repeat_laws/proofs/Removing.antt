@@ -1,7 +1,13 @@
 -- What stands where in a list from which one element was removed.
-use Rattle.std.proofs.Common.{◌≡◌, ◌≢◌, ◌⊎◌, ℕ, zero, suc, ◌<◌, List, [], ◌∷◌, Some, None, refl, ap, inl, inr, arith}
+use Rattle.std.proofs.Common.{◌≡◌, ◌≢◌, ◌⊎◌, ℕ, zero, suc, ◌<◌, List, [], ◌∷◌, length, Some, None, refl, ap, inl, inr, arith}
 use Rattle.std.specs.Prelude.{slice_get}
 use Rattle.std.specs.List.{remove}
+
+-- an element that is there has a place
+pub inside : {X : Type 0} (xs : List X) (i : ℕ) (x : X) → slice_get xs i ≡ Some x → i < length xs
+inside [] i x at = absurd (let e : None ≡ Some x = at in cc)
+inside (y ∷ xs) zero x at = omega arith
+inside (y ∷ xs) (suc i) x at = let less = inside xs i x at in omega (arith, less)
 
 -- the place of another element before and after
 abbrev pub Shifts : (i p q : ℕ) → Type 0

@@ -1,8 +1,7 @@
-use Rattle.std.proofs.Common.{◌≡◌, ◌+◌, ◌<◌, ◌≤◌, List, length, false, sym, ap, ◌∙◌, subst}
+use Rattle.std.proofs.Common.{◌≡◌, ◌+◌, ◌<◌, List, false, sym, ◌∙◌, subst}
 use Rattle.std.specs.Prelude.{IfSome}
 use Rattle.std.specs.List.{Contains}
-use Rattle.pending_laws.specs.Candidates as pending
-use Rattle.planner.proofs.Followed.{alone_followed, is_followed, lighter, others_later, others_candidate}
+use Rattle.planner.proofs.Followed.{is_followed, others_later, others_candidate}
 use Rattle.planner.proofs.Results.{on_ok}
 use Rattle.planner.proofs.following.follow.Goals as goal
 use Rattle.step_queue.specs.declared.candidate.Candidate.{Candidate}

@@ -1,0 +1,4 @@
+mod Led
+mod Marking
+mod OneRule
+mod Ran

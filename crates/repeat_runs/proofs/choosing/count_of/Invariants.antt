@@ -1,0 +1,13 @@
+use Rattle.std.proofs.Common.{◌≡◌, ◌+◌, ◌≤◌, length}
+use Rattle.repeat_runs.proofs.choosing.count_of.Given as goal
+use Rattle.run_laws.specs.Marks.{count_of}
+
+-- those of the rest and those that were counted
+abbrev pub invariant-rest : goal.invariant-rest
+invariant-rest l = record {
+  counted : l.count + count_of l.mark l.rest ≡ count_of l.mark l.marks;
+  few : l.count + length l.rest ≤ length l.marks;
+}
+
+abbrev pub decreases-rest : goal.decreases-rest
+decreases-rest l = length l.rest

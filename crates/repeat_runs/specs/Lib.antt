@@ -1,0 +1,3 @@
+pub mod OneRule
+pub mod Running
+pub mod Seen
