@@ -1,38 +1,14 @@
 -- The steps of a rule with others that tables find by their order keys.
-use Rattle.std.proofs.Common.{◌≡◌, ◌≢◌, ◌⊎◌, ℕ, ◌<◌, ◌≤◌, List, [], ◌∷◌, Option, Some, length, map, refl, sym, ap, subst, inl, inr, ◌∙◌, arith}
-use Rattle.std.specs.Prelude.{slice_get}
-use Rattle.std.specs.List.{Contains}
-use Rattle.std.proofs.lemmas.Bool.{cases_lt}
-use Rattle.std.proofs.lemmas.Option.{slice_get_within}
-use Rattle.css_model.specs.declared.sheet.Decl.{Decl}
-use Rattle.css_model.specs.declared.sheet.DeclItem.{DeclItem}
-use Rattle.css_model.specs.declared.sheet.Item.{Item}
-use Rattle.css_model.specs.declared.sheet.Item.TheVariants.{Rule}
-use Rattle.css_model.specs.Sheets.RuleParts.{RuleParts}
-use Rattle.list_facts.proofs.Members.{Contains-here}
-use Rattle.order_laws.specs.Edits.{Edit}
-use Rattle.indexed_sheet.specs.IndexedParts.{IndexedParts}
-use Rattle.indexed_sheet.specs.declared.marks.Mark.{Mark}
+use Rattle.next_step.proofs.Words.{AreMarks, Contains, Contains-here, CoversIn, CutDecl, CutSel, Decl, DeclItem, Edit, FoundParts, IndexedParts, IsByDecls, IsOfTwo, IsOrderKeyAt, IsOwner, IsPlannable, IsStep, IsWith, Item, JoinDeclDown, JoinDeclUp, JoinSelDown, JoinSelUp, List, Mark, Option, Owner, Rule, RuleParts, Share, Some, Step, View, [], ap, arith, cases_lt, first_item, first_rule, inl, inr, last_item, last_rule, length, map, order_keys_of, refl, rules_of, slice_get, slice_get_within, subst, sym, with_order_key, ℕ, ◌<◌, ◌∙◌, ◌∷◌, ◌≡◌, ◌≢◌, ◌≤◌, ◌⊎◌}
 use Rattle.indexed_sheet.specs.Facts.{HasOwnDecls}
-use Rattle.indexed_sheet.specs.MarkList.{AreMarks, IsOrderKeyAt, order_keys_of}
-use Rattle.plan_laws.specs.Plannable.{IsPlannable}
 use Rattle.rule_tables.specs.StepPartners.{RulesAreOrderKeyed}
-use Rattle.rule_tables.specs.Tables.{Cover, OrderKeyed, with_order_key}
+use Rattle.rule_tables.specs.Tables.{Cover, OrderKeyed}
 use Rattle.step_laws.proofs.ForCallers.{rule_sound}
-use Rattle.step_laws.specs.declared.step.Step.{Step}
-use Rattle.step_laws.specs.declared.step.Step.TheVariants.{CutDecl, CutSel, JoinSelUp, JoinSelDown, JoinDeclUp, JoinDeclDown, Share}
-use Rattle.step_laws.specs.Steps.{HaveSameDecls, IsStep, decls_of, first_item, last_item}
-use Rattle.step_savings.proofs.ForCallers.{first_rule, last_rule}
+use Rattle.step_laws.specs.Steps.{HaveSameDecls, decls_of}
 use Rattle.next_step.specs.Halves.{AreAbove, AreBelow}
-use Rattle.next_step.specs.Kinds.{IsByDecls}
-use Rattle.next_step.specs.Looking.{FoundParts, IsWith}
-use Rattle.next_step.specs.Marked.{rules_of}
-use Rattle.next_step.specs.Viewed.{CoversIn, IsOwner, IsView}
-use Rattle.next_step.specs.declared.view.Owner.{Owner}
-use Rattle.next_step.specs.declared.view.View.{View}
+use Rattle.next_step.specs.Viewed.{IsView}
 use Rattle.next_step.proofs.Owned.{order_of, partner_above, partner_below, partner_itself}
 use Rattle.next_step.proofs.Telling.{mark_there, same_order_key, there_of}
-use Rattle.plan_laws.specs.Barrier.Renumbering.{IsOfTwo}
 
 -- ---- The other item of a step
 

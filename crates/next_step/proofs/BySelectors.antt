@@ -1,32 +1,11 @@
 -- Other rules with the selectors of a rule, by their order keys.
-use Rattle.std.proofs.Common.{◌≡◌, ◌≢◌, ◌⊎◌, ℕ, ◌<◌, List, [], ◌∷◌, Some, length, map, refl, sym, ap, subst, inl, inr, ◌∙◌, arith}
-use Rattle.std.specs.Prelude.{slice_get}
-use Rattle.std.specs.List.{Contains}
-use Rattle.std.proofs.lemmas.Option.{slice_get_within}
-use Rattle.css_model.specs.declared.sheet.Item.{Item}
-use Rattle.css_model.specs.declared.sheet.Item.TheVariants.{Rule}
-use Rattle.css_model.specs.declared.sheet.SelItem.{SelItem}
-use Rattle.css_model.specs.Documents.SelectorParts.{SelectorParts}
-use Rattle.css_model.specs.Sheets.RuleParts.{RuleParts}
+use Rattle.next_step.proofs.Words.{AreMarks, Contains, Contains-here, CoversIn, CutDecl, CutSel, Edit, FoundParts, IsOwner, IsPlannable, IsSelectorJoin, IsStep, Item, JoinDeclDown, JoinDeclUp, JoinSelDown, JoinSelUp, List, Mark, Owner, Rule, RuleParts, SelItem, SelectorParts, Share, Some, Step, View, [], ap, arith, first_item, inl, inr, last_item, length, map, refl, rules_of, slice_get, slice_get_within, subst, sym, with_order_key, ℕ, ◌<◌, ◌∙◌, ◌∷◌, ◌≡◌, ◌≢◌, ◌⊎◌}
 use Rattle.css_model.specs.Sheets.StyleRule.{HaveSameSelectors, selectors_of}
-use Rattle.list_facts.proofs.Members.{Contains-here}
-use Rattle.order_laws.specs.Edits.{Edit}
-use Rattle.indexed_sheet.specs.declared.marks.Mark.{Mark}
 use Rattle.indexed_sheet.specs.Facts.{HasOwnSelectors}
-use Rattle.indexed_sheet.specs.MarkList.{AreMarks}
-use Rattle.plan_laws.specs.Plannable.{IsPlannable}
 use Rattle.rule_tables.specs.StepPartners.{RulesAreOrderKeyed}
-use Rattle.rule_tables.specs.Tables.{Cover, OrderKeyed, with_order_key}
+use Rattle.rule_tables.specs.Tables.{Cover, OrderKeyed}
 use Rattle.step_laws.proofs.ForCallers.{rule_sound}
-use Rattle.step_laws.specs.declared.step.Step.{Step}
-use Rattle.step_laws.specs.declared.step.Step.TheVariants.{CutDecl, CutSel, JoinSelUp, JoinSelDown, JoinDeclUp, JoinDeclDown, Share}
-use Rattle.step_laws.specs.Steps.{IsStep, first_item, last_item}
-use Rattle.next_step.specs.Kinds.{IsSelectorJoin}
-use Rattle.next_step.specs.Looking.{FoundParts}
-use Rattle.next_step.specs.Marked.{rules_of}
-use Rattle.next_step.specs.Viewed.{CoversIn, IsOwner, IsView}
-use Rattle.next_step.specs.declared.view.Owner.{Owner}
-use Rattle.next_step.specs.declared.view.View.{View}
+use Rattle.next_step.specs.Viewed.{IsView}
 use Rattle.next_step.proofs.ByOrderKeys.{AreOfStep, HasOther, is_order_keyed, other_order_key, other_of}
 use Rattle.next_step.proofs.Owned.{order_of}
 use Rattle.next_step.proofs.Rules.{one_rule}

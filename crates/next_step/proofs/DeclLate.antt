@@ -1,27 +1,5 @@
 -- Steps by declarations that come too late, by the order keys of their items.
-use Rattle.std.proofs.Common.{◌≡◌, ◌⊎◌, ℕ, ◌<◌, ◌≤◌, List, ◌∷◌, Option, Some, refl, sym, subst, inl, inr, ◌∙◌, arith}
-use Rattle.std.specs.Prelude.{IfSome, slice_index}
-use Rattle.std.specs.List.{Contains}
-use Rattle.std.specs.List.Sorted.{IsStrictlyIncreasing}
-use Rattle.step_kinds.specs.declared.kind.Kind.TheVariants.{DeclJoinUp}
-use Rattle.step_kinds.specs.StepsByKind.{kind_of, step_of_kind}
-use Rattle.list_facts.proofs.Members.{Contains-here}
-use Rattle.order_laws.specs.Edits.{Edit}
-use Rattle.indexed_sheet.specs.IndexedParts.{IndexedParts}
-use Rattle.indexed_sheet.specs.declared.marks.Mark.{Mark}
-use Rattle.indexed_sheet.specs.MarkList.{AreMarks, order_keys_of}
-use Rattle.step_laws.specs.declared.step.Step.{Step}
-use Rattle.step_laws.specs.declared.step.Step.TheVariants.{CutDecl, CutSel, JoinSelUp, JoinSelDown, JoinDeclUp, JoinDeclDown, Share}
-use Rattle.step_laws.specs.Sizes.{Saves}
-use Rattle.step_laws.specs.Steps.{IsStep, first_item, last_item}
-use Rattle.next_step.specs.Kinds.{IsByDecls}
-use Rattle.next_step.specs.Late.{ByDeclsSaveAtMost, IsFrom, IsLate}
-use Rattle.next_step.specs.LaterOrderKeys.{AreLateFrom}
-use Rattle.next_step.specs.Looking.{FoundParts, IsWith}
-use Rattle.next_step.specs.Once.{DeclsStandOnce}
-use Rattle.next_step.specs.Viewed.{CoversIn, IsOwner}
-use Rattle.next_step.specs.declared.view.Owner.{Owner}
-use Rattle.next_step.specs.declared.view.View.{View}
+use Rattle.next_step.proofs.Words.{AreLateFrom, AreMarks, ByDeclsSaveAtMost, Contains, Contains-here, CoversIn, CutDecl, CutSel, DeclJoinUp, DeclsStandOnce, Edit, FoundParts, IfSome, IndexedParts, IsByDecls, IsFrom, IsLate, IsOwner, IsStep, IsStrictlyIncreasing, IsWith, JoinDeclDown, JoinDeclUp, JoinSelDown, JoinSelUp, List, Mark, Option, Owner, Saves, Share, Some, Step, View, arith, first_item, inl, inr, kind_of, last_item, order_keys_of, refl, slice_index, step_of_kind, subst, sym, ℕ, ◌<◌, ◌∙◌, ◌∷◌, ◌≡◌, ◌≤◌, ◌⊎◌}
 use Rattle.next_step.proofs.Later.{late_covers}
 use Rattle.next_step.proofs.LaterOrderKeys.{first_is_least, late_with}
 use Rattle.next_step.proofs.Owned.{order_of}

@@ -1,19 +1,16 @@
 -- Numbers that differ, and parts of a list that stand in it once.
-use Rattle.std.proofs.Common.{◌≡◌, ◌≢◌, ◌↔◌, ℕ, ◌+◌, ◌<◌, inl, inr, List, Some, length, map, get_or, sym, ap, subst, ◌∙◌, arith}
-use Rattle.std.specs.Prelude.{slice_get}
+use Rattle.next_step.proofs.Words.{AllPairs, Contains, IsFromIterResult, List, Some, StandOnce, ap, arith, cases_lt, get_or, inl, inr, length, map, nat_cmp, slice_get, slice_get_within, subst, sym, ℕ, ◌+◌, ◌<◌, ◌↔◌, ◌∙◌, ◌≡◌, ◌≢◌}
 use Rattle.std.specs.Bool.{Decides}
-use Rattle.std.specs.BTreeSet.{BTreeSet, IsFromIterResult}
+use Rattle.std.specs.BTreeSet.{BTreeSet}
 use Rattle.std.specs.Cmp.{IsEquivalence, eq_by_cmp_equiv, nat_cmp_total, unsigned_Decides, unsigned_ties}
-use Rattle.std.specs.List.{AllPairs, Contains, remove}
-use Rattle.std.specs.Ordering.{eq_by_cmp, nat_cmp}
+use Rattle.std.specs.List.{remove}
+use Rattle.std.specs.Ordering.{eq_by_cmp}
 use Rattle.std.specs.Set.{distinct_count}
-use Rattle.std.proofs.lemmas.Bool.{cases_lt}
 use Rattle.std.proofs.lemmas.List.{get_or-map, length-map}
 use Rattle.std.proofs.lemmas.List.Edits.{length-remove, get_or-remove_above, get_or-remove_below}
 use Rattle.std.proofs.lemmas.Map.Keys.{IsDistinct-from_sorted}
 use Rattle.std.proofs.lemmas.Map.Made.{AllPairs-from_IsDistinct, IsDistinct-from_AllPairs, IsDistinct-from_count, distinct_count-from_IsDistinct, length-from_keys}
-use Rattle.std.proofs.lemmas.Option.{get_or_from_slice_get, slice_get_within}
-use Rattle.next_step.specs.Once.{StandOnce}
+use Rattle.std.proofs.lemmas.Option.{get_or_from_slice_get}
 
 pub same_number : (x y : ℕ) → Decides (eq_by_cmp nat_cmp x y) (x ≡ y)
 same_number x y = subst (λ b. Decides b (x ≡ y)) (unsigned_ties x y) (unsigned_Decides x y)

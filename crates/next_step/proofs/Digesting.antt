@@ -1,20 +1,10 @@
 -- Rules without a common selector, by the digests of their selectors.
-use Rattle.std.proofs.Common.{◌≡◌, ℕ, List, Option, Some, map, sym, subst, ◌∙◌}
-use Rattle.std.specs.Prelude.{slice_get}
-use Rattle.std.specs.BTreeSet.{BTreeSet, IsFromIterResult}
-use Rattle.std.specs.List.{Contains}
-use Rattle.std.specs.Ordering.{nat_cmp}
-use Rattle.std.proofs.lemmas.Bool.{false≢true}
+use Rattle.next_step.proofs.Words.{Contains, IsFromIterResult, Item, List, Option, Rule, RuleParts, RulesApart, SelItem, SelectorParts, Some, false≢true, map, nat_cmp, selector_digest, slice_get, subst, sym, ℕ, ◌∙◌, ◌≡◌}
+use Rattle.std.specs.BTreeSet.{BTreeSet}
 use Rattle.std.proofs.lemmas.Map.Made.{is_member-Decides}
-use Rattle.css_model.specs.declared.sheet.Item.{Item}
-use Rattle.css_model.specs.declared.sheet.Item.TheVariants.{Rule}
-use Rattle.css_model.specs.declared.sheet.SelItem.{SelItem}
-use Rattle.css_model.specs.Documents.SelectorParts.{SelectorParts}
-use Rattle.css_model.specs.Sheets.RuleParts.{RuleParts}
 use Rattle.order_laws.proofs.ForCallers.{map_has, map_from}
-use Rattle.rule_tables.specs.Digests.{selector_digest}
 use Rattle.rule_tables.specs.Tables.{selector_digests}
-use Rattle.step_savings.specs.Apart.{AreApart, RulesApart}
+use Rattle.step_savings.specs.Apart.{AreApart}
 use Rattle.next_step.proofs.Differing.{same_number}
 use Rattle.next_step.specs.Digested.{HasNone, Tells}
 

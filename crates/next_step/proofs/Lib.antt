@@ -25,3 +25,4 @@ mod FromOrderKey
 mod StepParts
 mod Telling
 mod Weights
+mod Words

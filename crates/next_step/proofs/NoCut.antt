@@ -1,19 +1,8 @@
 -- Rules of which no part can be cut.
-use Rattle.std.proofs.Common.{◌≡◌, ℕ, zero, suc, ◌<◌, List, [], ◌∷◌, Some, length, map, get_or, refl, sym, subst, inl, arith}
-use Rattle.std.specs.Prelude.{slice_get}
-use Rattle.std.specs.List.{Contains, remove}
-use Rattle.std.proofs.lemmas.Option.{slice_get_within}
-use Rattle.css_model.specs.declared.sheet.Decl.{Decl}
-use Rattle.css_model.specs.declared.sheet.DeclItem.{DeclItem}
-use Rattle.css_model.specs.declared.sheet.Item.TheVariants.{Rule}
-use Rattle.list_facts.proofs.Members.{Contains-here, Contains-there}
-use Rattle.indexed_sheet.specs.IndexedParts.{IndexedParts}
-use Rattle.indexed_sheet.specs.declared.marks.Mark.{Mark}
+use Rattle.next_step.proofs.Words.{AreMarks, Contains, Contains-here, Contains-there, CutDecl, Decl, DeclItem, DeclsStandOnce, IndexedParts, List, Mark, Rule, Some, [], arith, get_or, inl, length, map, order_keys_of, refl, slice_get, slice_get_within, subst, suc, sym, zero, ℕ, ◌<◌, ◌∷◌, ◌≡◌}
+use Rattle.std.specs.List.{remove}
 use Rattle.indexed_sheet.specs.Facts.{HasNoCut}
-use Rattle.indexed_sheet.specs.MarkList.{AreMarks, order_keys_of}
 use Rattle.rule_tables.specs.Cutting.{DeclCutsAreTold}
-use Rattle.step_laws.specs.declared.step.Step.TheVariants.{CutDecl}
-use Rattle.next_step.specs.Once.{DeclsStandOnce}
 use Rattle.next_step.proofs.Telling.{mark_there, there_of, told}
 
 got_at : {X : Type 0} (xs : List X) (i : ℕ) (d : X) → i < length xs → slice_get xs i ≡ Some (get_or xs i d)

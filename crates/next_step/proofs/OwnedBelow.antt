@@ -1,27 +1,14 @@
 -- An item that was created before all below it owns no step with one of these.
-use Rattle.std.proofs.Common.{◌≡◌, ℕ, ◌<◌, ◌≤◌, Some, length, sym, ap, subst, inl, inr, ◌∙◌, arith}
-use Rattle.std.specs.Prelude.{slice_get, slice_index}
-use Rattle.std.proofs.lemmas.Option.{slice_get_within}
-use Rattle.css_model.specs.declared.sheet.Item.TheVariants.{Rule}
-use Rattle.css_model.specs.Sheets.RuleParts.{RuleParts}
+use Rattle.next_step.proofs.Words.{AreMarks, CoversIn, FoundParts, IsOfTwo, IsOwner, IsWith, Mark, Owner, Rule, RuleParts, Some, Step, View, ap, arith, first_item, first_rule, inl, inr, item_ids_of, last_item, last_rule, length, order_keys_of, slice_get, slice_get_within, slice_index, subst, sym, ℕ, ◌<◌, ◌∙◌, ◌≡◌, ◌≤◌}
 use Rattle.pending_laws.specs.ItemIds.{owner}
 use Rattle.pending_laws.specs.Scopes.{IsInScope}
 use Rattle.step_queue.specs.declared.candidate.Scope as coded
 use Rattle.step_queue.specs.declared.candidate.Scope.TheVariants as scopes
 use Rattle.step_queue.specs.Told.{scope_told}
-use Rattle.indexed_sheet.specs.declared.marks.Mark.{Mark}
-use Rattle.indexed_sheet.specs.MarkList.{AreMarks, IsOldestBelow, item_ids_of, order_keys_of}
-use Rattle.step_laws.specs.declared.step.Step.{Step}
-use Rattle.step_laws.specs.Steps.{first_item, last_item}
-use Rattle.step_savings.proofs.ForCallers.{first_rule, last_rule}
-use Rattle.next_step.specs.Looking.{FoundParts, IsWith}
-use Rattle.next_step.specs.Viewed.{CoversIn, IsOwner}
-use Rattle.next_step.specs.declared.view.Owner.{Owner}
-use Rattle.next_step.specs.declared.view.View.{View}
+use Rattle.indexed_sheet.specs.MarkList.{IsOldestBelow}
 use Rattle.next_step.proofs.Owned.{later_most, order_of}
 use Rattle.next_step.proofs.StepParts.{order_key_at}
 use Rattle.next_step.proofs.Telling.{item_id_at, in_order, order_key_index, mark_there}
-use Rattle.plan_laws.specs.Barrier.Renumbering.{IsOfTwo}
 
 module _ (v : View) (o : Owner) (is_owner : IsOwner v o) (found : FoundParts) (are : AreMarks v.indexed.now.marks v.indexed.now.next) (beside : length v.indexed.now.marks ≡ length v.indexed.now.items)
     (scope : v.after.now.scope ≡ scopes.Owned) (oldest : IsOldestBelow v.indexed.now.marks o.number) where

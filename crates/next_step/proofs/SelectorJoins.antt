@@ -1,32 +1,12 @@
 -- Joins by selectors: what they save at most, and that they come late.
-use Rattle.std.proofs.Common.{◌≡◌, ◌≤◌, ℕ, List, ◌∷◌, refl, sym, subst, inl, inr}
-use Rattle.std.specs.List.{Contains}
-use Rattle.std.specs.List.Sorted.{IsStrictlyIncreasing}
-use Rattle.css_model.specs.declared.sheet.Item.{Item}
-use Rattle.css_model.specs.Sheets.Sound.{IsSound}
+use Rattle.next_step.proofs.Words.{AreLateFrom, AreMarks, AreNotHeavier, Contains, Contains-here, CoversIn, CutDecl, CutSel, Edit, FoundParts, IsFrom, IsOfTwo, IsOwner, IsSelectorJoin, IsSound, IsStep, IsStrictlyIncreasing, IsWith, Item, JoinDeclDown, JoinDeclUp, JoinSelDown, JoinSelUp, List, Owner, Saves, SelJoinUp, Share, Step, View, first_item, inl, inr, kind_of, last_item, refl, step_of_kind, subst, sym, ℕ, ◌∷◌, ◌≡◌, ◌≤◌}
 use Rattle.step_queue.specs.declared.heaviest.Heaviest.{Heaviest}
-use Rattle.step_kinds.specs.declared.kind.Kind.TheVariants.{SelJoinUp}
-use Rattle.step_queue.specs.Heaviest.{AreNotHeavier}
-use Rattle.step_kinds.specs.StepsByKind.{kind_of, step_of_kind}
-use Rattle.list_facts.proofs.Members.{Contains-here}
-use Rattle.order_laws.specs.Edits.{Edit}
-use Rattle.indexed_sheet.specs.MarkList.{AreMarks}
-use Rattle.step_laws.specs.declared.step.Step.{Step}
-use Rattle.step_laws.specs.declared.step.Step.TheVariants.{CutDecl, CutSel, JoinSelUp, JoinSelDown, JoinDeclUp, JoinDeclDown, Share}
-use Rattle.step_laws.specs.Sizes.{Saves}
-use Rattle.step_laws.specs.Steps.{IsStep, first_item, last_item}
-use Rattle.next_step.specs.Kinds.{IsSelectorJoin}
-use Rattle.next_step.specs.Late.{IsFrom}
-use Rattle.next_step.specs.LaterOrderKeys.{AreAllOnOneSide, AreLateFrom}
-use Rattle.next_step.specs.Looking.{FoundParts, IsWith}
-use Rattle.next_step.specs.Viewed.{CoversIn, IsOwner, IsView}
-use Rattle.next_step.specs.declared.view.Owner.{Owner}
-use Rattle.next_step.specs.declared.view.View.{View}
+use Rattle.next_step.specs.LaterOrderKeys.{AreAllOnOneSide}
+use Rattle.next_step.specs.Viewed.{IsView}
 use Rattle.next_step.proofs.Later.{late_covers}
 use Rattle.next_step.proofs.LaterOrderKeys.{first_is_least, late_with}
 use Rattle.next_step.proofs.Telling.{order_key_index}
 use Rattle.next_step.proofs.Weights.{selectors_down, selectors_up}
-use Rattle.plan_laws.specs.Barrier.Renumbering.{IsOfTwo}
 
 pub joins_two : (k : Step) → IsSelectorJoin k → IsOfTwo k
 joins_two (CutDecl n i) join = join

@@ -1,9 +1,5 @@
-use Rattle.std.proofs.Common.{◌≡◌, ℕ, false, refl, sym, subst, ◌∙◌}
+use Rattle.next_step.proofs.Words.{SelItem, false, nat_cmp, nil_from_length, refl, selector_digest, subst, sym, ℕ, ◌∙◌, ◌≡◌}
 use Rattle.std.specs.BTreeSet.{contains}
-use Rattle.std.specs.Ordering.{nat_cmp}
-use Rattle.std.proofs.lemmas.List.{nil_from_length}
-use Rattle.css_model.specs.declared.sheet.SelItem.{SelItem}
-use Rattle.rule_tables.specs.Digests.{selector_digest}
 use Rattle.rule_tables.proofs.ForCallers.{all_done, none_done, one_done}
 use Rattle.next_step.proofs.apart.have_none.Goals as goal
 

@@ -1,8 +1,5 @@
-use Rattle.std.proofs.Common.{◌≡◌, false, length}
+use Rattle.next_step.proofs.Words.{SelItem, false, length, nat_cmp, selector_digest, ◌≡◌}
 use Rattle.std.specs.BTreeSet.{contains}
-use Rattle.std.specs.Ordering.{nat_cmp}
-use Rattle.css_model.specs.declared.sheet.SelItem.{SelItem}
-use Rattle.rule_tables.specs.Digests.{selector_digest}
 use Rattle.rule_tables.proofs.ForCallers.{AreDone}
 use Rattle.next_step.proofs.apart.have_none.Given as goal
 

@@ -1,6 +1,4 @@
-use Rattle.std.proofs.Common.{List, ap, subst, ◌∙◌}
-use Rattle.css_model.specs.declared.sheet.SelItem.{SelItem}
-use Rattle.css_model.specs.Sheets.RuleParts.{RuleParts}
+use Rattle.next_step.proofs.Words.{List, RuleParts, SelItem, ap, subst, ◌∙◌}
 use Rattle.next_step.specs.Digested.{HasNone}
 use Rattle.next_step.proofs.Digesting.{none_common}
 use Rattle.next_step.proofs.apart.is_apart.Goals as goal

@@ -1,8 +1,4 @@
-use Rattle.std.proofs.Common.{◌≡◌, List, Some, subst}
-use Rattle.std.specs.Prelude.{slice_get}
-use Rattle.css_model.specs.declared.sheet.Item.{Item}
-use Rattle.css_model.specs.declared.sheet.Item.TheVariants.{Rule}
-use Rattle.css_model.specs.Sheets.RuleParts.{RuleParts}
+use Rattle.next_step.proofs.Words.{Item, List, Rule, RuleParts, Some, slice_get, subst, ◌≡◌}
 use Rattle.step_savings.specs.Apart.{AreApart}
 use Rattle.next_step.proofs.Rules.{one_rule}
 use Rattle.next_step.proofs.apart.is_apart_there.Goals as goal

@@ -1,6 +1,5 @@
-use Rattle.std.proofs.Common.{◌≡◌, rules, nat_cmp, ap, ◌∙◌}
-use Rattle.std.specs.BTreeSet.{IsFromIterResult}
-use Rattle.css_model.specs.Sheets.RuleParts.{RuleParts}
+use Rattle.next_step.proofs.Words.{IsFromIterResult, RuleParts, ap, rules, ◌∙◌, ◌≡◌}
+use Rattle.std.proofs.Common.{nat_cmp}
 use Rattle.rule_tables.specs.Tables.{selector_digests}
 use Rattle.next_step.proofs.Digesting.{all_told}
 use Rattle.next_step.proofs.apart.told_digests.Goals as goal

@@ -1,12 +1,6 @@
-use Rattle.std.proofs.Common.{◌≡◌, ◌+◌, ◌<◌, ◌≤◌, ◌^◌, ℕ, Option, Some, None, sym, subst}
-use Rattle.std.specs.Prelude.{IfSome, SomeIff, slice_get}
-use Rattle.css_model.specs.declared.sheet.Item.TheVariants.{Rule}
-use Rattle.css_model.specs.Sheets.Printed.{printed_selector}
-use Rattle.css_model.specs.Sheets.RuleParts.{RuleParts}
-use Rattle.step_queue.specs.Heaviest.{AreNotHeavier}
+use Rattle.next_step.proofs.Words.{AreNotHeavier, ByDeclsSaveAtMost, IfSome, None, Option, Rule, RuleParts, Some, printed_selector, slice_get, subst, sym, weight, ℕ, ◌+◌, ◌<◌, ◌^◌, ◌≡◌, ◌≤◌}
+use Rattle.std.specs.Prelude.{SomeIff}
 use Rattle.step_queue.specs.RuleWeights.{WeighsAtMost}
-use Rattle.step_laws.specs.Sizes.{weight}
-use Rattle.next_step.specs.Late.{ByDeclsSaveAtMost}
 use Rattle.next_step.proofs.DeclWeights.{all_above, own_above}
 use Rattle.next_step.proofs.Telling.{there_of}
 use Rattle.next_step.proofs.by_declarations.most_above.Goals as goal

@@ -1,7 +1,5 @@
-use Rattle.std.proofs.Common.{◌+◌, ◌<◌, ◌^◌, ℕ, Option, Some, None, sym, subst}
-use Rattle.std.specs.Prelude.{IfSome, SomeIff}
-use Rattle.step_queue.specs.Heaviest.{AreNotHeavier}
-use Rattle.next_step.specs.Late.{ByDeclsSaveAtMost}
+use Rattle.next_step.proofs.Words.{AreNotHeavier, ByDeclsSaveAtMost, IfSome, None, Option, Some, subst, sym, ℕ, ◌+◌, ◌<◌, ◌^◌}
+use Rattle.std.specs.Prelude.{SomeIff}
 use Rattle.next_step.proofs.DeclWeights.{all_below, own_below}
 use Rattle.next_step.proofs.by_declarations.most_below.Goals as goal
 

@@ -1,8 +1,4 @@
-use Rattle.std.proofs.Common.{ℕ, length, ◌<◌}
-use Rattle.std.specs.List.{Contains}
-use Rattle.std.specs.List.Sorted.{IsStrictlyIncreasing}
-use Rattle.next_step.specs.Kinds.{IsByDecls}
-use Rattle.next_step.specs.Viewed.{Grows}
+use Rattle.next_step.proofs.Words.{Contains, Grows, IsByDecls, IsStrictlyIncreasing, length, ℕ, ◌<◌}
 use Rattle.next_step.proofs.LaterOrderKeys.{AreCovered}
 use Rattle.next_step.proofs.by_declarations.try_above.Given as goal
 

@@ -1,9 +1,4 @@
-use Rattle.std.proofs.Common.{ℕ, List, inr, sym, subst, ◌∙◌}
-use Rattle.std.specs.List.{Contains}
-use Rattle.std.specs.List.Sorted.{IsStrictlyIncreasing}
-use Rattle.std.proofs.lemmas.List.{nil_from_length}
-use Rattle.list_facts.proofs.Members.{Contains-there}
-use Rattle.next_step.specs.Kinds.{IsByDecls}
+use Rattle.next_step.proofs.Words.{Contains, Contains-there, IsByDecls, IsStrictlyIncreasing, List, inr, nil_from_length, subst, sym, ℕ, ◌∙◌}
 use Rattle.next_step.proofs.LaterOrderKeys.{ascends_behind, none_left, one_more, rest_covered}
 use Rattle.next_step.proofs.DeclLate.{rest_below}
 use Rattle.next_step.proofs.Looking.{grows_both, grows_itself}

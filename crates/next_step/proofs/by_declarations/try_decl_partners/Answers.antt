@@ -1,5 +1,4 @@
-use Rattle.next_step.specs.Kinds.{IsByDecls}
-use Rattle.next_step.specs.Viewed.{Grows}
+use Rattle.next_step.proofs.Words.{Grows, IsByDecls}
 use Rattle.next_step.proofs.ByOrderKeys.{by_halves}
 use Rattle.next_step.proofs.Looking.{grows_both, kept_covers}
 use Rattle.next_step.proofs.OwnedBelow.{none_with}

@@ -1,5 +1,4 @@
-use Rattle.std.proofs.Common.{◌≡◌, ℕ, ◌<◌, arith, subst}
-use Rattle.std.proofs.lemmas.Bool.{false≢true}
+use Rattle.next_step.proofs.Words.{arith, false≢true, subst, ℕ, ◌<◌, ◌≡◌}
 use Rattle.next_step.proofs.ByOrderKeys.{with_above, with_below, with_itself}
 use Rattle.next_step.proofs.DeclWeights.{own_apart}
 use Rattle.next_step.proofs.Digesting.{apart_turned}

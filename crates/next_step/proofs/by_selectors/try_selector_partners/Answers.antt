@@ -1,6 +1,4 @@
-use Rattle.std.proofs.Common.{inl, inr}
-use Rattle.next_step.specs.Kinds.{IsSelectorJoin}
-use Rattle.next_step.specs.Viewed.{Grows}
+use Rattle.next_step.proofs.Words.{Grows, IsSelectorJoin, inl, inr}
 use Rattle.next_step.proofs.ByOrderKeys.{by_halves}
 use Rattle.next_step.proofs.Looking.{grows_both, kept_covers}
 use Rattle.next_step.proofs.OwnedBelow.{none_with}

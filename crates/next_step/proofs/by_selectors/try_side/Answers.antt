@@ -1,9 +1,4 @@
-use Rattle.std.proofs.Common.{ℕ, List, sym, subst, inr}
-use Rattle.std.specs.List.{Contains}
-use Rattle.std.specs.List.Sorted.{IsStrictlyIncreasing}
-use Rattle.std.proofs.lemmas.List.{nil_from_length}
-use Rattle.list_facts.proofs.Members.{Contains-there}
-use Rattle.next_step.specs.Kinds.{IsSelectorJoin}
+use Rattle.next_step.proofs.Words.{Contains, Contains-there, IsSelectorJoin, IsStrictlyIncreasing, List, inr, nil_from_length, subst, sym, ℕ}
 use Rattle.next_step.proofs.LaterOrderKeys.{ascends_behind, none_left, one_more, rest_covered}
 use Rattle.next_step.proofs.Looking.{grows_both, grows_itself}
 use Rattle.next_step.proofs.SelectorJoins.{joins_are_late}

@@ -1,8 +1,4 @@
-use Rattle.std.proofs.Common.{ℕ, length}
-use Rattle.std.specs.List.{Contains}
-use Rattle.std.specs.List.Sorted.{IsStrictlyIncreasing}
-use Rattle.next_step.specs.Kinds.{IsSelectorJoin}
-use Rattle.next_step.specs.Viewed.{Grows}
+use Rattle.next_step.proofs.Words.{Contains, Grows, IsSelectorJoin, IsStrictlyIncreasing, length, ℕ}
 use Rattle.next_step.proofs.LaterOrderKeys.{AreCovered}
 use Rattle.next_step.proofs.by_selectors.try_side.Given as goal
 

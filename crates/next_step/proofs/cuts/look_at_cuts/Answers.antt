@@ -1,7 +1,4 @@
-use Rattle.std.proofs.Common.{subst}
-use Rattle.css_model.specs.declared.sheet.DeclItem.{DeclItem}
-use Rattle.css_model.specs.Sheets.RuleParts.{RuleParts}
-use Rattle.next_step.specs.Once.{StandOnce}
+use Rattle.next_step.proofs.Words.{DeclItem, RuleParts, StandOnce, subst}
 use Rattle.next_step.proofs.Rules.{one_rule}
 use Rattle.next_step.proofs.cuts.look_at_cuts.Goals as goal
 

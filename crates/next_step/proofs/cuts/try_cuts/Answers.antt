@@ -1,8 +1,4 @@
-use Rattle.std.proofs.Common.{length, refl, subst}
-use Rattle.css_model.specs.declared.sheet.SelItem.{SelItem}
-use Rattle.css_model.specs.Sheets.RuleParts.{RuleParts}
-use Rattle.step_laws.specs.declared.step.Step.TheVariants.{CutDecl}
-use Rattle.next_step.specs.Once.{StandOnce}
+use Rattle.next_step.proofs.Words.{CutDecl, RuleParts, SelItem, StandOnce, length, refl, subst}
 use Rattle.next_step.proofs.Looking.{all_cuts, grows_both, kept_covers, none_cut}
 use Rattle.next_step.proofs.Owned.{decl_inside, selector_inside}
 use Rattle.next_step.proofs.Rules.{one_rule}

@@ -1,7 +1,4 @@
-use Rattle.std.proofs.Common.{◌<◌, ◌≤◌, length, arith}
-use Rattle.std.proofs.lemmas.Bool.{false≢true}
-use Rattle.css_model.specs.Sheets.Limits.{max_bytes}
-use Rattle.step_laws.specs.declared.step.Step.TheVariants.{CutDecl}
+use Rattle.next_step.proofs.Words.{CutDecl, arith, false≢true, length, max_bytes, ◌<◌, ◌≤◌}
 use Rattle.next_step.proofs.Looking.{cut_more, grows_both, grows_itself, none_more}
 use Rattle.next_step.proofs.NamedSteps.{rule_is_small}
 use Rattle.next_step.proofs.cuts.try_decl_cuts.Goals as goal

@@ -1,7 +1,4 @@
-use Rattle.std.proofs.Common.{◌≡◌, ℕ, ◌<◌, false}
-use Rattle.step_laws.specs.declared.step.Step.TheVariants.{CutDecl}
-use Rattle.step_laws.specs.Steps.{HasStep}
-use Rattle.next_step.specs.Viewed.{CoversIn, Grows}
+use Rattle.next_step.proofs.Words.{CoversIn, CutDecl, Grows, HasStep, false, ℕ, ◌<◌, ◌≡◌}
 use Rattle.next_step.proofs.cuts.try_decl_cuts.Given as goal
 
 abbrev pub invariant-loop-decl : goal.invariant-loop-decl

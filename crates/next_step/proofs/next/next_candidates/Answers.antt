@@ -1,9 +1,4 @@
-use Rattle.std.proofs.Common.{◌≡◌, ◌<◌, ℕ, List, Some, subst, ◌∙◌}
-use Rattle.std.specs.Prelude.{slice_get}
-use Rattle.std.proofs.lemmas.Bool.{false≢true}
-use Rattle.css_model.specs.declared.sheet.Item.{Item}
-use Rattle.css_model.specs.declared.sheet.Item.TheVariants.{Rule}
-use Rattle.css_model.specs.Sheets.RuleParts.{RuleParts}
+use Rattle.next_step.proofs.Words.{Item, List, Rule, RuleParts, Some, false≢true, slice_get, subst, ℕ, ◌<◌, ◌∙◌, ◌≡◌}
 use Rattle.next_step.proofs.Owned.{no_order_key, no_rule, other_item_id}
 use Rattle.next_step.proofs.Telling.{item_id_at, order_key_within}
 use Rattle.next_step.proofs.next.next_candidates.Goals as goal

@@ -1,5 +1,5 @@
-use Rattle.std.proofs.Common.{rules, nat_cmp}
-use Rattle.std.specs.BTreeSet.{IsFromIterResult}
+use Rattle.next_step.proofs.Words.{IsFromIterResult, rules}
+use Rattle.std.proofs.Common.{nat_cmp}
 use Rattle.next_step.proofs.Differing.{as_many}
 use Rattle.next_step.proofs.cuts.doubles.are_different.Goals as goal
 

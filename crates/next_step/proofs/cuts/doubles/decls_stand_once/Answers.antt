@@ -1,8 +1,5 @@
-use Rattle.std.proofs.Common.{◌≡◌, ◌≢◌, ap, subst, ◌∙◌}
-use Rattle.std.specs.List.{AllPairs}
+use Rattle.next_step.proofs.Words.{AllPairs, DeclItem, RuleParts, ap, subst, ◌∙◌, ◌≡◌, ◌≢◌}
 use Rattle.std.proofs.lemmas.Result.{IfOk-weaker}
-use Rattle.css_model.specs.declared.sheet.DeclItem.{DeclItem}
-use Rattle.css_model.specs.Sheets.RuleParts.{RuleParts}
 use Rattle.rule_tables.specs.Digests.{decl_digest}
 use Rattle.rule_tables.specs.Tables.{decl_digests}
 use Rattle.next_step.proofs.Differing.{differ_by_digests}

@@ -1,9 +1,5 @@
-use Rattle.std.proofs.Common.{◌≡◌, ◌≢◌, ap, subst, ◌∙◌}
-use Rattle.std.specs.List.{AllPairs}
+use Rattle.next_step.proofs.Words.{AllPairs, RuleParts, SelItem, ap, selector_digest, subst, ◌∙◌, ◌≡◌, ◌≢◌}
 use Rattle.std.proofs.lemmas.Result.{IfOk-weaker}
-use Rattle.css_model.specs.declared.sheet.SelItem.{SelItem}
-use Rattle.css_model.specs.Sheets.RuleParts.{RuleParts}
-use Rattle.rule_tables.specs.Digests.{selector_digest}
 use Rattle.rule_tables.specs.Tables.{selector_digests}
 use Rattle.next_step.proofs.Differing.{differ_by_digests}
 use Rattle.next_step.proofs.cuts.doubles.selectors_stand_once.Goals as goal

@@ -1,9 +1,4 @@
-use Rattle.std.proofs.Common.{◌≡◌, List, Some, subst}
-use Rattle.std.specs.Prelude.{slice_get}
-use Rattle.css_model.specs.declared.sheet.SelItem.{SelItem}
-use Rattle.css_model.specs.declared.sheet.Item.{Item}
-use Rattle.css_model.specs.declared.sheet.Item.TheVariants.{Rule}
-use Rattle.indexed_sheet.specs.MarkList.{order_keys_of}
+use Rattle.next_step.proofs.Words.{Item, List, Rule, SelItem, Some, order_keys_of, slice_get, subst, ◌≡◌}
 use Rattle.next_step.proofs.Differing.{once_removed}
 use Rattle.next_step.proofs.Telling.{there_of, told}
 use Rattle.next_step.proofs.cuts.possible.can_cut_selector.Goals as goal

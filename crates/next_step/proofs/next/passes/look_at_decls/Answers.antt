@@ -1,7 +1,5 @@
-use Rattle.std.proofs.Common.{List, ℕ, sym, subst}
-use Rattle.std.specs.List.{Contains}
+use Rattle.next_step.proofs.Words.{Contains, IsByDecls, List, subst, sym, ℕ}
 use Rattle.indexed_sheet.specs.Facts.{HasOwnDecls}
-use Rattle.next_step.specs.Kinds.{IsByDecls}
 use Rattle.next_step.proofs.ByOrderKeys.{decls_two, order_key_by_decl, none_by_decls, own_by_order_key, pass_covers}
 use Rattle.next_step.proofs.next.passes.look_at_decls.Goals as goal
 

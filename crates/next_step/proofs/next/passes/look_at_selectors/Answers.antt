@@ -1,6 +1,4 @@
-use Rattle.std.proofs.Common.{List, ℕ, subst, sym}
-use Rattle.std.specs.List.{Contains}
-use Rattle.next_step.specs.Kinds.{IsSelectorJoin}
+use Rattle.next_step.proofs.Words.{Contains, IsSelectorJoin, List, subst, sym, ℕ}
 use Rattle.next_step.proofs.ByOrderKeys.{pass_covers}
 use Rattle.next_step.proofs.BySelectors.{order_key_by_selectors, none_by_selectors}
 use Rattle.next_step.proofs.Results.{on_ok}

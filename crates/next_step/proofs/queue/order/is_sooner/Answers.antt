@@ -1,5 +1,4 @@
-use Rattle.std.proofs.Common.{◌≡◌, arith}
-use Rattle.step_queue.specs.Told.{candidate_told}
+use Rattle.next_step.proofs.Words.{arith, candidate_told, ◌≡◌}
 use Rattle.next_step.proofs.Ranks.{ranked}
 use Rattle.next_step.proofs.queue.order.is_sooner.Goals as goal
 

@@ -1,11 +1,6 @@
-use Rattle.std.proofs.Common.{◌≡◌, ap, inl, refl, rules, true}
-use Rattle.std.specs.Prelude.{slice_index}
-use Rattle.indexed_sheet.specs.MarkList.{order_keys_of}
-use Rattle.step_laws.specs.declared.step.Step.TheVariants.{Share}
-use Rattle.next_step.specs.Looking.{FoundParts}
+use Rattle.next_step.proofs.Words.{FoundParts, Share, ap, inl, order_keys_of, priority_of, refl, rules, slice_index, true, ◌≡◌}
 use Rattle.next_step.proofs.DeclWeights.{share_once_most}
 use Rattle.next_step.proofs.Later.{found_late}
-use Rattle.plan_laws.specs.Barrier.Hindering.{priority_of}
 use Rattle.next_step.proofs.too_late.by_parts.share_is_late.Goals as goal
 
 pub returns : goal.returns
