@@ -24,7 +24,7 @@ pub use fault::{FaultKind, SheetFault};
 pub use features::Features;
 pub use limits::{
     MAX_BYTES, MAX_COMPOUNDS, MAX_DEPTH, MAX_ITEMS, MAX_PAIRS, MAX_SIMPLES, MAX_STEPPED,
-    limits_are_defined,
+    limits_are_defined, with_pairs_of,
 };
 pub use position::AnB;
 pub use reason::Reason;

@@ -3,10 +3,9 @@
 ghost use Rattle.std.specs.Prelude.{◌≡◌, ◌+◌, ◌-◌, ◌<◌, ◌≤◌, ℕ, Some, false, length, true};
 ghost use Rattle.css_model.specs.Sheets.ComesFrom.{pair_count};
 ghost use Rattle.css_model.specs.Sheets.Limits.{max_pairs};
-ghost use Rattle.css_model.specs.Sheets.Sheet.{pairs_of};
 ghost use Rattle.planner.specs.Working.{MayEnd, MayGoOn};
 
-use css_model::{Item, MAX_PAIRS, Sheet};
+use css_model::{Item, MAX_PAIRS, Sheet, with_pairs_of};
 use obstacles::Obstacles;
 use step_laws::Step;
 
@@ -40,20 +39,6 @@ pub(crate) fn steps_left<O: Obstacles>(obstacles: &O, work: Option<u32>) -> u32
     match work {
         Some(work) => (work as usize).saturating_sub(obstacles.held()) as u32,
         None => u32::MAX,
-    }
-}
-
-/// Returns so many pairs and those of an item, or the greatest number if they are more.
-fn with_pairs_of(pairs: u64, item: &Item) -> u64
-    ensures few { pairs + pairs_of item.now ≤ MAX_PAIRS → result ≡ pairs + pairs_of item.now }
-    ensures many { MAX_PAIRS < pairs + pairs_of item.now → MAX_PAIRS < result }
-{
-    match item {
-        Item::Rule(rule) => {
-            let more = (rule.selectors.len() as u64).saturating_mul(rule.decls.len() as u64);
-            pairs.saturating_add(more)
-        }
-        _ => pairs,
     }
 }
 

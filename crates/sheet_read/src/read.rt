@@ -1,6 +1,6 @@
 //! A style sheet from its bytes, or its fault.
 
-ghost use Rattle.std.specs.Prelude.{◌≡◌, ◌≤◌, ◌<◌, ◌+◌, ◌-◌, true, if◌then◌else◌, map, length, Ok, IfOk};
+ghost use Rattle.std.specs.Prelude.{◌≡◌, ◌≤◌, ◌<◌, ◌-◌, true, if◌then◌else◌, map, length, Ok, IfOk};
 ghost use Rattle.std.specs.Str.{IsAscii};
 ghost use Rattle.css_model.specs.declared.sheet.Item.TheVariants as kinds;
 ghost use Rattle.css_model.specs.declared.sheet.Piece.{Piece};
@@ -22,7 +22,7 @@ use crate::selectors::first_selectors;
 use crate::signs::piece_of;
 use css_model::{
     Decl, DeclItem, FaultKind, Item, KeptRule, Lexeme, MAX_BYTES, MAX_ITEMS, MAX_PAIRS, Piece,
-    Rule, SelItem, Sheet, SheetFault,
+    Rule, SelItem, Sheet, SheetFault, with_pairs_of,
 };
 use css_tokens::{is_named, tokens_cover};
 use sel_parse::SelError;
@@ -241,20 +241,6 @@ fn items_of(
         rest = behind;
     }
     Ok(items)
-}
-
-/// So many pairs and those of an item, or the greatest number where they are more.
-fn with_pairs_of(pairs: u64, item: &Item) -> u64
-    ensures few { pairs + spec.pairs_of item.now ≤ MAX_PAIRS → result ≡ pairs + spec.pairs_of item.now }
-    ensures many { MAX_PAIRS < pairs + spec.pairs_of item.now → MAX_PAIRS < result }
-{
-    match item {
-        Item::Rule(rule) => {
-            let more = (rule.selectors.len() as u64).saturating_mul(rule.decls.len() as u64);
-            pairs.saturating_add(more)
-        }
-        _ => pairs,
-    }
 }
 
 /// Where the pairs of a selector and a declaration become too many.
