@@ -1,7 +1,7 @@
 pub mod Apart
 pub mod EditPuts
 pub mod ForCallers
-pub mod JoinedMasks
+pub mod LeftMasks
 pub mod Learnt
 pub mod MarkLists
 pub mod MaskUnions

@@ -14,6 +14,8 @@ pub struct Facts {
     pub own_selectors: bool,
     /// No other rule has one of its declarations.
     pub own_decls: bool,
+    /// No other rule has one of its selectors together with one of its declarations, and each of its parts is in it once.
+    pub own_pairs: bool,
 }
 
 /// Returns facts that say nothing.
@@ -24,6 +26,7 @@ pub(crate) fn nothing() -> Facts
         no_cut: false,
         own_selectors: false,
         own_decls: false,
+        own_pairs: false,
     }
 }
 
@@ -35,6 +38,7 @@ pub(crate) fn by_both(one: Facts, other: Facts) -> Facts
         no_cut: one.no_cut && other.no_cut,
         own_selectors: one.own_selectors && other.own_selectors,
         own_decls: one.own_decls && other.own_decls,
+        own_pairs: one.own_pairs && other.own_pairs,
     }
 }
 
@@ -46,6 +50,7 @@ pub(crate) fn by_either(one: Facts, other: Facts) -> Facts
         no_cut: one.no_cut || other.no_cut,
         own_selectors: one.own_selectors || other.own_selectors,
         own_decls: one.own_decls || other.own_decls,
+        own_pairs: one.own_pairs || other.own_pairs,
     }
 }
 
@@ -87,6 +92,34 @@ pub(crate) fn learn(facts: &mut Vec<Facts>, item_id: u32, own: Facts) -> Result<
     Ok(())
 }
 
+/// Returns facts that say only that a rule has pairs of its own.
+pub(crate) fn of_own_pairs() -> Facts
+    ensures { result ≡ known.of_own_pairs }
+{
+    Facts {
+        no_cut: false,
+        own_selectors: false,
+        own_decls: false,
+        own_pairs: true,
+    }
+}
+
+/// Sets the facts about the rules of these item ids. All other facts stay.
+pub(crate) fn learn_each(
+    mut facts: Vec<Facts>,
+    from: u32,
+    to: u32,
+    own: Facts,
+) -> Result<Vec<Facts>, AllocError>
+    requires { from ≤ to }
+    ensures { IfOk result (λ new. known.AreLearntOfEach facts.items new.items from to own) }
+{
+    for item_id in from..to {
+        learn(&mut facts, item_id, own)?;
+    }
+    Ok(facts)
+}
+
 /// Returns the facts after `made`, if there is one, is set for the rule of this item id.
 pub(crate) fn learn_made(
     mut facts: Vec<Facts>,
@@ -99,4 +132,22 @@ pub(crate) fn learn_made(
         learn(&mut facts, item_id, own)?;
     }
     Ok(facts)
+}
+
+/// Returns the facts after a step that made the rules of these item ids: `made`, if there is one, is set for the first of them.
+/// If there is none and `own_pairs` says so, it is set for each that it has pairs of its own.
+pub(crate) fn learn_of_step(
+    facts: Vec<Facts>,
+    from: u32,
+    to: u32,
+    made: Option<Facts>,
+    own_pairs: bool,
+) -> Result<Vec<Facts>, AllocError>
+    requires { from ≤ to }
+    ensures { IfOk result (λ new. known.AreLearntOf facts.items new.items from to made own_pairs) }
+{
+    match made {
+        None if own_pairs => learn_each(facts, from, to, of_own_pairs()),
+        _ => learn_made(facts, from, made),
+    }
 }

@@ -7,18 +7,20 @@ ghost use Rattle.pending_laws.specs.declared.way.Way.{Way};
 ghost use Rattle.pending_laws.specs.Ways.{IsMove, mover};
 ghost use Rattle.item_masks.specs.Masks.{item_mask};
 ghost use Rattle.order_laws.specs.Edits.{Edit, edited};
-ghost use Rattle.indexed_sheet.specs.Facts.{AreTrueOf, AreTrueOfBoth};
+ghost use Rattle.indexed_sheet.specs.Facts.{AreTrueOf, AreTrueOfBoth, HasOwnPairs};
 ghost use Rattle.indexed_sheet.specs.MarkList.{AreMarks, IsOrderKeyAt, IsOldestBelow, LacksOrderKey, order_keys_of};
 ghost use Rattle.indexed_sheet.specs.Marking.{AreKept, HasOrderKeyFor};
-ghost use Rattle.step_laws.specs.Steps.{HasStep, IsStep};
+ghost use Rattle.step_laws.specs.Steps.{HasStep, IsStep, first_item, last_item};
 ghost use Rattle.step_savings.specs.Apart.{StepApart};
 
-use crate::facts::{Facts, by_both, by_either, facts_under, learn, learn_made, nothing};
+use crate::facts::{Facts, by_both, by_either, facts_under, learn, learn_of_step, nothing};
 use crate::marked::MarkedSheet;
 use crate::marks::Mark;
 use css_model::Sheet;
 use item_masks::ItemMask;
-use pending_laws::{Way, joined_has_no_cut, joined_has_own_parts, no_cut_comes, own_parts_stay};
+use pending_laws::{
+    Way, joined_has_no_cut, joined_has_own_parts, no_cut_comes, own_pairs_go_on, own_parts_stay,
+};
 use std::alloc::{AllocError, Global};
 use std::marker::Model;
 use step_laws::Step;
@@ -184,6 +186,15 @@ impl IndexedSheet {
         }
     }
 
+    /// Returns `true` only if each rule of a step is known to have pairs of its own.
+    fn are_pairs_own(&self, step: &Step) -> bool
+        ensures first { result ≡ true → HasOwnPairs self.now.items (first_item step.now) }
+        ensures last { result ≡ true → HasOwnPairs self.now.items (last_item step.now) }
+    {
+        let (first, last) = items_of(step);
+        self.facts(first).own_pairs && self.facts(last).own_pairs
+    }
+
     /// Returns `true` only if the rules of a step are known to have no selector in common.
     fn is_known_apart(&self, step: &Step) -> bool
         ensures { result ≡ true → StepApart self.now.items step.now }
@@ -211,12 +222,14 @@ impl IndexedSheet {
         own_parts_stay();
         joined_has_no_cut();
         joined_has_own_parts();
+        own_pairs_go_on();
         let known = self.facts_of_join(step);
+        let own_pairs = self.are_pairs_own(step);
         let apart = self.is_known_apart(step);
         let IndexedSheet { marked, facts } = self;
         let item_id = marked.next();
-        let facts = learn_made(facts, item_id, known)?;
         let marked = marked.take(alloc, step, apart)?;
+        let facts = learn_of_step(facts, item_id, marked.next(), known, own_pairs)?;
         Ok(IndexedSheet { marked, facts })
     }
 }

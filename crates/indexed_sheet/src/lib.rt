@@ -3,6 +3,7 @@
 
 mod facts;
 mod indexed;
+mod left_masks;
 mod marked;
 mod marks;
 mod parts;

@@ -10,7 +10,7 @@ ghost use Rattle.indexed_sheet.specs.Putting.{HaveNoneInCommon, items_in};
 ghost use Rattle.step_savings.specs.Apart.{AreApart};
 
 use css_model::{DeclItem, Rule, SelItem};
-use rule_parts::{has_decl, has_selector};
+use rule_parts::{copied_selectors, has_decl, has_selector};
 use std::alloc::{AllocError, Global};
 
 /// The rules that a step puts instead of one rule.
@@ -33,6 +33,39 @@ pub(crate) fn left_of(rule: Rule) -> Left
     } else {
         Left::One(rule)
     }
+}
+
+/// Returns the selectors of a rule, and what is left of it: the rule, or nothing if it has no selector or no declaration.
+/// The selectors are copied only if the rule is left.
+pub(crate) fn selectors_and_left(
+    alloc: Global,
+    rule: Rule,
+) -> Result<(Vec<SelItem>, Left), AllocError>
+    ensures selectors { IfOk result (λ r. r.0.items ≡ rule.selectors) }
+    ensures left { IfOk result (λ r. items_in r.1 ≡ parting.rule_or_none rule) }
+{
+    if rule.selectors.is_empty() || rule.decls.is_empty() {
+        let Rule { selectors, decls } = rule;
+        drop(decls);
+        return Ok((selectors, Left::Nothing));
+    }
+    let selectors = copied_selectors(alloc, &rule.selectors)?;
+    Ok((selectors, Left::One(rule)))
+}
+
+/// Returns the selectors, then copies of those of the others that are not among them.
+/// `apart` says that the two lists have no selector in common.
+pub(crate) fn with_copies(
+    alloc: Global,
+    selectors: Vec<SelItem>,
+    others: &[SelItem],
+    apart: bool,
+) -> Result<Vec<SelItem>, AllocError>
+    requires { apart ≡ true → HaveNoneInCommon selectors.items others.now }
+    ensures { IfOk result (λ all. all.items ≡ selectors.items ++ filter (λ s. not (members.has_selector selectors.items s.selector)) others.now) }
+{
+    let copies = copied_selectors(alloc, others)?;
+    all_selectors(alloc, selectors, copies, apart)
 }
 
 /// Returns a rule, and below it another one if that has a selector and a declaration.

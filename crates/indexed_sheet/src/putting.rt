@@ -3,15 +3,16 @@
 ghost use Rattle.std.specs.Prelude.{◌≡◌, ◌<◌, ◌+◌, ◌^◌, IfOk, IfSome, Some, length, map, slice_get, slice_set};
 ghost use Rattle.css_model.specs.declared.sheet.Item.TheVariants as item;
 ghost use Rattle.css_model.specs.Sheets.RuleParts.{RuleParts};
-ghost use Rattle.indexed_sheet.specs.JoinedMasks.{IsMaskOf};
+ghost use Rattle.indexed_sheet.specs.LeftMasks.{masks_in};
 ghost use Rattle.indexed_sheet.specs.Marking.{AreRenewed, HasOrderKeyBefore};
 ghost use Rattle.indexed_sheet.specs.Putting.{put_at, items_in, placeholder};
 ghost use Rattle.item_masks.specs.Masks.{item_mask};
 
+use crate::left_masks::LeftMasks;
 use crate::marked::MarkedSheet;
 use crate::parts::Left;
 use css_model::{Item, Piece, Rule, Sheet};
-use item_masks::{ItemMask, rule_mask};
+use item_masks::ItemMask;
 use std::alloc::AllocError;
 use std::mem;
 
@@ -39,42 +40,28 @@ fn lift_mask(masks: &mut Vec<ItemMask>, number: u32)
     };
 }
 
-/// Returns the mask of a rule, which may be known.
-fn mask_of(rule: &Rule, known: Option<ItemMask>) -> ItemMask
-    requires { IfSome known (λ m. m ≡ item_mask (item.Rule rule.now)) }
-    ensures { result ≡ item_mask (item.Rule rule.now) }
-{
-    match known {
-        Some(mask) => mask,
-        None => rule_mask(rule),
-    }
-}
-
 /// Puts the masks of what a step leaves instead of the one of this number.
-/// If it leaves one rule, its mask may be known.
 fn put_masks(
     mut masks: Vec<ItemMask>,
     number: u32,
-    left: &Left,
-    known: Option<ItemMask>,
+    left: LeftMasks,
 ) -> Result<Vec<ItemMask>, AllocError>
-    requires at { number < length masks.items }
-    requires known { IfSome known (IsMaskOf (items_in left.now)) }
-    ensures { IfOk result (λ new. new.items ≡ put_at number (map item_mask (items_in left.now)) masks.items) }
+    requires { number < length masks.items }
+    ensures { IfOk result (λ new. new.items ≡ put_at number (masks_in left) masks.items) }
 {
     let number = number as usize;
     match left {
-        Left::Nothing => {
+        LeftMasks::Nothing => {
             masks.remove(number);
             Ok(masks)
         }
-        Left::One(rule) => {
-            masks[number] = mask_of(rule, known);
+        LeftMasks::One(mask) => {
+            masks[number] = mask;
             Ok(masks)
         }
-        Left::Two(above, below) => {
-            masks[number] = rule_mask(below);
-            masks.insert(number, rule_mask(above))?;
+        LeftMasks::Two(above, below) => {
+            masks[number] = below;
+            masks.insert(number, above)?;
             Ok(masks)
         }
     }
@@ -131,17 +118,16 @@ impl MarkedSheet {
     }
 
     /// Returns the sheet with what a step leaves instead of the item of this number.
-    /// If it leaves one rule, its mask may be known.
     pub(crate) fn put(
         self,
         number: u32,
         left: Left,
-        known: Option<ItemMask>,
+        left_masks: LeftMasks,
     ) -> Result<MarkedSheet, AllocError>
         requires at { number < length self.items }
         requires room { 1 < length (items_in left) → (0 < number) × HasOrderKeyBefore self.marks number }
         requires item_ids { self.next + 2 < 2 ^ 32 }
-        requires known { IfSome known (IsMaskOf (items_in left)) }
+        requires masks { masks_in left_masks ≡ map item_mask (items_in left) }
         ensures items { IfOk result (λ b. b.items ≡ put_at number (items_in left) self.items) }
         ensures marks { IfOk result (λ b. AreRenewed self.marks b.marks self.next number (length (items_in left))) }
         ensures next { IfOk result (λ b. b.next ≡ self.next + length (items_in left)) }
@@ -153,7 +139,7 @@ impl MarkedSheet {
         } = self;
         let Sheet { items } = sheet;
         let marks = marks.put(number, &left)?;
-        let masks = put_masks(masks, number, &left, known)?;
+        let masks = put_masks(masks, number, left_masks)?;
         let items = put_items(items, number, left)?;
         let sheet = Sheet { items };
         Ok(MarkedSheet {

@@ -1,6 +1,6 @@
 //! Takes a step in a marked sheet.
 
-ghost use Rattle.std.specs.Prelude.{◌≡◌, ◌↔◌, ◌≤◌, ◌<◌, ◌+◌, ◌^◌, ◌∷◌, [], IfOk, IsTrue, length, true};
+ghost use Rattle.std.specs.Prelude.{◌≡◌, ◌↔◌, ◌≤◌, ◌<◌, ◌+◌, ◌^◌, ◌∷◌, [], IfOk, IsTrue, length, map, true};
 ghost use Rattle.std.specs.List.{remove};
 ghost use Rattle.pending_laws.specs.declared.way.Way.{Way};
 ghost use Rattle.pending_laws.specs.Ways.{IsMove, mover};
@@ -14,17 +14,21 @@ ghost use Rattle.css_model.specs.declared.sheet.Item.TheVariants as item;
 ghost use Rattle.step_laws.specs.StepEdits as kinds;
 ghost use Rattle.step_savings.specs.Apart.{AreApart, StepApart};
 ghost use Rattle.step_savings.specs.CutParts.{HasPart};
-ghost use Rattle.indexed_sheet.specs.JoinedMasks as masks;
+ghost use Rattle.indexed_sheet.specs.LeftMasks.{BothHaveSelectorsOf, CutHasSelectorsOf, masks_in};
+ghost use Rattle.item_masks.specs.Masks.{item_mask};
 
+use crate::left_masks::{
+    LeftMasks, masks_of, masks_of_joined, masks_of_rest, masks_of_shared, union,
+};
 use crate::marked::MarkedSheet;
 use crate::marks::Mark;
 use crate::parts::{
-    Left, above_left, joined_down, joined_up, left_of, widened_down, widened_up, without_decl,
-    without_decls, without_selector,
+    Left, above_left, joined_down, joined_up, selectors_and_left, widened_down, widened_up,
+    with_copies, without_decl, without_decls, without_selector,
 };
 use css_model::Rule;
 use item_masks::ItemMask;
-use rule_parts::shared;
+use rule_parts::common_decls;
 use std::alloc::{AllocError, Global};
 use step_laws::Step;
 use step_savings::items_of;
@@ -64,15 +68,27 @@ fn cut(step: &Step, rule: Rule) -> Left
 }
 
 /// Returns what a share leaves of its rules.
-fn share(alloc: Global, x: u32, upper: Rule, y: u32, lower: Rule) -> Result<Halves, AllocError>
+/// `apart` says that they have no selector in common.
+fn share(
+    alloc: Global,
+    x: u32,
+    upper: Rule,
+    y: u32,
+    lower: Rule,
+    apart: bool,
+) -> Result<Halves, AllocError>
+    requires apart { apart ≡ true → AreApart upper lower }
     ensures changes { IfOk result (λ h. (kinds.share x y upper lower).changes ≡ record { at = x; by = items_in h.above } ∷ record { at = y; by = items_in h.below } ∷ []) }
 {
-    let made = shared(alloc, &upper, &lower)?;
-    let above = left_of(without_decls(alloc, &made.decls, upper)?);
-    let rest = without_decls(alloc, &made.decls, lower)?;
+    let decls = common_decls(alloc, &upper, &lower)?;
+    let above = without_decls(alloc, &decls, upper)?;
+    let below = without_decls(alloc, &decls, lower)?;
+    let (selectors, above) = selectors_and_left(alloc, above)?;
+    let selectors = with_copies(alloc, selectors, &below.selectors, apart)?;
+    let made = Rule { selectors, decls };
     Ok(Halves {
         above,
-        below: above_left(made, rest),
+        below: above_left(made, below),
     })
 }
 
@@ -94,24 +110,43 @@ fn both_left(
         Step::JoinSelDown { .. } => Ok(down(joined_down(upper, lower)?)),
         Step::JoinDeclUp { .. } => Ok(up(widened_up(alloc, upper, lower, apart)?)),
         Step::JoinDeclDown { .. } => Ok(down(widened_down(alloc, upper, lower, apart)?)),
-        Step::Share { upper: x, lower: y } => share(alloc, x, upper, y, lower),
+        Step::Share { upper: x, lower: y } => share(alloc, x, upper, y, lower, apart),
         _ => unreachable!(),
     }
 }
 
-/// Returns the bits of both masks if the step is a join, or `None`.
-fn joined_mask(step: &Step, upper: ItemMask, lower: ItemMask) -> Option<ItemMask>
-    ensures { result ≡ masks.joined_mask step.now upper lower }
+/// Returns the masks of what a cut leaves of a rule with this mask.
+fn masks_of_cut(step: &Step, left: &Left, mask: ItemMask) -> LeftMasks
+    requires { CutHasSelectorsOf step.now (items_in left.now) mask }
+    ensures { masks_in result ≡ map item_mask (items_in left.now) }
 {
     match step {
-        Step::JoinSelUp { .. }
-        | Step::JoinSelDown { .. }
-        | Step::JoinDeclUp { .. }
-        | Step::JoinDeclDown { .. } => Some(ItemMask {
-            families: upper.families | lower.families,
-            selectors: upper.selectors | lower.selectors,
-        }),
-        _ => None,
+        Step::CutDecl { .. } => masks_of_rest(left, mask),
+        _ => masks_of(left),
+    }
+}
+
+/// Returns the masks of what a step of two rules with these masks leaves above and below.
+fn masks_of_both(
+    step: &Step,
+    left: &Halves,
+    upper: ItemMask,
+    lower: ItemMask,
+) -> (LeftMasks, LeftMasks)
+    requires { BothHaveSelectorsOf step.now (items_in left.now.above) (items_in left.now.below) upper lower }
+    ensures above { masks_in result.0 ≡ map item_mask (items_in left.now.above) }
+    ensures below { masks_in result.1 ≡ map item_mask (items_in left.now.below) }
+{
+    let both = union(upper, lower);
+    match step {
+        Step::Share { .. } => (
+            masks_of_rest(&left.above, upper),
+            masks_of_shared(&left.below, both, lower),
+        ),
+        _ => (
+            masks_of_joined(&left.above, both),
+            masks_of_joined(&left.below, both),
+        ),
     }
 }
 
@@ -160,9 +195,11 @@ impl MarkedSheet {
         ensures more { IfOk result (λ b. self.next ≤ b.next) }
         ensures few { IfOk result (λ b. b.next ≤ self.next + 4) }
     {
+        let mask = self.mask(number);
         let (indexed, rule) = self.lift(number);
         let left = cut(step, rule);
-        let after = indexed.put(number, left, None)?;
+        let masks = masks_of_cut(step, &left, mask);
+        let after = indexed.put(number, left, masks)?;
         Ok(after)
     }
 
@@ -190,13 +227,14 @@ impl MarkedSheet {
         ensures created { IfOk result (λ b. (way : Way) → IsMove way step.now → self.next < b.next) }
         ensures few { IfOk result (λ b. b.next ≤ self.next + 4) }
     {
-        let known = joined_mask(step, self.mask(upper), self.mask(lower));
+        let (upper_mask, lower_mask) = (self.mask(upper), self.mask(lower));
         let (lifted, above) = self.lift(upper);
         let (again, below) = lifted.lift(lower);
         let left = both_left(alloc, step, above, below, apart)?;
+        let (masks_above, masks_below) = masks_of_both(step, &left, upper_mask, lower_mask);
         let Halves { above, below } = left;
-        let between = again.put(lower, below, known)?;
-        let after = between.put(upper, above, known)?;
+        let between = again.put(lower, below, masks_below)?;
+        let after = between.put(upper, above, masks_above)?;
         Ok(after)
     }
 

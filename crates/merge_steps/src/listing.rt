@@ -30,6 +30,7 @@ fn seconds(items: &[Item], kind: Kind, first: u32) -> usize
 /// Puts the step of a kind and these numbers after those that come before, if the sheet has it.
 #[tactic(auto, using(crate::proofs::Rows::pushed, crate::proofs::Rows::skipped))]
 fn push_step(
+    alloc: Global,
     found: &mut Vec<Step>,
     sheet: &Sheet,
     kind: Kind,
@@ -40,7 +41,8 @@ fn push_step(
     ensures { OnOk result (listing.ListsTo sheet.now.items (kind_number kind) first (second + 1) found.new.items) }
 {
     let step = step_of(kind, first, second);
-    if is_step(sheet, &step) {
+    let is = is_step(alloc, sheet, &step)?;
+    if is {
         found.push(step)?;
     }
     Ok(())
@@ -48,7 +50,13 @@ fn push_step(
 
 /// Puts the steps of a kind and a first number after those that come before.
 #[tactic(auto, using(crate::proofs::Rows::seconds_few))]
-fn push_row(found: &mut Vec<Step>, sheet: &Sheet, kind: Kind, first: u32) -> Result<(), AllocError>
+fn push_row(
+    alloc: Global,
+    found: &mut Vec<Step>,
+    sheet: &Sheet,
+    kind: Kind,
+    first: u32,
+) -> Result<(), AllocError>
     requires few_items { length sheet.now.items ≤ max_items }
     requires few_parts { part_count sheet.now.items ≤ max_bytes }
     requires lists { listing.ListsTo sheet.now.items (kind_number kind) first 0 found.old.items }
@@ -56,14 +64,19 @@ fn push_row(found: &mut Vec<Step>, sheet: &Sheet, kind: Kind, first: u32) -> Res
 {
     let limit = seconds(&sheet.items, kind, first) as u32;
     for second in 0..limit {
-        push_step(found, sheet, kind, first, second)?;
+        push_step(alloc, found, sheet, kind, first, second)?;
     }
     Ok(())
 }
 
 #[tactic(auto, using(crate::proofs::Rows::kind_done))]
 /// Puts the steps of a kind after those of the kinds before.
-fn push_kind(found: &mut Vec<Step>, sheet: &Sheet, kind: Kind) -> Result<(), AllocError>
+fn push_kind(
+    alloc: Global,
+    found: &mut Vec<Step>,
+    sheet: &Sheet,
+    kind: Kind,
+) -> Result<(), AllocError>
     requires few_items { length sheet.now.items ≤ max_items }
     requires few_parts { part_count sheet.now.items ≤ max_bytes }
     requires lists { listing.ListsTo sheet.now.items (kind_number kind) 0 0 found.old.items }
@@ -72,7 +85,7 @@ fn push_kind(found: &mut Vec<Step>, sheet: &Sheet, kind: Kind) -> Result<(), All
     let items = sheet.items.as_slice();
     let limit = items.len() as u32;
     for first in 0..limit {
-        push_row(found, sheet, kind, first)?;
+        push_row(alloc, found, sheet, kind, first)?;
     }
     Ok(())
 }
@@ -88,12 +101,12 @@ pub fn steps(alloc: Global, sheet: &Sheet) -> Result<Vec<Step>, AllocError>
     ensures ascends { IfOk result (λ list. AllPairs StandsBefore list.items) }
 {
     let mut found = Vec::new(alloc);
-    push_kind(&mut found, sheet, Kind::DeclCut)?;
-    push_kind(&mut found, sheet, Kind::SelCut)?;
-    push_kind(&mut found, sheet, Kind::SelJoinUp)?;
-    push_kind(&mut found, sheet, Kind::SelJoinDown)?;
-    push_kind(&mut found, sheet, Kind::DeclJoinUp)?;
-    push_kind(&mut found, sheet, Kind::DeclJoinDown)?;
-    push_kind(&mut found, sheet, Kind::Sharing)?;
+    push_kind(alloc, &mut found, sheet, Kind::DeclCut)?;
+    push_kind(alloc, &mut found, sheet, Kind::SelCut)?;
+    push_kind(alloc, &mut found, sheet, Kind::SelJoinUp)?;
+    push_kind(alloc, &mut found, sheet, Kind::SelJoinDown)?;
+    push_kind(alloc, &mut found, sheet, Kind::DeclJoinUp)?;
+    push_kind(alloc, &mut found, sheet, Kind::DeclJoinDown)?;
+    push_kind(alloc, &mut found, sheet, Kind::Sharing)?;
     Ok(found)
 }

@@ -1,27 +1,14 @@
 //! Whether selectors and declarations are among those of a rule, and whether two rules have the same.
 
-ghost use Rattle.std.specs.Prelude.{◌≡◌, ◌↔◌, IsTrue, map};
-ghost use Rattle.std.specs.List.{list_all, list_any};
+ghost use Rattle.std.specs.Prelude.{◌≡◌, ◌↔◌, IfOk, IsTrue, map};
+ghost use Rattle.std.specs.List.{list_any};
 ghost use Rattle.css_model.specs.Sheets.StyleRule.{HaveSameSelectors};
 ghost use Rattle.order_laws.specs.Members as members;
 ghost use Rattle.step_laws.specs.Steps.{HaveSameDecls};
 
-use css_model::{DeclItem, Rule, SelItem};
-use rule_parts::{has_decl, has_selector, is_same_decl};
-
-/// Whether each of the selectors is among the others.
-fn are_selectors_among(items: &[SelItem], others: &[SelItem]) -> bool
-    ensures { result ≡ list_all (λ s. members.has_selector others.now s.selector) items.now }
-{
-    let mut rest = items;
-    'rest: while let Some((first, behind)) = rest.split_first() {
-        if !has_selector(others, &first.selector) {
-            return false;
-        }
-        rest = behind;
-    }
-    true
-}
+use css_model::{DeclItem, Rule};
+use rule_parts::{are_selectors_among, has_decl, is_same_decl};
+use std::alloc::{AllocError, Global};
 
 /// Whether some of the declarations is among the others.
 pub(crate) fn is_a_decl_among(items: &[DeclItem], others: &[DeclItem]) -> bool
@@ -38,13 +25,18 @@ pub(crate) fn is_a_decl_among(items: &[DeclItem], others: &[DeclItem]) -> bool
 }
 
 /// Whether two rules have the same set of selectors.
-pub(crate) fn have_same_selectors(upper: &Rule, lower: &Rule) -> bool
-    ensures { IsTrue result ↔ HaveSameSelectors upper.now lower.now }
+pub(crate) fn have_same_selectors(
+    alloc: Global,
+    upper: &Rule,
+    lower: &Rule,
+) -> Result<bool, AllocError>
+    ensures { IfOk result (λ same. IsTrue same ↔ HaveSameSelectors upper.now lower.now) }
 {
-    if !are_selectors_among(&upper.selectors, &lower.selectors) {
-        return false;
+    let among = are_selectors_among(alloc, &upper.selectors, &lower.selectors)?;
+    if !among {
+        return Ok(false);
     }
-    are_selectors_among(&lower.selectors, &upper.selectors)
+    are_selectors_among(alloc, &lower.selectors, &upper.selectors)
 }
 
 /// Whether two lists have the same declarations, in the same order.

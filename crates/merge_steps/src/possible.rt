@@ -1,6 +1,6 @@
 //! Whether a step is one of a sheet.
 
-ghost use Rattle.std.specs.Prelude.{◌≡◌, ◌↔◌, ◌<◌, IsTrue, Some, IfSome, IfNone, length, map, slice_get};
+ghost use Rattle.std.specs.Prelude.{◌≡◌, ◌↔◌, ◌<◌, IfOk, IsTrue, Some, IfSome, IfNone, length, map, slice_get};
 ghost use Rattle.std.specs.List.{Contains, list_all};
 ghost use Rattle.css_model.specs.declared.sheet.Decl as declared;
 ghost use Rattle.css_model.specs.declared.sheet.Item.TheVariants as item;
@@ -13,6 +13,7 @@ ghost use Rattle.step_laws.specs.Steps.{AreDeclsAmong, HasStep, MayShare, decls_
 use crate::members::{have_same_decls, have_same_selectors, is_a_decl_among};
 use css_model::{Decl, DeclItem, Item, MAX_ITEMS, Rule, SelItem, Selector, Sheet};
 use rule_parts::{are_decls_among, has_decl, has_selector};
+use std::alloc::{AllocError, Global};
 use step_laws::Step;
 
 /// Whether an item is a rule with this pair.
@@ -184,49 +185,64 @@ fn has_room(items: &[Item], upper: &Rule, lower: &Rule) -> bool
 }
 
 /// Whether two rules of a sheet of these items may share their common declarations.
-fn may_share(items: &[Item], upper: &Rule, lower: &Rule) -> bool
-    ensures { IsTrue result ↔ MayShare items.now upper.now lower.now }
+fn may_share(alloc: Global, items: &[Item], upper: &Rule, lower: &Rule) -> Result<bool, AllocError>
+    ensures { IfOk result (λ may. IsTrue may ↔ MayShare items.now upper.now lower.now) }
 {
     if have_same_decls(upper, lower) {
-        return false;
-    }
-    if have_same_selectors(upper, lower) {
-        return false;
+        return Ok(false);
     }
     if !have_common_decl(upper, lower) {
-        return false;
+        return Ok(false);
     }
-    has_room(items, upper, lower)
+    let same = have_same_selectors(alloc, upper, lower)?;
+    if same {
+        return Ok(false);
+    }
+    Ok(has_room(items, upper, lower))
 }
 
 /// Whether two rules may be joined so by a step of this kind, in a sheet of these items.
-fn may_join(items: &[Item], step: &Step, upper: &Rule, lower: &Rule) -> bool
-    ensures { IsTrue result ↔ MayJoin items.now step.now upper.now lower.now }
+fn may_join(
+    alloc: Global,
+    items: &[Item],
+    step: &Step,
+    upper: &Rule,
+    lower: &Rule,
+) -> Result<bool, AllocError>
+    ensures { IfOk result (λ may. IsTrue may ↔ MayJoin items.now step.now upper.now lower.now) }
 {
     match step {
-        Step::CutDecl { .. } | Step::CutSel { .. } => false,
-        Step::JoinSelUp { .. } | Step::JoinSelDown { .. } => have_same_selectors(upper, lower),
-        Step::JoinDeclUp { .. } | Step::JoinDeclDown { .. } => have_same_decls(upper, lower),
-        Step::Share { .. } => may_share(items, upper, lower),
+        Step::CutDecl { .. } | Step::CutSel { .. } => Ok(false),
+        Step::JoinSelUp { .. } | Step::JoinSelDown { .. } => {
+            have_same_selectors(alloc, upper, lower)
+        }
+        Step::JoinDeclUp { .. } | Step::JoinDeclDown { .. } => Ok(have_same_decls(upper, lower)),
+        Step::Share { .. } => may_share(alloc, items, upper, lower),
     }
 }
 
 /// Whether a step of two rules is one of a sheet of these items.
 #[tactic(auto, using(crate::proofs::Joins::join_is, crate::proofs::Joins::not_in_order, crate::proofs::Joins::no_upper, crate::proofs::Joins::no_lower))]
-fn can_join(items: &[Item], step: &Step, upper: u32, lower: u32) -> bool
+fn can_join(
+    alloc: Global,
+    items: &[Item],
+    step: &Step,
+    upper: u32,
+    lower: u32,
+) -> Result<bool, AllocError>
     requires first { upper ≡ first_item step.now }
     requires last { lower ≡ last_item step.now }
     requires join { IsJoinKind step.now }
-    ensures { IsTrue result ↔ HasStep items.now step.now }
+    ensures { IfOk result (λ can. IsTrue can ↔ HasStep items.now step.now) }
 {
     if upper >= lower {
-        return false;
+        return Ok(false);
     }
     match find_rule(items, upper) {
-        None => false,
+        None => Ok(false),
         Some(above) => match find_rule(items, lower) {
-            None => false,
-            Some(below) => may_join(items, step, above, below),
+            None => Ok(false),
+            Some(below) => may_join(alloc, items, step, above, below),
         },
     }
 }
@@ -250,18 +266,19 @@ fn can_cut(items: &[Item], step: &Step) -> bool
     }
 }
 
-/// Whether a step is one of a sheet. The time is that of a look at each pair that a cut takes and each item, and at
-/// each two parts of the rules of a join.
-pub fn is_step(sheet: &Sheet, step: &Step) -> bool
-    ensures { IsTrue result ↔ HasStep sheet.now.items step.now }
+/// Whether a step is one of a sheet. The time is that of a look at each pair that a cut takes and each item, at each two
+/// declarations of the rules of a join, and at their selectors. `Err(AllocError)` if memory is short: many selectors are
+/// compared as sets.
+pub fn is_step(alloc: Global, sheet: &Sheet, step: &Step) -> Result<bool, AllocError>
+    ensures { IfOk result (λ is. IsTrue is ↔ HasStep sheet.now.items step.now) }
 {
     let items = sheet.items.as_slice();
     match *step {
-        Step::CutDecl { .. } | Step::CutSel { .. } => can_cut(items, step),
+        Step::CutDecl { .. } | Step::CutSel { .. } => Ok(can_cut(items, step)),
         Step::JoinSelUp { upper, lower }
         | Step::JoinSelDown { upper, lower }
         | Step::JoinDeclUp { upper, lower }
         | Step::JoinDeclDown { upper, lower }
-        | Step::Share { upper, lower } => can_join(items, step, upper, lower),
+        | Step::Share { upper, lower } => can_join(alloc, items, step, upper, lower),
     }
 }

@@ -18,7 +18,7 @@ fn obstacle(
     step: &Step,
 ) -> Option<Obstacle> {
     let sheet = sheet(rt, alloc, source.as_bytes());
-    let is_step = is_step(&sheet, step);
+    let is_step = is_step(alloc, &sheet, step).expect(rt, "memory");
     assert!(rt; is_step, "{source}");
     let masks = item_masks(alloc, &sheet.items).expect(rt, "memory");
     obstacles

@@ -23,12 +23,12 @@ use step_obstacles::PairObstacles;
 const MANY: u32 = 1000;
 
 /// How many bytes a step of a sheet saves.
-fn saved(rt: &impl Abort, source: &[u8], sheet: &Sheet, step: &Step) -> i64
+fn saved(rt: &impl Abort, alloc: Global, source: &[u8], sheet: &Sheet, step: &Step) -> i64
     requires short { length source.now ≤ max_bytes }
     requires plannable { IsPlannable source.now sheet.now.items }
     ensures { HasStep sheet.now.items step.now }
 {
-    let is_step = is_step(sheet, step);
+    let is_step = is_step(alloc, sheet, step).expect(rt, "memory");
     assert!(rt; is_step);
     saving(sheet, source, step)
 }
@@ -70,7 +70,7 @@ fn next_step(
     let mut most = 0;
     let mut best = None;
     for step in &list {
-        let saved = saved(rt, source, sheet, step);
+        let saved = saved(rt, alloc, source, sheet, step);
         if saved > most && is_free(rt, obstacles, sheet, &masks, step) {
             most = saved;
             best = Some(*step);

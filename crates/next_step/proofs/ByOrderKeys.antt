@@ -1,14 +1,38 @@
 -- The steps of a rule with others that tables find by their order keys.
-use Rattle.next_step.proofs.Words.{AreMarks, Contains, Contains-here, CoversIn, CutDecl, CutSel, Decl, DeclItem, Edit, FoundParts, IndexedParts, IsByDecls, IsOfTwo, IsOrderKeyAt, IsOwner, IsPlannable, IsStep, IsWith, Item, JoinDeclDown, JoinDeclUp, JoinSelDown, JoinSelUp, List, Mark, Option, Owner, Rule, RuleParts, Share, Some, Step, View, [], ap, arith, cases_lt, first_item, first_rule, inl, inr, last_item, last_rule, length, map, order_keys_of, refl, rules_of, slice_get, slice_get_within, subst, sym, with_order_key, ℕ, ◌<◌, ◌∙◌, ◌∷◌, ◌≡◌, ◌≢◌, ◌≤◌, ◌⊎◌}
+use Rattle.std.proofs.Common.{◌≡◌, ◌≢◌, ◌⊎◌, ℕ, ◌<◌, ◌≤◌, List, [], ◌∷◌, Option, Some, length, map, refl, sym, ap, subst, inl, inr, ◌∙◌, arith}
+use Rattle.std.specs.Prelude.{slice_get}
+use Rattle.std.specs.List.{Contains}
+use Rattle.std.proofs.lemmas.Bool.{cases_lt}
+use Rattle.std.proofs.lemmas.Option.{slice_get_within}
+use Rattle.css_model.specs.declared.sheet.Decl.{Decl}
+use Rattle.css_model.specs.declared.sheet.DeclItem.{DeclItem}
+use Rattle.css_model.specs.declared.sheet.Item.{Item}
+use Rattle.css_model.specs.declared.sheet.Item.TheVariants.{Rule}
+use Rattle.css_model.specs.Sheets.RuleParts.{RuleParts}
+use Rattle.list_facts.proofs.Members.{Contains-here}
+use Rattle.order_laws.specs.Edits.{Edit}
+use Rattle.indexed_sheet.specs.IndexedParts.{IndexedParts}
+use Rattle.indexed_sheet.specs.declared.marks.Mark.{Mark}
 use Rattle.indexed_sheet.specs.Facts.{HasOwnDecls}
+use Rattle.indexed_sheet.specs.MarkList.{AreMarks, IsOrderKeyAt, order_keys_of}
+use Rattle.plan_laws.specs.Plannable.{IsPlannable}
 use Rattle.rule_tables.specs.StepPartners.{RulesAreOrderKeyed}
-use Rattle.rule_tables.specs.Tables.{Cover, OrderKeyed}
+use Rattle.rule_tables.specs.Tables.{Cover, OrderKeyed, with_order_key}
 use Rattle.step_laws.proofs.ForCallers.{rule_sound}
-use Rattle.step_laws.specs.Steps.{HaveSameDecls, decls_of}
+use Rattle.step_laws.specs.declared.step.Step.{Step}
+use Rattle.step_laws.specs.declared.step.Step.TheVariants.{CutDecl, CutSel, JoinSelUp, JoinSelDown, JoinDeclUp, JoinDeclDown, Share}
+use Rattle.step_laws.specs.Steps.{HaveSameDecls, IsStep, decls_of, first_item, last_item}
+use Rattle.step_savings.proofs.ForCallers.{first_rule, last_rule}
 use Rattle.next_step.specs.Halves.{AreAbove, AreBelow}
-use Rattle.next_step.specs.Viewed.{IsView}
+use Rattle.next_step.specs.Kinds.{IsByDecls}
+use Rattle.next_step.specs.Looking.{FoundParts, IsWith}
+use Rattle.next_step.specs.Marked.{rules_of}
+use Rattle.next_step.specs.Viewed.{CoversIn, IsFocus, IsView}
+use Rattle.next_step.specs.declared.view.Focus.{Focus}
+use Rattle.next_step.specs.declared.view.View.{View}
 use Rattle.next_step.proofs.Owned.{order_of, partner_above, partner_below, partner_itself}
 use Rattle.next_step.proofs.Telling.{mark_there, same_order_key, there_of}
+use Rattle.plan_laws.specs.Barrier.Renumbering.{IsOfTwo}
 
 -- ---- The other item of a step
 
@@ -53,16 +77,16 @@ module _ (indexed : IndexedParts) (beside : length indexed.marks ≡ length inde
 -- ---- A pass over order keys
 
 -- the steps of a kind are covered, if those with these order keys are, and the order key of each other item is among them
-pub pass_covers : (v : View) (owner : Owner) → IsOwner v owner → length v.indexed.now.marks ≡ length v.indexed.now.items → (best : FoundParts) (P : Step → Type 0) → ((k : Step) → P k → IsOfTwo k) → (order_keys : List ℕ) →
-    ((x : ℕ) (k : Step) → Contains order_keys x → IsWith v.indexed.now owner.number x k → P k → CoversIn v best k) →
-    ((k : Step) (e : Edit) → P k → IsStep v.indexed.now.items k e → (o : HasOther v.indexed.now k owner.number) → Contains order_keys o.mark.order_key) →
-    (k : Step) → P k → (first_item k ≡ owner.number) ⊎ (last_item k ≡ owner.number) → CoversIn v best k
-pass_covers v owner is_owner beside best P two order_keys withs there k p here e n is saves some looked later =
-    let o : HasOther v.indexed.now k owner.number = other_of v.indexed.now beside k e owner.number is here in
+pub pass_covers : (v : View) (focus : Focus) → IsFocus v focus → length v.indexed.now.marks ≡ length v.indexed.now.items → (best : FoundParts) (P : Step → Type 0) → ((k : Step) → P k → IsOfTwo k) → (Among : ℕ → Type 0) →
+    ((x : ℕ) (k : Step) → Among x → IsWith v.indexed.now focus.number x k → P k → CoversIn v best k) →
+    ((k : Step) (e : Edit) → P k → IsStep v.indexed.now.items k e → (o : HasOther v.indexed.now k focus.number) → Among o.mark.order_key) →
+    (k : Step) → P k → (first_item k ≡ focus.number) ⊎ (last_item k ≡ focus.number) → CoversIn v best k
+pass_covers v focus is_focus beside best P two Among withs there k p here e n is saves some looked later =
+    let o : HasOther v.indexed.now k focus.number = other_of v.indexed.now beside k e focus.number is here in
     withs o.mark.order_key k (there k e p is o)
-    (record { other = o.other; mark = o.mark; own = is_owner.order_key.0; mark_at = o.mark_at; own_at = is_owner.order_key.1; order_key_is = refl; of_two = two k p; items_are = turned o.other o.items_are }) p e n is saves some looked later
+    (record { other = o.other; mark = o.mark; own = is_focus.order_key.0; mark_at = o.mark_at; own_at = is_focus.order_key.1; order_key_is = refl; of_two = two k p; items_are = turned o.other o.items_are }) p e n is saves some looked later
   where
-    turned : (other : ℕ) → AreOfStep k owner.number other → ((first_item k ≡ other) × (last_item k ≡ owner.number)) ⊎ ((first_item k ≡ owner.number) × (last_item k ≡ other))
+    turned : (other : ℕ) → AreOfStep k focus.number other → ((first_item k ≡ other) × (last_item k ≡ focus.number)) ⊎ ((first_item k ≡ focus.number) × (last_item k ≡ other))
     turned other (inl h) = inr h
     turned other (inr h) = inl h
 
@@ -114,68 +138,68 @@ module _ (source : List ℕ) (items : List Item) (plannable : IsPlannable source
       joined x y is.upper is.lower r q is.rules.upper_at is.rules.lower_at r_at q_at (of_same is.upper is.lower (rule_sound source items x is.upper plannable.sound is.rules.upper_at).has_declarations is.may)
   first_common (Share x y) e r q by is r_at q_at = joined x y is.upper is.lower r q is.rules.upper_at is.rules.lower_at r_at q_at is.may.common
 
-module _ (v : View) (is_view : IsView v) (owner : Owner) (is_owner : IsOwner v owner) where
-  pub common_decl : (k : Step) (e : Edit) → IsByDecls k → IsStep v.indexed.now.items k e → (o : HasOther v.indexed.now k owner.number) → HaveCommon owner.rule.now o.rule
+module _ (v : View) (is_view : IsView v) (focus : Focus) (is_focus : IsFocus v focus) where
+  pub common_decl : (k : Step) (e : Edit) → IsByDecls k → IsStep v.indexed.now.items k e → (o : HasOther v.indexed.now k focus.number) → HaveCommon focus.rule.now o.rule
   common_decl k e by is o = which o.items_are
     where
-      which : AreOfStep k owner.number o.other → HaveCommon owner.rule.now o.rule
-      which (inl (first, last)) = first_common v.source.now v.indexed.now.items is_view.plannable k e owner.rule.now o.rule by is (ap (slice_get v.indexed.now.items) first ∙ is_owner.rule) (ap (slice_get v.indexed.now.items) last ∙ o.rule_at)
-      which (inr (first, last)) = turned_common o.rule owner.rule.now (first_common v.source.now v.indexed.now.items is_view.plannable k e o.rule owner.rule.now by is (ap (slice_get v.indexed.now.items) first ∙ o.rule_at) (ap (slice_get v.indexed.now.items) last ∙ is_owner.rule))
+      which : AreOfStep k focus.number o.other → HaveCommon focus.rule.now o.rule
+      which (inl (first, last)) = first_common v.source.now v.indexed.now.items is_view.plannable k e focus.rule.now o.rule by is (ap (slice_get v.indexed.now.items) first ∙ is_focus.rule) (ap (slice_get v.indexed.now.items) last ∙ o.rule_at)
+      which (inr (first, last)) = turned_common o.rule focus.rule.now (first_common v.source.now v.indexed.now.items is_view.plannable k e o.rule focus.rule.now by is (ap (slice_get v.indexed.now.items) first ∙ o.rule_at) (ap (slice_get v.indexed.now.items) last ∙ is_focus.rule))
 
-  differ : (k : Step) (e : Edit) → IsOfTwo k → IsStep v.indexed.now.items k e → (o : HasOther v.indexed.now k owner.number) → o.other ≢ owner.number
+  differ : (k : Step) (e : Edit) → IsOfTwo k → IsStep v.indexed.now.items k e → (o : HasOther v.indexed.now k focus.number) → o.other ≢ focus.number
   differ k e two is o same = which o.items_are
     where
-      which : AreOfStep k owner.number o.other → ⊥
+      which : AreOfStep k focus.number o.other → ⊥
       which (inl (first, last)) = let less : first_item k < last_item k = order_of v.indexed.now.items k e two is in omega (arith, less, first, last, same)
       which (inr (first, last)) = let less : first_item k < last_item k = order_of v.indexed.now.items k e two is in omega (arith, less, first, last, same)
 
   -- where no other rule has one of its declarations, there is none
-  pub none_by_decls : (best : FoundParts) → length v.indexed.now.marks ≡ length v.indexed.now.items → HasOwnDecls v.indexed.now.items owner.number →
-      (k : Step) → IsByDecls k → (first_item k ≡ owner.number) ⊎ (last_item k ≡ owner.number) → CoversIn v best k
+  pub none_by_decls : (best : FoundParts) → length v.indexed.now.marks ≡ length v.indexed.now.items → HasOwnDecls v.indexed.now.items focus.number →
+      (k : Step) → IsByDecls k → (first_item k ≡ focus.number) ⊎ (last_item k ≡ focus.number) → CoversIn v best k
   none_by_decls best beside own k by here e n is saves some looked later =
-      let o : HasOther v.indexed.now k owner.number = other_of v.indexed.now beside k e owner.number is here in
-      let c : HaveCommon owner.rule.now o.rule = common_decl k e by is o in
-      absurd (own o.other owner.rule.now o.rule c.0 (differ k e (decls_two k by) is o) is_owner.rule o.rule_at c.1 c.2)
+      let o : HasOther v.indexed.now k focus.number = other_of v.indexed.now beside k e focus.number is here in
+      let c : HaveCommon focus.rule.now o.rule = common_decl k e by is o in
+      absurd (own o.other focus.rule.now o.rule c.0 (differ k e (decls_two k by) is o) is_focus.rule o.rule_at c.1 c.2)
 
-  module _ (are : AreMarks v.indexed.now.marks v.indexed.now.next) (beside : length v.indexed.now.marks ≡ length v.indexed.now.items) (order_keyed_are : RulesAreOrderKeyed) (order_keys : List ℕ)
-      (all : (rules : List OrderKeyed) (x : OrderKeyed) (d : Decl) → Cover v.tables.now rules → Contains rules x → Contains (decls_of owner.rule.now) d → Contains (decls_of x.rule) d → Contains order_keys x.order_key) where
-    pub order_key_by_decl : (k : Step) (e : Edit) → IsByDecls k → IsStep v.indexed.now.items k e → (o : HasOther v.indexed.now k owner.number) → Contains order_keys o.mark.order_key
+  module _ (are : AreMarks v.indexed.now.marks v.indexed.now.next) (beside : length v.indexed.now.marks ≡ length v.indexed.now.items) (order_keyed_are : RulesAreOrderKeyed) (Among : ℕ → Type 0)
+      (all : (rules : List OrderKeyed) (x : OrderKeyed) (d : Decl) → Cover v.tables.now rules → Contains rules x → Contains (decls_of focus.rule.now) d → Contains (decls_of x.rule) d → Among x.order_key) where
+    pub order_key_by_decl : (k : Step) (e : Edit) → IsByDecls k → IsStep v.indexed.now.items k e → (o : HasOther v.indexed.now k focus.number) → Among o.mark.order_key
     order_key_by_decl k e by is o =
-        let c : HaveCommon owner.rule.now o.rule = common_decl k e by is o in
+        let c : HaveCommon focus.rule.now o.rule = common_decl k e by is o in
         all (rules_of v.indexed.now) (with_order_key o.rule o.mark.order_key) c.0 is_view.cover (is_order_keyed v.indexed.now beside order_keyed_are o.other o.rule o.mark o.rule_at o.mark_at) c.1 c.2
 
     -- no other rule has one, if there is no other order key
-    pub own_by_order_key : ((order_key : ℕ) → Contains order_keys order_key → order_key ≡ owner.order_key) → HasOwnDecls v.indexed.now.items owner.number
+    pub own_by_order_key : ((order_key : ℕ) → Among order_key → order_key ≡ focus.order_key) → HasOwnDecls v.indexed.now.items focus.number
     own_by_order_key alone m r q d other r_at q_at in_r in_q =
         let mark : (z : Mark) × (slice_get v.indexed.now.marks m ≡ Some z) = mark_there v.indexed.now.marks m (subst (λ (c : ℕ). m < c) (sym beside) (slice_get_within v.indexed.now.items m (Rule q) q_at)) in
-        let same : r ≡ owner.rule.now = one v.source.now v.indexed.now.items is_view.plannable owner.number r owner.rule.now r_at is_owner.rule in
-        let among : Contains order_keys mark.0.order_key = all (rules_of v.indexed.now) (with_order_key q mark.0.order_key) d is_view.cover (is_order_keyed v.indexed.now beside order_keyed_are m q mark.0 q_at mark.1) (subst (λ (p : RuleParts). Contains (decls_of p) d) same in_r) in_q in
-        other_order_key v.indexed.now beside are owner.number owner.order_key is_owner.order_key m mark.0 mark.1 other (alone mark.0.order_key among)
+        let same : r ≡ focus.rule.now = one v.source.now v.indexed.now.items is_view.plannable focus.number r focus.rule.now r_at is_focus.rule in
+        let among : Among mark.0.order_key = all (rules_of v.indexed.now) (with_order_key q mark.0.order_key) d is_view.cover (is_order_keyed v.indexed.now beside order_keyed_are m q mark.0 q_at mark.1) (subst (λ (p : RuleParts). Contains (decls_of p) d) same in_r) in_q in
+        other_order_key v.indexed.now beside are focus.number focus.order_key is_focus.order_key m mark.0 mark.1 other (alone mark.0.order_key among)
 
 -- ---- The item with an order key
 
-module _ (v : View) (owner : Owner) (is_owner : IsOwner v owner) (are : AreMarks v.indexed.now.marks v.indexed.now.next) (best : FoundParts) (order_key other : ℕ) (other_at : IsOrderKeyAt v.indexed.now.marks order_key other) where
-  pub with_above : other < owner.number → (k : Step) → (first_item k ≡ other → last_item k ≡ owner.number → CoversIn v best k) → IsWith v.indexed.now owner.number order_key k → CoversIn v best k
-  with_above less k covers w = partner_above v best owner.number order_key other other_at.0 is_owner.order_key.0 other_at.1 is_owner.order_key.1 are other_at.2 less k covers w
+module _ (v : View) (focus : Focus) (is_focus : IsFocus v focus) (are : AreMarks v.indexed.now.marks v.indexed.now.next) (best : FoundParts) (order_key other : ℕ) (other_at : IsOrderKeyAt v.indexed.now.marks order_key other) where
+  pub with_above : other < focus.number → (k : Step) → (first_item k ≡ other → last_item k ≡ focus.number → CoversIn v best k) → IsWith v.indexed.now focus.number order_key k → CoversIn v best k
+  with_above less k covers w = partner_above v best focus.number order_key other other_at.0 is_focus.order_key.0 other_at.1 is_focus.order_key.1 are other_at.2 less k covers w
 
-  pub with_below : owner.number ≤ other → (k : Step) → (first_item k ≡ owner.number → last_item k ≡ other → CoversIn v best k) → IsWith v.indexed.now owner.number order_key k → CoversIn v best k
-  with_below more k covers w = partner_below v best owner.number order_key other other_at.0 is_owner.order_key.0 other_at.1 is_owner.order_key.1 are other_at.2 more k covers w
+  pub with_below : focus.number ≤ other → (k : Step) → (first_item k ≡ focus.number → last_item k ≡ other → CoversIn v best k) → IsWith v.indexed.now focus.number order_key k → CoversIn v best k
+  with_below more k covers w = partner_below v best focus.number order_key other other_at.0 is_focus.order_key.0 other_at.1 is_focus.order_key.1 are other_at.2 more k covers w
 
-  pub with_itself : owner.number ≤ other → other ≤ owner.number → (k : Step) → IsWith v.indexed.now owner.number order_key k → CoversIn v best k
-  with_itself least most k w = partner_itself v best owner.number order_key other other_at.0 is_owner.order_key.0 other_at.1 is_owner.order_key.1 are other_at.2 least most k w
+  pub with_itself : focus.number ≤ other → other ≤ focus.number → (k : Step) → IsWith v.indexed.now focus.number order_key k → CoversIn v best k
+  with_itself least most k w = partner_itself v best focus.number order_key other other_at.0 is_focus.order_key.0 other_at.1 is_focus.order_key.1 are other_at.2 least most k w
 
 -- what is covered on both sides of the item's own order key is covered
-pub by_halves : (v : View) (owner : Owner) → IsOwner v owner → AreMarks v.indexed.now.marks v.indexed.now.next → (best : FoundParts) (P : Step → Type 0) → (order_keys above below : List ℕ) →
-    AreBelow order_keys owner.order_key above → AreAbove order_keys owner.order_key below →
-    ((x : ℕ) (k : Step) → Contains above x → IsWith v.indexed.now owner.number x k → P k → CoversIn v best k) →
-    ((x : ℕ) (k : Step) → Contains below x → IsWith v.indexed.now owner.number x k → P k → CoversIn v best k) →
-    (x : ℕ) (k : Step) → Contains order_keys x → IsWith v.indexed.now owner.number x k → P k → CoversIn v best k
-by_halves v owner is_owner are best P order_keys above below is_above is_below over under x k among w p = elim (cases_lt x owner.order_key) [
+pub by_halves : (v : View) (focus : Focus) → IsFocus v focus → AreMarks v.indexed.now.marks v.indexed.now.next → (best : FoundParts) (P : Step → Type 0) → (order_keys above below : List ℕ) →
+    AreBelow order_keys focus.order_key above → AreAbove order_keys focus.order_key below →
+    ((x : ℕ) (k : Step) → Contains above x → IsWith v.indexed.now focus.number x k → P k → CoversIn v best k) →
+    ((x : ℕ) (k : Step) → Contains below x → IsWith v.indexed.now focus.number x k → P k → CoversIn v best k) →
+    (x : ℕ) (k : Step) → Contains order_keys x → IsWith v.indexed.now focus.number x k → P k → CoversIn v best k
+by_halves v focus is_focus are best P order_keys above below is_above is_below over under x k among w p = elim (cases_lt x focus.order_key) [
   | inl less ↦ over x k (is_above.each x among less) w p
-  | inr least ↦ elim (cases_lt owner.order_key x) [
+  | inr least ↦ elim (cases_lt focus.order_key x) [
     | inl more ↦ under x k (is_below.each x among more) w p
     | inr most ↦ (
-        let same : x ≡ owner.order_key = omega (arith, least, most) in
-        with_itself v owner is_owner are best owner.order_key owner.number is_owner.order_key (omega arith) (omega arith) k (subst (λ (y : ℕ). IsWith v.indexed.now owner.number y k) same w))
+        let same : x ≡ focus.order_key = omega (arith, least, most) in
+        with_itself v focus is_focus are best focus.order_key focus.number is_focus.order_key (omega arith) (omega arith) k (subst (λ (y : ℕ). IsWith v.indexed.now focus.number y k) same w))
   ]
 ]

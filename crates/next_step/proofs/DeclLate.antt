@@ -1,7 +1,26 @@
 -- Steps by declarations that come too late, by the order keys of their items.
-use Rattle.next_step.proofs.Words.{AreLateFrom, AreMarks, ByDeclsSaveAtMost, Contains, Contains-here, CoversIn, CutDecl, CutSel, DeclJoinUp, DeclsStandOnce, Edit, FoundParts, IfSome, IndexedParts, IsByDecls, IsFrom, IsLate, IsOwner, IsStep, IsStrictlyIncreasing, IsWith, JoinDeclDown, JoinDeclUp, JoinSelDown, JoinSelUp, List, Mark, Option, Owner, Saves, Share, Some, Step, View, arith, first_item, inl, inr, kind_of, last_item, order_keys_of, refl, slice_index, step_of_kind, subst, sym, ℕ, ◌<◌, ◌∙◌, ◌∷◌, ◌≡◌, ◌≤◌, ◌⊎◌}
+use Rattle.std.proofs.Common.{◌≡◌, ◌⊎◌, ℕ, ◌<◌, ◌≤◌, List, Option, Some, refl, sym, subst, inl, inr, ◌∙◌, arith}
+use Rattle.std.specs.Prelude.{IfSome, slice_index}
+use Rattle.step_kinds.specs.declared.kind.Kind.TheVariants.{DeclJoinUp}
+use Rattle.step_kinds.specs.StepsByKind.{kind_of, step_of_kind}
+use Rattle.order_laws.specs.Edits.{Edit}
+use Rattle.indexed_sheet.specs.IndexedParts.{IndexedParts}
+use Rattle.indexed_sheet.specs.declared.marks.Mark.{Mark}
+use Rattle.indexed_sheet.specs.MarkList.{AreMarks, order_keys_of}
+use Rattle.step_laws.specs.declared.step.Step.{Step}
+use Rattle.step_laws.specs.declared.step.Step.TheVariants.{CutDecl, CutSel, JoinSelUp, JoinSelDown, JoinDeclUp, JoinDeclDown, Share}
+use Rattle.step_laws.specs.Sizes.{Saves}
+use Rattle.step_laws.specs.Steps.{IsStep, first_item, last_item}
+use Rattle.next_step.specs.Kinds.{IsByDecls}
+use Rattle.next_step.specs.Late.{ByDeclsSaveAtMost, IsFrom, IsLate}
+use Rattle.next_step.specs.LaterOrderKeys.{AreLateFrom}
+use Rattle.next_step.specs.Looking.{FoundParts, IsWith}
+use Rattle.next_step.specs.Once.{DeclsStandOnce}
+use Rattle.next_step.specs.Viewed.{CoversIn, IsFocus}
+use Rattle.next_step.specs.declared.view.Focus.{Focus}
+use Rattle.next_step.specs.declared.view.View.{View}
 use Rattle.next_step.proofs.Later.{late_covers}
-use Rattle.next_step.proofs.LaterOrderKeys.{first_is_least, late_with}
+use Rattle.next_step.proofs.LaterOrderKeys.{late_with}
 use Rattle.next_step.proofs.Owned.{order_of}
 use Rattle.next_step.proofs.StepParts.{order_key_at}
 use Rattle.next_step.proofs.Telling.{in_order, order_key_index}
@@ -67,26 +86,23 @@ module _ (source : List ℕ) (indexed : IndexedParts) (are : AreMarks indexed.ma
 of_limit : (most : Option ℕ) (P : ℕ → Type 0) → IfSome most P → (limit : ℕ) → most ≡ Some limit → P limit
 of_limit most P holds limit is = subst (λ (o : Option ℕ). IfSome o P) is holds
 
-module _ (v : View) (o : Owner) (is_owner : IsOwner v o) (are : AreMarks v.indexed.now.marks v.indexed.now.next) (found : FoundParts) (most : Option ℕ) where
+module _ (v : View) (o : Focus) (is_focus : IsFocus v o) (are : AreMarks v.indexed.now.marks v.indexed.now.next) (found : FoundParts) (most : Option ℕ) where
   named_at : slice_index (order_keys_of v.indexed.now.marks) o.number ≡ o.order_key
-  named_at = order_key_index v.indexed.now.marks o.number o.order_key is_owner.order_key
+  named_at = order_key_index v.indexed.now.marks o.number o.order_key is_focus.order_key
 
+  -- of the order keys that are left this one is the least
   -- all that is left above an item comes too late
-  pub rest_above : (order_key : ℕ) (behind rest : List ℕ) → rest ≡ order_key ∷ behind → IsStrictlyIncreasing rest → ((x : ℕ) → Contains rest x → x < o.order_key) → DeclsStandOnce v.indexed.now.items o.number →
+  pub rest_above : (order_key : ℕ) (Left : ℕ → Type 0) → Left order_key → ((x : ℕ) → Left x → order_key ≤ x) → ((x : ℕ) → Left x → x < o.order_key) → DeclsStandOnce v.indexed.now.items o.number →
       IfSome most (λ limit. (upper : ℕ) → ByDeclsSaveAtMost v.source.now v.indexed.now.items upper o.number limit) → ((limit : ℕ) × (most ≡ Some limit) × AreLateFrom found.others DeclJoinUp o.order_key order_key limit) →
-      (x : ℕ) (k : Step) → Contains rest x → IsWith v.indexed.now o.number x k → IsByDecls k → CoversIn v found k
-  rest_above order_key behind rest is ascends above once bound (limit, is_limit, late) x k among w by =
-      let least : order_key ≤ x = first_is_least order_key behind (subst IsStrictlyIncreasing is ascends) x (subst (λ (xs : List ℕ). Contains xs x) is among) in
-      let less : order_key < o.order_key = above order_key (subst (λ (xs : List ℕ). Contains xs order_key) (sym is) (Contains-here order_key behind)) in
+      (x : ℕ) (k : Step) → Left x → IsWith v.indexed.now o.number x k → IsByDecls k → CoversIn v found k
+  rest_above order_key Left here least above once bound (limit, is_limit, late) x k among w by =
       late_covers v found k
-      (above_late v.source.now v.indexed.now are found o.order_key o.number named_at limit order_key late less once (of_limit most (λ limit. (upper : ℕ) → ByDeclsSaveAtMost v.source.now v.indexed.now.items upper o.number limit) bound limit is_limit) x k least (above x among) w by)
+      (above_late v.source.now v.indexed.now are found o.order_key o.number named_at limit order_key late (above order_key here) once (of_limit most (λ limit. (upper : ℕ) → ByDeclsSaveAtMost v.source.now v.indexed.now.items upper o.number limit) bound limit is_limit) x k (least x among) (above x among) w by)
 
   -- and so below it
-  pub rest_below : (order_key : ℕ) (behind rest : List ℕ) → rest ≡ order_key ∷ behind → IsStrictlyIncreasing rest → ((x : ℕ) → Contains rest x → o.order_key < x) → ((n : ℕ) → DeclsStandOnce v.indexed.now.items n) →
+  pub rest_below : (order_key : ℕ) (Left : ℕ → Type 0) → Left order_key → ((x : ℕ) → Left x → order_key ≤ x) → ((x : ℕ) → Left x → o.order_key < x) → ((n : ℕ) → DeclsStandOnce v.indexed.now.items n) →
       IfSome most (λ limit. (lower : ℕ) → ByDeclsSaveAtMost v.source.now v.indexed.now.items o.number lower limit) → ((limit : ℕ) × (most ≡ Some limit) × AreLateFrom found.others DeclJoinUp o.order_key order_key limit) →
-      (x : ℕ) (k : Step) → Contains rest x → IsWith v.indexed.now o.number x k → IsByDecls k → CoversIn v found k
-  rest_below order_key behind rest is ascends below once bound (limit, is_limit, late) x k among w by =
-      let least : order_key ≤ x = first_is_least order_key behind (subst IsStrictlyIncreasing is ascends) x (subst (λ (xs : List ℕ). Contains xs x) is among) in
-      let less : o.order_key < order_key = below order_key (subst (λ (xs : List ℕ). Contains xs order_key) (sym is) (Contains-here order_key behind)) in
+      (x : ℕ) (k : Step) → Left x → IsWith v.indexed.now o.number x k → IsByDecls k → CoversIn v found k
+  rest_below order_key Left here least below once bound (limit, is_limit, late) x k among w by =
       late_covers v found k
-      (below_late v.source.now v.indexed.now are found o.order_key o.number named_at limit order_key late less once (of_limit most (λ limit. (lower : ℕ) → ByDeclsSaveAtMost v.source.now v.indexed.now.items o.number lower limit) bound limit is_limit) x k least w by)
+      (below_late v.source.now v.indexed.now are found o.order_key o.number named_at limit order_key late (below order_key here) once (of_limit most (λ limit. (lower : ℕ) → ByDeclsSaveAtMost v.source.now v.indexed.now.items o.number lower limit) bound limit is_limit) x k (least x among) w by)

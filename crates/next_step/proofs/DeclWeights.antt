@@ -1,11 +1,26 @@
 -- What joins by declarations and shares save at most.
-use Rattle.next_step.proofs.Words.{AreDeclsAmong, AreNotHeavier, Bool, ByDeclsSaveAtMost, CommonWeighsAtMost, CutDecl, CutSel, DeclsStandOnce, Edit, IsByDecls, IsSound, IsStep, Item, JoinDeclDown, JoinDeclUp, JoinSelDown, JoinSelUp, List, Rule, RuleParts, RulesApart, Saves, Share, Some, Step, among_weight, ap, arith, edited, false, first_item, inl, inr, last_item, printed_declaration, printed_selector, refl, size, slice_get, subst, sym, true, true≢false, weight, ℕ, ◌+◌, ◌<◌, ◌↔◌, ◌∙◌, ◌≡◌, ◌≢◌, ◌≤◌}
+use Rattle.std.proofs.Common.{◌≡◌, ◌≢◌, ◌↔◌, ℕ, ◌+◌, ◌<◌, ◌≤◌, Bool, true, false, List, Some, refl, sym, ap, subst, inl, inr, ◌∙◌, arith, true≢false}
+use Rattle.std.specs.Prelude.{slice_get}
 use Rattle.std.specs.List.{list_all}
+use Rattle.css_model.specs.declared.sheet.Item.{Item}
+use Rattle.css_model.specs.declared.sheet.Item.TheVariants.{Rule}
+use Rattle.css_model.specs.Sheets.Printed.{printed_declaration, printed_selector}
+use Rattle.css_model.specs.Sheets.RuleParts.{RuleParts}
+use Rattle.css_model.specs.Sheets.Sound.{IsSound}
 use Rattle.step_queue.specs.declared.heaviest.Heaviest.{Heaviest}
+use Rattle.step_queue.specs.Heaviest.{AreNotHeavier}
+use Rattle.order_laws.specs.Edits.{Edit, edited}
 use Rattle.order_laws.specs.Members.{has_decl, has_selector}
 use Rattle.indexed_sheet.specs.Facts.{HasOwnSelectors}
-use Rattle.next_step.specs.Late.{DeclsWeighAtMost, SelectorsWeighAtMost}
-use Rattle.next_step.specs.Shares.{IsKept, new_selectors}
+use Rattle.step_laws.specs.declared.step.Step.{Step}
+use Rattle.step_laws.specs.declared.step.Step.TheVariants.{CutDecl, CutSel, JoinSelUp, JoinSelDown, JoinDeclDown, JoinDeclUp, Share}
+use Rattle.step_laws.specs.Sizes.{Saves, size, weight}
+use Rattle.step_laws.specs.Steps.{AreDeclsAmong, IsStep, first_item, last_item}
+use Rattle.step_savings.specs.Apart.{RulesApart}
+use Rattle.next_step.specs.Kinds.{IsByDecls}
+use Rattle.next_step.specs.Late.{ByDeclsSaveAtMost, CommonWeighsAtMost, DeclsWeighAtMost, SelectorsWeighAtMost}
+use Rattle.next_step.specs.Once.{DeclsStandOnce}
+use Rattle.next_step.specs.Shares.{IsKept, among_weight, new_selectors}
 use Rattle.next_step.proofs.Sharing.{among_all, among_count, share_weighs}
 use Rattle.next_step.proofs.Weights.{apart_weigh, common, common_is_part, decls_down, decls_up, weight_parted}
 
@@ -14,7 +29,7 @@ pub own_apart : (items : List Item) (n m : ℕ) → m ≢ n → HasOwnSelectors 
 own_apart items n m differ own r q at at' s in_r in_q = own m r q s differ at at' in_r in_q
 
 module _ (source : List ℕ) where
-  kept_of : (r q : RuleParts) → (n : ℕ) × IsKept source r q n
+  pub kept_of : (r q : RuleParts) → (n : ℕ) × IsKept source r q n
   kept_of r q = which (list_all (λ d. has_decl q.decls d.decl) r.decls) (among_all r q)
     where
       which : (b : Bool) → (b ≡ true) ↔ AreDeclsAmong r q → (n : ℕ) × IsKept source r q n

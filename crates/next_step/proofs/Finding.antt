@@ -1,6 +1,10 @@
 -- A candidate put to those that were found.
-use Rattle.next_step.proofs.Words.{Candidate, Contains, FoundParts, IsAmong, Keeps, List, None, Option, ReachesLast, Some, candidate_told, inl, inr, some-same, subst, sym, ◌∙◌, ◌≡◌, ◌⊎◌}
-use Rattle.next_step.specs.Looking.{KeepsLast}
+use Rattle.std.proofs.Common.{◌≡◌, ◌⊎◌, List, Option, Some, None, sym, ◌∙◌, subst, inl, inr}
+use Rattle.std.specs.List.{Contains}
+use Rattle.cascade_laws.proofs.ForCallers.{some-same}
+use Rattle.step_queue.specs.declared.candidate.Candidate.{Candidate}
+use Rattle.step_queue.specs.Told.{candidate_told}
+use Rattle.next_step.specs.Looking.{FoundParts, IsAmong, Keeps, KeepsLast, ReachesLast}
 
 abbrev pub found_of : List Candidate → Option Candidate → FoundParts
 found_of candidates others = record { candidates = candidates; others = others }

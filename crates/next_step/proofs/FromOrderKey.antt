@@ -1,14 +1,15 @@
 -- The rules of an indexed sheet from an order key on.
-use Rattle.next_step.proofs.Words.{Bool, Contains, Decl, List, SelectorParts, ap, arith, false, refl, sym, true, true≢false, with_order_key, ℕ, ◌<◌, ◌↔◌, ◌∙◌, ◌≡◌, ◌≤◌}
-use Rattle.std.proofs.Common.{not}
+use Rattle.std.proofs.Common.{◌≡◌, ◌↔◌, ℕ, ◌<◌, ◌≤◌, Bool, true, false, not, List, refl, sym, ap, ◌∙◌, true≢false, arith}
 use Rattle.std.specs.Prelude.{nat_lt}
-use Rattle.std.specs.List.{flat_map}
+use Rattle.std.specs.List.{Contains, flat_map}
 use Rattle.std.proofs.lemmas.Bool.{lt-ltb, ltb-true}
+use Rattle.css_model.specs.declared.sheet.Decl.{Decl}
+use Rattle.css_model.specs.Documents.SelectorParts.{SelectorParts}
 use Rattle.list_facts.proofs.Members.{Contains-filter, Contains-filtered}
 use Rattle.order_laws.proofs.ForCallers.{flat_map_has, flat_map_from}
 use Rattle.rule_tables.specs.declared.entries.Entry.{Entry}
 use Rattle.rule_tables.specs.Pairs.{OrderKeyHasBoth}
-use Rattle.rule_tables.specs.Tables.{Cover, OrderKeyed, TableParts, entries_by_decl, entries_by_selector}
+use Rattle.rule_tables.specs.Tables.{Cover, OrderKeyed, TableParts, entries_by_decl, entries_by_selector, with_order_key}
 use Rattle.next_step.specs.Marked.{rules_from}
 
 abbrev reaches : ℕ → OrderKeyed → Bool

@@ -1,7 +1,9 @@
 -- Order keys on both sides of one.
-use Rattle.next_step.proofs.Words.{IsStrictlyIncreasing, List, ap, arith, cases_lt, get_or, inl, inr, length, nat_cmp, slice_index, subst, ℕ, ◌+◌, ◌<◌, ◌∙◌, ◌≡◌, ◌≤◌}
-use Rattle.std.proofs.Common.{◌-◌, Result, MatchResult, take, drop}
-use Rattle.std.specs.List.Sorted.{IsBinarySearchResult}
+use Rattle.std.proofs.Common.{◌≡◌, ℕ, ◌+◌, ◌-◌, ◌<◌, ◌≤◌, List, Result, MatchResult, length, take, drop, get_or, ap, subst, inl, inr, ◌∙◌, arith}
+use Rattle.std.specs.Prelude.{slice_index}
+use Rattle.std.specs.List.Sorted.{IsBinarySearchResult, IsStrictlyIncreasing}
+use Rattle.std.specs.Ordering.{nat_cmp}
+use Rattle.std.proofs.lemmas.Bool.{cases_lt}
 use Rattle.std.proofs.lemmas.List.{get_or-drop, get_or-take, get_or_default, length-drop, length-take-le}
 use Rattle.std.proofs.lemmas.List.Kept.{AllPairs-from_increasing}
 use Rattle.std.proofs.lemmas.List.Sorted.{searched}

@@ -1,6 +1,12 @@
 -- Steps whose priorities come too late.
-use Rattle.next_step.proofs.Words.{Candidate, CoversIn, FoundParts, IsLate, Option, ReachesLast, Step, View, inr, subst, ◌≡◌}
+use Rattle.std.proofs.Common.{◌≡◌, Option, inr, subst}
+use Rattle.step_queue.specs.declared.candidate.Candidate.{Candidate}
 use Rattle.plan_laws.specs.Cover.{Priority}
+use Rattle.step_laws.specs.declared.step.Step.{Step}
+use Rattle.next_step.specs.Late.{IsLate}
+use Rattle.next_step.specs.Looking.{FoundParts, ReachesLast}
+use Rattle.next_step.specs.Viewed.{CoversIn}
+use Rattle.next_step.specs.declared.view.View.{View}
 
 -- a step that does not come before the first of the others is covered
 pub late_covers : (v : View) (found : FoundParts) (k : Step) → IsLate v.source.now v.indexed.now found k → CoversIn v found k

@@ -1,14 +1,30 @@
 -- Steps of an item with others, as the order keys of these ascend.
-use Rattle.next_step.proofs.Words.{AreLateFrom, AreMarks, Bool, Contains, CoversIn, CutDecl, CutSel, Edit, FoundParts, Grows, IndexedParts, IsFrom, IsLate, IsOfTwo, IsStep, IsStrictlyIncreasing, IsWith, JoinDeclDown, JoinDeclUp, JoinSelDown, JoinSelUp, Kind, List, Mark, Saves, Share, Some, Step, View, [], ap, ap₂, arith, first_item, inl, inr, kind_of, last_item, length, order_keys_of, refl, slice_get, slice_index, step_of_kind, subst, suc, sym, ℕ, ◌+◌, ◌<◌, ◌∙◌, ◌∷◌, ◌≡◌, ◌≤◌, ◌⊎◌}
-use Rattle.std.proofs.Common.{cond}
+use Rattle.std.proofs.Common.{◌≡◌, ◌⊎◌, ℕ, suc, ◌+◌, ◌<◌, ◌≤◌, Bool, cond, List, [], ◌∷◌, length, refl, sym, ap, subst, inl, inr, ◌∙◌, ap₂, Some, arith}
+use Rattle.std.specs.Prelude.{slice_get, slice_index}
+use Rattle.std.specs.List.{Contains}
+use Rattle.std.specs.List.Sorted.{IsStrictlyIncreasing}
 use Rattle.std.proofs.lemmas.Bool.{le-ltb, lt-ltb}
 use Rattle.list_facts.proofs.Members.{Contains-cons_cases, Contains-nil}
-use Rattle.next_step.specs.LaterOrderKeys.{AreOnOneSide, step_of_order_keys}
+use Rattle.step_kinds.specs.declared.kind.Kind.{Kind}
+use Rattle.step_kinds.specs.StepsByKind.{kind_of, step_of_kind}
+use Rattle.order_laws.specs.Edits.{Edit}
+use Rattle.indexed_sheet.specs.IndexedParts.{IndexedParts}
+use Rattle.indexed_sheet.specs.declared.marks.Mark.{Mark}
+use Rattle.indexed_sheet.specs.MarkList.{AreMarks, order_keys_of}
+use Rattle.step_laws.specs.declared.step.Step.{Step}
+use Rattle.step_laws.specs.declared.step.Step.TheVariants.{CutDecl, CutSel, JoinSelUp, JoinSelDown, JoinDeclUp, JoinDeclDown, Share}
+use Rattle.step_laws.specs.Sizes.{Saves}
+use Rattle.step_laws.specs.Steps.{IsStep, first_item, last_item}
+use Rattle.next_step.specs.Late.{IsFrom, IsLate}
+use Rattle.next_step.specs.LaterOrderKeys.{AreLateFrom, AreOnOneSide, step_of_order_keys}
+use Rattle.next_step.specs.Looking.{FoundParts, IsWith}
+use Rattle.next_step.specs.Viewed.{CoversIn, Grows}
+use Rattle.next_step.specs.declared.view.View.{View}
 use Rattle.next_step.proofs.Looking.{kept_covers}
 use Rattle.next_step.proofs.Owned.{order_of}
 use Rattle.next_step.proofs.StepParts.{order_key_at}
 use Rattle.next_step.proofs.Telling.{in_order}
-use Rattle.plan_laws.specs.Barrier.Renumbering.{renumbered}
+use Rattle.plan_laws.specs.Barrier.Renumbering.{IsOfTwo, renumbered}
 
 -- ---- Order keys that ascend
 

@@ -2,7 +2,7 @@ mod Alike
 mod DeclLate
 mod DeclWeights
 mod Differing
-mod Digesting
+mod RulesApart
 mod Finding
 mod Halves
 mod Later
@@ -16,7 +16,10 @@ mod Owned
 mod OwnedBelow
 mod ByOrderKeys
 mod BySelectors
+mod PoorShares
+mod InCommon
 mod Ranks
+mod Repeats
 mod Results
 mod Rules
 mod SelectorJoins
@@ -25,4 +28,3 @@ mod FromOrderKey
 mod StepParts
 mod Telling
 mod Weights
-mod Words

@@ -1,9 +1,27 @@
 -- Steps by declarations that come too late by what their rules weigh.
-use Rattle.next_step.proofs.Words.{CommonWeighsAtMost, CutDecl, CutSel, DeclsStandOnce, Edit, FoundParts, HasStep, IndexedParts, IsByDecls, IsFrom, IsLate, IsSound, IsStep, Item, JoinDeclDown, JoinDeclUp, JoinSelDown, JoinSelUp, Kind, List, Mark, ReachesLast, RulesApart, Saves, Share, Some, Step, ap, ap₂, arith, first_item, inl, inr, item_ids_of, kind_of, last_item, order_keys_of, printed_declaration, printed_selector, priority_of, refl, slice_get, slice_index, step_of_kind, subst, sym, true, weight, ℕ, ◌+◌, ◌∙◌, ◌≡◌, ◌≤◌}
+use Rattle.std.proofs.Common.{◌≡◌, ℕ, ◌+◌, ◌≤◌, List, Some, refl, sym, ap, ap₂, subst, inl, inr, ◌∙◌, true, arith}
+use Rattle.std.specs.Prelude.{slice_get, slice_index}
+use Rattle.css_model.specs.declared.sheet.Item.{Item}
+use Rattle.css_model.specs.Sheets.Printed.{printed_declaration, printed_selector}
+use Rattle.css_model.specs.Sheets.Sound.{IsSound}
+use Rattle.step_kinds.specs.declared.kind.Kind.{Kind}
 use Rattle.step_kinds.specs.declared.kind.Kind.TheVariants.{Sharing}
 use Rattle.step_queue.specs.declared.rule_weights.RuleWeight.{RuleWeight}
 use Rattle.step_queue.specs.RuleWeights.{AreWeighed, WeightParts, weight_under}
-use Rattle.next_step.specs.Late.{DeclsWeighAtMost, FirstByDecls, IsWeighedAt}
+use Rattle.step_kinds.specs.StepsByKind.{kind_of, step_of_kind}
+use Rattle.order_laws.specs.Edits.{Edit}
+use Rattle.indexed_sheet.specs.IndexedParts.{IndexedParts}
+use Rattle.indexed_sheet.specs.declared.marks.Mark.{Mark}
+use Rattle.indexed_sheet.specs.MarkList.{item_ids_of, order_keys_of}
+use Rattle.step_laws.specs.declared.step.Step.{Step}
+use Rattle.step_laws.specs.declared.step.Step.TheVariants.{CutDecl, CutSel, JoinSelUp, JoinSelDown, JoinDeclUp, JoinDeclDown, Share}
+use Rattle.step_laws.specs.Sizes.{Saves, weight}
+use Rattle.step_laws.specs.Steps.{HasStep, IsStep, first_item, last_item}
+use Rattle.step_savings.specs.Apart.{RulesApart}
+use Rattle.next_step.specs.Kinds.{IsByDecls}
+use Rattle.next_step.specs.Late.{CommonWeighsAtMost, DeclsWeighAtMost, FirstByDecls, IsFrom, IsLate, IsWeighedAt}
+use Rattle.next_step.specs.Looking.{FoundParts, ReachesLast}
+use Rattle.next_step.specs.Once.{DeclsStandOnce}
 use Rattle.next_step.proofs.Alike.{decl_joins_alike}
 use Rattle.next_step.proofs.ByOrderKeys.{decls_two}
 use Rattle.next_step.proofs.DeclLate.{up_is_first}
@@ -11,6 +29,7 @@ use Rattle.next_step.proofs.DeclWeights.{by_decls_most, share_once_most}
 use Rattle.next_step.proofs.LaterOrderKeys.{two_named}
 use Rattle.next_step.proofs.Telling.{there_of}
 use Rattle.next_step.proofs.Weights.{apart_weigh, common, common_is_part}
+use Rattle.plan_laws.specs.Barrier.Hindering.{priority_of}
 use Rattle.plan_laws.specs.Barrier.Renumbering.{renumbered}
 
 -- ---- What a rule weighs
@@ -38,7 +57,7 @@ share_is_first : (k : Step) → IsByDecls k → kind_of k ≡ Sharing → (x y :
 share_is_first k by is x y = inl (ap (λ (kind : Kind). step_of_kind kind x y) (sym is))
 
 -- one of two rules that have no joins is their share
-only_share : (items : List Item) (k : Step) (e : Edit) → IsByDecls k → IsStep items k e → (HasStep items (JoinDeclUp (first_item k) (last_item k)) → ⊥) → k ≡ Share (first_item k) (last_item k)
+pub only_share : (items : List Item) (k : Step) (e : Edit) → IsByDecls k → IsStep items k e → (HasStep items (JoinDeclUp (first_item k) (last_item k)) → ⊥) → k ≡ Share (first_item k) (last_item k)
 only_share items (CutDecl n i) e by is none = absurd by
 only_share items (CutSel n i) e by is none = absurd by
 only_share items (JoinSelUp x y) e by is none = absurd by

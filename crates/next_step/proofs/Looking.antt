@@ -1,13 +1,28 @@
 -- The first of the priorities behind another one, while steps are looked at.
-use Rattle.next_step.proofs.Words.{Candidate, CoversIn, CutDecl, CutSel, Edit, FoundParts, Grows, HasStep, IsAmong, IsByDecls, IsOfTwo, IsSaving, IsStep, Item, JoinDeclDown, JoinDeclUp, JoinSelDown, JoinSelUp, Keeps, List, None, Option, ReachesLast, Saves, Share, Some, Step, View, ap, arith, candidate_told, cases_lt, first_item, inl, inr, last_item, length, named, order_keys_of, refl, some-same, subst, sym, ℕ, ◌+◌, ◌<◌, ◌∙◌, ◌≡◌, ◌≤◌, ◌⊎◌}
-use Rattle.pending_laws.specs.Priorities.{PrioritiesAreOrdered}
+use Rattle.std.proofs.Common.{◌≡◌, ◌⊎◌, ℕ, ◌+◌, ◌<◌, ◌≤◌, List, Option, Some, None, length, refl, sym, ap, subst, inl, inr, ◌∙◌, arith}
+use Rattle.std.proofs.lemmas.Bool.{cases_lt}
+use Rattle.cascade_laws.proofs.ForCallers.{some-same}
+use Rattle.pending_laws.specs.Priorities.{named, PrioritiesAreOrdered}
 use Rattle.queue_laws.specs.IndexedBarriers.{IsBarred}
+use Rattle.step_queue.specs.declared.candidate.Candidate.{Candidate}
+use Rattle.step_queue.specs.Told.{candidate_told}
 use Rattle.step_queue.specs.Weights.{room}
+use Rattle.saved_bytes.specs.Savings.{IsSaving}
+use Rattle.order_laws.specs.Edits.{Edit}
 use Rattle.plan_laws.specs.Cover.{IsSooner}
+use Rattle.css_model.specs.declared.sheet.Item.{Item}
 use Rattle.indexed_sheet.specs.Facts.{HasNoCut}
-use Rattle.next_step.specs.Looking.{KeepsLast}
+use Rattle.step_laws.specs.declared.step.Step.{Step}
+use Rattle.step_laws.specs.declared.step.Step.TheVariants.{CutDecl, CutSel, JoinSelUp, JoinSelDown, JoinDeclUp, JoinDeclDown, Share}
+use Rattle.step_laws.specs.Sizes.{Saves}
+use Rattle.step_laws.specs.Steps.{HasStep, IsStep, first_item, last_item}
+use Rattle.next_step.specs.Kinds.{IsByDecls}
+use Rattle.next_step.specs.Looking.{FoundParts, IsAmong, Keeps, KeepsLast, ReachesLast}
+use Rattle.indexed_sheet.specs.MarkList.{order_keys_of}
 use Rattle.next_step.specs.Named.{IsLaterPriority, IsQueuedBeside}
-use Rattle.next_step.specs.Viewed.{AreLaterIn}
+use Rattle.next_step.specs.Viewed.{AreLaterIn, CoversIn, Grows}
+use Rattle.next_step.specs.declared.view.View.{View}
+use Rattle.plan_laws.specs.Barrier.Renumbering.{IsOfTwo}
 
 -- ---- The sooner of two candidates
 

@@ -1,11 +1,29 @@
 -- Which step a candidate names.
-use Rattle.next_step.proofs.Words.{AreMarks, Candidate, CutDecl, CutSel, DeclJoinUp, Edit, HasStep, IndexedParts, IsPlannable, IsSaving, IsStep, Item, JoinDeclDown, JoinDeclUp, JoinSelDown, JoinSelUp, Kind, List, Mark, None, Rule, RuleParts, Saves, SelJoinUp, Share, Some, Step, [], ap, ap₂, arith, candidate_told, edited, first_item, kind_of, length, max_bytes, named, order_keys_of, size, slice_get, slice_index, some-same, step_of_kind, subst, suc, sym, zero, ℕ, ◌+◌, ◌<◌, ◌^◌, ◌∙◌, ◌∷◌, ◌≡◌, ◌≤◌}
-use Rattle.css_model.specs.declared.sheet.Item.TheVariants.{KeptRule, KeptBlock}
-use Rattle.css_model.specs.Sheets.Limits.{max_items}
-use Rattle.step_kinds.specs.declared.kind.Kind.TheVariants.{DeclCut, SelCut, SelJoinDown, DeclJoinDown, Sharing}
-use Rattle.step_kinds.specs.StepsByKind.{second_of}
+use Rattle.std.proofs.Common.{◌≡◌, ℕ, zero, suc, ◌+◌, ◌<◌, ◌≤◌, ◌^◌, List, [], ◌∷◌, Some, None, length, sym, ap, ap₂, subst, ◌∙◌, arith}
+use Rattle.std.specs.Prelude.{slice_get, slice_index}
+use Rattle.cascade_laws.proofs.ForCallers.{some-same}
+use Rattle.css_model.specs.declared.sheet.Item.{Item}
+use Rattle.css_model.specs.declared.sheet.Item.TheVariants.{Rule, KeptRule, KeptBlock}
+use Rattle.css_model.specs.Sheets.Limits.{max_bytes, max_items}
+use Rattle.css_model.specs.Sheets.RuleParts.{RuleParts}
+use Rattle.pending_laws.specs.Priorities.{named}
+use Rattle.step_kinds.specs.declared.kind.Kind.{Kind}
+use Rattle.step_kinds.specs.declared.kind.Kind.TheVariants.{DeclCut, SelCut, SelJoinUp, SelJoinDown, DeclJoinUp, DeclJoinDown, Sharing}
+use Rattle.step_queue.specs.declared.candidate.Candidate.{Candidate}
+use Rattle.step_queue.specs.Told.{candidate_told}
+use Rattle.step_kinds.specs.StepsByKind.{kind_of, second_of, step_of_kind}
+use Rattle.saved_bytes.specs.Savings.{IsSaving}
+use Rattle.order_laws.specs.Edits.{Edit, edited}
+use Rattle.indexed_sheet.specs.IndexedParts.{IndexedParts}
+use Rattle.indexed_sheet.specs.declared.marks.Mark.{Mark}
+use Rattle.indexed_sheet.specs.MarkList.{AreMarks}
+use Rattle.plan_laws.specs.Plannable.{IsPlannable}
+use Rattle.step_laws.specs.declared.step.Step.{Step}
+use Rattle.step_laws.specs.declared.step.Step.TheVariants.{CutDecl, CutSel, JoinSelUp, JoinSelDown, JoinDeclUp, JoinDeclDown, Share}
 use Rattle.step_laws.specs.Left.{PartsAreFew}
-use Rattle.step_laws.specs.Sizes.{part_count}
+use Rattle.step_laws.specs.Sizes.{Saves, part_count, size}
+use Rattle.step_laws.specs.Steps.{HasStep, IsStep, first_item}
+use Rattle.indexed_sheet.specs.MarkList.{order_keys_of}
 use Rattle.next_step.specs.Named.{IsStepOf, Names, NamesNone}
 use Rattle.next_step.specs.Seconds.{HasSecond, second_name}
 use Rattle.step_kinds.proofs.ForCallers.{made_of}

@@ -1,16 +1,35 @@
 -- The steps in the scope of a candidate: cuts of its item, and steps with partners.
-use Rattle.next_step.proofs.Words.{AreMarks, Candidate, CoversIn, CutDecl, CutSel, Edit, FoundParts, IndexedParts, IsByDecls, IsOfTwo, IsOrderKeyAt, IsOwner, IsSelectorJoin, IsStep, IsWith, Item, JoinDeclDown, JoinDeclUp, JoinSelDown, JoinSelUp, List, Mark, Option, Owner, Rule, RuleParts, Share, Some, Step, View, ap, arith, candidate_told, first_item, first_rule, inl, inr, item_ids_of, last_item, last_rule, length, named, order_keys_of, slice_get, slice_get_within, slice_index, subst, sym, ℕ, ◌<◌, ◌∙◌, ◌≡◌, ◌≤◌, ◌⊎◌}
-use Rattle.std.specs.Prelude.{nat_lt}
+use Rattle.std.proofs.Common.{◌≡◌, ◌⊎◌, ℕ, ◌<◌, ◌≤◌, List, Option, Some, length, sym, ap, subst, inl, inr, ◌∙◌, arith}
+use Rattle.std.specs.Prelude.{nat_lt, slice_get, slice_index}
 use Rattle.std.proofs.lemmas.Bool.{cond_both, ltb-false, ltb-true}
+use Rattle.std.proofs.lemmas.Option.{slice_get_within}
+use Rattle.css_model.specs.declared.sheet.Item.{Item}
+use Rattle.css_model.specs.declared.sheet.Item.TheVariants.{Rule}
+use Rattle.css_model.specs.Sheets.RuleParts.{RuleParts}
 use Rattle.pending_laws.specs.ItemIds.{later_created, owner}
 use Rattle.pending_laws.specs.Scopes.{Scope, Alone, Owned, Ups, Downs, IsInScope}
+use Rattle.pending_laws.specs.Priorities.{named}
+use Rattle.step_queue.specs.declared.candidate.Candidate.{Candidate}
 use Rattle.step_queue.specs.declared.candidate.Scope as coded
 use Rattle.step_queue.specs.declared.candidate.Scope.TheVariants as scopes
-use Rattle.step_queue.specs.Told.{scope_told}
-use Rattle.indexed_sheet.specs.MarkList.{LacksOrderKey}
-use Rattle.next_step.specs.Looking.{Reaches}
+use Rattle.step_queue.specs.Told.{candidate_told, scope_told}
+use Rattle.order_laws.specs.Edits.{Edit}
+use Rattle.indexed_sheet.specs.IndexedParts.{IndexedParts}
+use Rattle.indexed_sheet.specs.declared.marks.Mark.{Mark}
+use Rattle.indexed_sheet.specs.MarkList.{AreMarks, IsOrderKeyAt, LacksOrderKey}
+use Rattle.step_laws.specs.declared.step.Step.{Step}
+use Rattle.step_laws.specs.declared.step.Step.TheVariants.{CutDecl, CutSel, JoinSelUp, JoinSelDown, JoinDeclUp, JoinDeclDown, Share}
+use Rattle.step_laws.specs.Steps.{IsStep, first_item, last_item}
+use Rattle.step_savings.proofs.ForCallers.{first_rule, last_rule}
+use Rattle.next_step.specs.Kinds.{IsByDecls, IsSelectorJoin}
+use Rattle.next_step.specs.Looking.{FoundParts, IsWith, Reaches}
+use Rattle.indexed_sheet.specs.MarkList.{item_ids_of, order_keys_of}
 use Rattle.next_step.specs.Named.{IsQueuedBeside}
+use Rattle.next_step.specs.Viewed.{CoversIn, IsFocus}
+use Rattle.next_step.specs.declared.view.Focus.{Focus}
+use Rattle.next_step.specs.declared.view.View.{View}
 use Rattle.next_step.proofs.Telling.{item_id_at, mark_of, mark_there, same_item_id, same_order_key, there_of}
+use Rattle.plan_laws.specs.Barrier.Renumbering.{IsOfTwo}
 
 -- ---- Of two items the later created
 
@@ -47,7 +66,7 @@ one_of_two xs Downs item_id k (down, first) = inl (sym first)
 
 -- ---- All steps in the scope of a candidate
 
-module _ (v : View) (o : Owner) (is_owner : IsOwner v o) (are : AreMarks v.indexed.now.marks v.indexed.now.next) (beside : length v.indexed.now.marks ≡ length v.indexed.now.items) where
+module _ (v : View) (o : Focus) (is_focus : IsFocus v o) (are : AreMarks v.indexed.now.marks v.indexed.now.next) (beside : length v.indexed.now.marks ≡ length v.indexed.now.items) where
   mark_at : (n : ℕ) → n < length v.indexed.now.items → (m : Mark) × (slice_get v.indexed.now.marks n ≡ Some m)
   mark_at n less = mark_there v.indexed.now.marks n (subst (λ (c : ℕ). n < c) (sym beside) less)
 
@@ -55,8 +74,8 @@ module _ (v : View) (o : Owner) (is_owner : IsOwner v o) (are : AreMarks v.index
   is_number : (n : ℕ) → n < length v.indexed.now.items → slice_index (item_ids v.indexed.now) n ≡ v.after.now.owner → n ≡ o.number
   is_number n less is =
       let m : (m : Mark) × (slice_get v.indexed.now.marks n ≡ Some m) = mark_at n less in
-      same_item_id v.indexed.now.marks v.indexed.now.next are n o.number m.0 is_owner.order_key.0 m.1 is_owner.order_key.1
-      (sym (item_id_at v.indexed.now.marks n m.0 m.1) ∙ is ∙ sym is_owner.owned ∙ item_id_at v.indexed.now.marks o.number is_owner.order_key.0 is_owner.order_key.1)
+      same_item_id v.indexed.now.marks v.indexed.now.next are n o.number m.0 is_focus.order_key.0 m.1 is_focus.order_key.1
+      (sym (item_id_at v.indexed.now.marks n m.0 m.1) ∙ is ∙ sym is_focus.owned ∙ item_id_at v.indexed.now.marks o.number is_focus.order_key.0 is_focus.order_key.1)
 
   -- the steps of each kind
   module _ (best : FoundParts) (cuts : (k : Step) → (IsOfTwo k → ⊥) → first_item k ≡ o.number → CoversIn v best k)

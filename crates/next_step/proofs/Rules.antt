@@ -1,7 +1,17 @@
 -- Rules by their order keys, and when parts of them can be cut.
-use Rattle.next_step.proofs.Words.{AreMarks, Contains, IndexedParts, IsOrderKeyAt, Item, List, Mark, Option, Rule, RuleParts, Some, [], ap, order_keys_of, rules_of, slice_get, subst, sym, with_order_key, ℕ, ◌↔◌, ◌∙◌, ◌≡◌}
-use Rattle.indexed_sheet.specs.MarkList.{LacksOrderKey}
+use Rattle.std.proofs.Common.{◌≡◌, ◌↔◌, ℕ, List, [], Option, Some, sym, ap, subst, ◌∙◌}
+use Rattle.std.specs.Prelude.{slice_get}
+use Rattle.std.specs.List.{Contains}
+use Rattle.css_model.specs.declared.sheet.Item.{Item}
+use Rattle.css_model.specs.declared.sheet.Item.TheVariants.{Rule}
+use Rattle.css_model.specs.Sheets.RuleParts.{RuleParts}
+use Rattle.indexed_sheet.specs.IndexedParts.{IndexedParts}
+use Rattle.indexed_sheet.specs.declared.marks.Mark.{Mark}
+use Rattle.indexed_sheet.specs.MarkList.{AreMarks, IsOrderKeyAt, LacksOrderKey}
 use Rattle.rule_tables.specs.StepPartners.{OrderKeyedRulesStand, RulesAreOrderKeyed}
+use Rattle.rule_tables.specs.Tables.{with_order_key}
+use Rattle.indexed_sheet.specs.MarkList.{order_keys_of}
+use Rattle.next_step.specs.Marked.{rules_of}
 use Rattle.next_step.proofs.Telling.{mark_of, same_order_key, there_of}
 
 -- ---- An order key has one rule

@@ -1,12 +1,32 @@
 -- Joins by selectors: what they save at most, and that they come late.
-use Rattle.next_step.proofs.Words.{AreLateFrom, AreMarks, AreNotHeavier, Contains, Contains-here, CoversIn, CutDecl, CutSel, Edit, FoundParts, IsFrom, IsOfTwo, IsOwner, IsSelectorJoin, IsSound, IsStep, IsStrictlyIncreasing, IsWith, Item, JoinDeclDown, JoinDeclUp, JoinSelDown, JoinSelUp, List, Owner, Saves, SelJoinUp, Share, Step, View, first_item, inl, inr, kind_of, last_item, refl, step_of_kind, subst, sym, ℕ, ◌∷◌, ◌≡◌, ◌≤◌}
+use Rattle.std.proofs.Common.{◌≡◌, ◌≤◌, ℕ, List, ◌∷◌, refl, sym, subst, inl, inr}
+use Rattle.std.specs.List.{Contains}
+use Rattle.std.specs.List.Sorted.{IsStrictlyIncreasing}
+use Rattle.css_model.specs.declared.sheet.Item.{Item}
+use Rattle.css_model.specs.Sheets.Sound.{IsSound}
 use Rattle.step_queue.specs.declared.heaviest.Heaviest.{Heaviest}
-use Rattle.next_step.specs.LaterOrderKeys.{AreAllOnOneSide}
-use Rattle.next_step.specs.Viewed.{IsView}
+use Rattle.step_kinds.specs.declared.kind.Kind.TheVariants.{SelJoinUp}
+use Rattle.step_queue.specs.Heaviest.{AreNotHeavier}
+use Rattle.step_kinds.specs.StepsByKind.{kind_of, step_of_kind}
+use Rattle.list_facts.proofs.Members.{Contains-here}
+use Rattle.order_laws.specs.Edits.{Edit}
+use Rattle.indexed_sheet.specs.MarkList.{AreMarks}
+use Rattle.step_laws.specs.declared.step.Step.{Step}
+use Rattle.step_laws.specs.declared.step.Step.TheVariants.{CutDecl, CutSel, JoinSelUp, JoinSelDown, JoinDeclUp, JoinDeclDown, Share}
+use Rattle.step_laws.specs.Sizes.{Saves}
+use Rattle.step_laws.specs.Steps.{IsStep, first_item, last_item}
+use Rattle.next_step.specs.Kinds.{IsSelectorJoin}
+use Rattle.next_step.specs.Late.{IsFrom}
+use Rattle.next_step.specs.LaterOrderKeys.{AreAllOnOneSide, AreLateFrom}
+use Rattle.next_step.specs.Looking.{FoundParts, IsWith}
+use Rattle.next_step.specs.Viewed.{CoversIn, IsFocus, IsView}
+use Rattle.next_step.specs.declared.view.Focus.{Focus}
+use Rattle.next_step.specs.declared.view.View.{View}
 use Rattle.next_step.proofs.Later.{late_covers}
 use Rattle.next_step.proofs.LaterOrderKeys.{first_is_least, late_with}
 use Rattle.next_step.proofs.Telling.{order_key_index}
 use Rattle.next_step.proofs.Weights.{selectors_down, selectors_up}
+use Rattle.plan_laws.specs.Barrier.Renumbering.{IsOfTwo}
 
 pub joins_two : (k : Step) → IsSelectorJoin k → IsOfTwo k
 joins_two (CutDecl n i) join = join
@@ -49,11 +69,11 @@ both_covered v found upper lower up down (JoinDeclDown x y) join first last = ab
 both_covered v found upper lower up down (Share x y) join first last = absurd join
 
 -- the joins with this order key and with all behind it are late
-pub joins_are_late : (v : View) → IsView v → (o : Owner) → IsOwner v o → (found : FoundParts) (next : ℕ) → AreMarks v.indexed.now.marks next → (h : Heaviest) → AreNotHeavier v.source.now v.indexed.now.items h → (order_key : ℕ) (behind rest all : List ℕ) → rest ≡ order_key ∷ behind → IsStrictlyIncreasing rest →
+pub joins_are_late : (v : View) → IsView v → (o : Focus) → IsFocus v o → (found : FoundParts) (next : ℕ) → AreMarks v.indexed.now.marks next → (h : Heaviest) → AreNotHeavier v.source.now v.indexed.now.items h → (order_key : ℕ) (behind rest all : List ℕ) → rest ≡ order_key ∷ behind → IsStrictlyIncreasing rest →
     ((x : ℕ) → Contains rest x → Contains all x) → AreAllOnOneSide o.order_key all → AreLateFrom found.others SelJoinUp o.order_key order_key h.selectors →
     (x : ℕ) (k : Step) → Contains rest x → IsWith v.indexed.now o.number x k → IsSelectorJoin k → CoversIn v found k
-joins_are_late v is_view o is_owner found next are h heavy order_key behind rest all is ascends within side late x k left with_it join =
+joins_are_late v is_view o is_focus found next are h heavy order_key behind rest all is ascends within side late x k left with_it join =
     let first : Contains rest order_key = subst (λ (xs : List ℕ). Contains xs order_key) (sym is) (Contains-here order_key behind) in
     let least : order_key ≤ x = first_is_least order_key behind (subst IsStrictlyIncreasing is ascends) x (subst (λ (xs : List ℕ). Contains xs x) is left) in
     late_covers v found k
-    (late_with v.source.now v.indexed.now next are found SelJoinUp o.order_key order_key h.selectors o.number (order_key_index v.indexed.now.marks o.number o.order_key is_owner.order_key) late x k least (side order_key x (within order_key first) (within x left)) with_it (join_from k join) (join_saves v.source.now v.indexed.now.items is_view.plannable.sound h heavy k join))
+    (late_with v.source.now v.indexed.now next are found SelJoinUp o.order_key order_key h.selectors o.number (order_key_index v.indexed.now.marks o.number o.order_key is_focus.order_key) late x k least (side order_key x (within order_key first) (within x left)) with_it (join_from k join) (join_saves v.source.now v.indexed.now.items is_view.plannable.sound h heavy k join))

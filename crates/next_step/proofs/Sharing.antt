@@ -1,25 +1,40 @@
 -- What shares of two rules save.
-use Rattle.next_step.proofs.Words.{AreDeclsAmong, Bool, Contains, Contains-here, Contains-there, Decl, DeclItem, Edit, IsPlannable, IsSaving, IsSound, IsStep, Item, List, Rule, RuleParts, SelItem, SelectorParts, Share, Some, StandOnce, [], among_weight, ap, ap₂, arith, edited, false, false≢true, inl, inr, length, max_bytes, printed_declaration, printed_selector, refl, size, slice_get, subst, sym, true, weight, ℕ, ◌+◌, ◌↔◌, ◌∙◌, ◌∷◌, ◌≡◌, ◌≤◌, ◌⊎◌}
-use Rattle.std.proofs.Common.{not, cond, ◌++◌}
-use Rattle.std.specs.Prelude.{get_or}
-use Rattle.std.specs.List.{filter, list_all}
-use Rattle.std.proofs.lemmas.Bool.{false_from_ne_true}
+use Rattle.std.proofs.Common.{◌≡◌, ◌⊎◌, ◌↔◌, ℕ, ◌+◌, ◌≤◌, Bool, true, false, not, cond, List, [], ◌∷◌, ◌++◌, Some, length, refl, sym, ap, ap₂, subst, inl, inr, ◌∙◌, arith}
+use Rattle.std.specs.Prelude.{get_or, slice_get}
+use Rattle.std.specs.List.{Contains, filter, list_all}
+use Rattle.std.proofs.lemmas.Bool.{false_from_ne_true, false≢true}
 use Rattle.std.proofs.lemmas.List.Elements.{All-contains, All-contains_itself}
 use Rattle.std.proofs.lemmas.List.Kept.{AllPairs-filter}
 use Rattle.std.proofs.lemmas.List.Sums.{AllPass-from_list_all, list_all-from_AllPass}
 use Rattle.std.proofs.lemmas.List.Quantifiers.{all_pairs_remove}
-use Rattle.list_facts.proofs.Members.{Contains-cons_cases, Contains-nil}
+use Rattle.css_model.specs.declared.sheet.Decl.{Decl}
+use Rattle.css_model.specs.declared.sheet.DeclItem.{DeclItem}
+use Rattle.css_model.specs.declared.sheet.Item.{Item}
+use Rattle.css_model.specs.declared.sheet.Item.TheVariants.{Rule}
+use Rattle.css_model.specs.declared.sheet.SelItem.{SelItem}
+use Rattle.css_model.specs.Documents.SelectorParts.{SelectorParts}
+use Rattle.css_model.specs.Sheets.Limits.{max_bytes}
+use Rattle.css_model.specs.Sheets.Printed.{printed_declaration, printed_selector}
+use Rattle.css_model.specs.Sheets.RuleParts.{RuleParts}
+use Rattle.css_model.specs.Sheets.Sound.{IsSound}
+use Rattle.saved_bytes.specs.Savings.{IsSaving}
+use Rattle.list_facts.proofs.Members.{Contains-cons_cases, Contains-here, Contains-nil, Contains-there}
 use Rattle.order_laws.proofs.ForCallers.{decls, sels, has_decl_is, has_selector_is, map_from, map_has}
+use Rattle.order_laws.specs.Edits.{Edit, edited}
 use Rattle.order_laws.specs.Members.{has_decl, has_selector}
 use Rattle.step_laws.proofs.ForCallers.{in_common, is_common, rule_is_light, rule_sound, steps_weigh}
+use Rattle.step_laws.specs.declared.step.Step.TheVariants.{Share}
 use Rattle.step_laws.specs.RuleParting.{both_selectors, common_decls, each_last, item_if_any, rule_or_none, without_decls}
-use Rattle.step_laws.specs.Sizes.{brought_weight, rule_weight, rules_weight}
+use Rattle.step_laws.specs.Sizes.{brought_weight, rule_weight, rules_weight, size, weight}
 use Rattle.step_laws.specs.StepEdits.{shared}
+use Rattle.step_laws.specs.Steps.{AreDeclsAmong, IsStep}
+use Rattle.plan_laws.specs.Plannable.{IsPlannable}
 use Rattle.step_savings.specs.Apart.{AreApart}
 use Rattle.step_savings.specs.Weighing.{IsWeighable}
 use Rattle.step_savings.proofs.ForCallers.{edit_is}
 use Rattle.next_step.proofs.Differing.{once_removed}
-use Rattle.next_step.specs.Shares.{IsKept, new_selectors}
+use Rattle.next_step.specs.Once.{StandOnce}
+use Rattle.next_step.specs.Shares.{IsKept, among_weight, new_selectors}
 
 -- ---- Weights of parts of lists
 
@@ -46,10 +61,10 @@ module _ {A : Type 0} (text : A → List ℕ) where
 -- ---- Declarations that stand once
 
 module _ (x : DeclItem) (xs : List DeclItem) (once : StandOnce (λ (d : DeclItem). d.decl) (x ∷ xs)) where
-  rest_once : StandOnce (λ (d : DeclItem). d.decl) xs
+  pub rest_once : StandOnce (λ (d : DeclItem). d.decl) xs
   rest_once = all_pairs_remove (λ (a b : DeclItem). a.decl ≡ b.decl → ⊥) (x ∷ xs) 0 (omega arith) once
 
-  not_again : has_decl xs x.decl ≡ false
+  pub not_again : has_decl xs x.decl ≡ false
   not_again = false_from_ne_true (has_decl xs x.decl) (λ has. once_removed (λ (d : DeclItem). d.decl) (x ∷ xs) 0 x once refl ((has_decl_is xs x.decl).0 has))
 
 each_is_last : (xs : List DeclItem) → StandOnce (λ (d : DeclItem). d.decl) xs → each_last xs ≡ xs
@@ -65,7 +80,7 @@ module _ (p q : DeclItem → Bool) where
   same_filter (x ∷ ds) agree =
       ap₂ (λ (b : Bool) (xs : List DeclItem). cond b (x ∷ xs) xs) (agree x (Contains-here x.decl (decls ds))) (same_filter ds (λ d h. agree d (Contains-there x.decl (decls ds) d.decl h)))
 
-truths : (a b : Bool) → (a ≡ true → b ≡ true) → (b ≡ true → a ≡ true) → a ≡ b
+pub truths : (a b : Bool) → (a ≡ true → b ≡ true) → (b ≡ true → a ≡ true) → a ≡ b
 truths true b f g = sym (f refl)
 truths false true f g = absurd (false≢true (g refl))
 truths false false f g = refl

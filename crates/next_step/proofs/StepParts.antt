@@ -1,10 +1,25 @@
 -- Steps by their kind and their two numbers.
-use Rattle.next_step.proofs.Words.{CutDecl, CutSel, DeclJoinUp, HasStep, Item, JoinDeclDown, JoinDeclUp, JoinSelDown, JoinSelUp, Kind, List, Mark, None, Rule, RuleParts, SelJoinUp, Share, Some, Step, [], ap, ap₂, first_item, first_rule, kind_of, last_item, last_rule, length, named, order_keys_of, priority_of, refl, slice_get, slice_get_within, slice_index, some-same, step_of_kind, subst, suc, sym, zero, ℕ, ◌<◌, ◌^◌, ◌∙◌, ◌∷◌, ◌≡◌}
-use Rattle.step_kinds.specs.declared.kind.Kind.TheVariants.{DeclCut, SelCut, SelJoinDown, DeclJoinDown, Sharing}
-use Rattle.step_kinds.specs.StepsByKind.{second_of}
+use Rattle.std.proofs.Common.{◌≡◌, ◌<◌, ◌^◌, ℕ, zero, suc, List, [], ◌∷◌, Some, None, length, refl, sym, ap, ap₂, subst, ◌∙◌}
+use Rattle.std.specs.Prelude.{slice_get, slice_index}
+use Rattle.std.proofs.lemmas.Option.{slice_get_within}
+use Rattle.cascade_laws.proofs.ForCallers.{some-same}
+use Rattle.css_model.specs.declared.sheet.Item.{Item}
+use Rattle.css_model.specs.declared.sheet.Item.TheVariants.{Rule}
+use Rattle.css_model.specs.Sheets.RuleParts.{RuleParts}
+use Rattle.pending_laws.specs.Priorities.{named}
+use Rattle.step_kinds.specs.declared.kind.Kind.{Kind}
+use Rattle.step_kinds.specs.declared.kind.Kind.TheVariants.{DeclCut, SelCut, SelJoinUp, SelJoinDown, DeclJoinUp, DeclJoinDown, Sharing}
+use Rattle.step_kinds.specs.StepsByKind.{kind_of, second_of, step_of_kind}
 use Rattle.step_kinds.proofs.ForCallers.{made_of, kind_is, first_is, second_is}
+use Rattle.indexed_sheet.specs.declared.marks.Mark.{Mark}
 use Rattle.plan_laws.specs.Cover.{Priority}
+use Rattle.step_laws.specs.declared.step.Step.{Step}
+use Rattle.step_laws.specs.declared.step.Step.TheVariants.{CutDecl, CutSel, JoinSelUp, JoinSelDown, JoinDeclUp, JoinDeclDown, Share}
+use Rattle.step_laws.specs.Steps.{HasStep, first_item, last_item}
+use Rattle.step_savings.proofs.ForCallers.{first_rule, last_rule}
+use Rattle.indexed_sheet.specs.MarkList.{order_keys_of}
 use Rattle.next_step.specs.Seconds.{HasItem, HasSecond, second_name}
+use Rattle.plan_laws.specs.Barrier.Hindering.{priority_of}
 use Rattle.plan_laws.specs.Barrier.Renumbering.{renumbered}
 
 -- ---- Names in place of numbers

@@ -1,8 +1,15 @@
 -- Order keys and item ids tell the items of an indexed sheet.
-use Rattle.next_step.proofs.Words.{AllPairs, AreMarks, IsOrderKeyAt, Item, List, Mark, None, Option, Some, [], ap, arith, cases_lt, get_or, inl, inr, item_ids_of, length, map, order_keys_of, refl, slice_get, slice_get_within, slice_index, some-same, subst, suc, sym, zero, ℕ, ◌<◌, ◌∙◌, ◌∷◌, ◌≡◌, ◌≢◌}
-use Rattle.std.proofs.lemmas.Option.{get_or_from_slice_get}
-use Rattle.indexed_sheet.specs.MarkList.{LacksOrderKey}
+use Rattle.std.proofs.Common.{inl, inr, ◌≡◌, ◌≢◌, ℕ, zero, suc, ◌<◌, List, [], ◌∷◌, Option, Some, None, length, map, get_or, refl, sym, ap, subst, ◌∙◌, arith}
+use Rattle.std.specs.Prelude.{slice_get, slice_index}
+use Rattle.std.specs.List.{AllPairs}
+use Rattle.std.proofs.lemmas.Bool.{cases_lt}
+use Rattle.std.proofs.lemmas.Option.{get_or_from_slice_get, slice_get_within}
+use Rattle.cascade_laws.proofs.ForCallers.{some-same}
+use Rattle.css_model.specs.declared.sheet.Item.{Item}
+use Rattle.indexed_sheet.specs.declared.marks.Mark.{Mark}
+use Rattle.indexed_sheet.specs.MarkList.{AreMarks, IsOrderKeyAt, LacksOrderKey}
 use Rattle.rule_tables.specs.Cutting.{AreTold}
+use Rattle.indexed_sheet.specs.MarkList.{item_ids_of, order_keys_of}
 use Rattle.next_step.proofs.StepParts.{order_key_at}
 
 -- ---- Marks

@@ -1,15 +1,29 @@
 -- What steps of two rules save at most.
-use Rattle.next_step.proofs.Words.{Bool, CommonWeighsAtMost, Contains, Contains-here, Contains-there, Edit, IsSound, IsStep, Item, JoinDeclDown, JoinDeclUp, JoinSelDown, JoinSelUp, List, Rule, RuleParts, RulesApart, Saves, SelItem, SelectorParts, Some, Step, [], ap, arith, edited, false, first_item, last_item, length, max_bytes, printed_declaration, printed_selector, refl, size, slice_get, subst, true, weight, ℕ, ◌+◌, ◌∙◌, ◌∷◌, ◌≡◌, ◌≤◌}
-use Rattle.std.proofs.Common.{not, cond, ◌++◌}
-use Rattle.std.specs.List.{filter}
+use Rattle.std.proofs.Common.{◌≡◌, ℕ, ◌+◌, ◌≤◌, Bool, true, false, not, cond, List, [], ◌∷◌, ◌++◌, Some, length, refl, ap, subst, ◌∙◌, arith}
+use Rattle.std.specs.Prelude.{slice_get}
+use Rattle.std.specs.List.{Contains, filter}
 use Rattle.std.proofs.lemmas.Bool.{false_from_ne_true}
+use Rattle.list_facts.proofs.Members.{Contains-here, Contains-there}
+use Rattle.css_model.specs.declared.sheet.Item.{Item}
+use Rattle.css_model.specs.declared.sheet.Item.TheVariants.{Rule}
+use Rattle.css_model.specs.declared.sheet.SelItem.{SelItem}
+use Rattle.css_model.specs.Documents.SelectorParts.{SelectorParts}
+use Rattle.css_model.specs.Sheets.Limits.{max_bytes}
+use Rattle.css_model.specs.Sheets.Printed.{printed_declaration, printed_selector}
+use Rattle.css_model.specs.Sheets.RuleParts.{RuleParts}
+use Rattle.css_model.specs.Sheets.Sound.{IsSound}
 use Rattle.order_laws.proofs.ForCallers.{has_selector_is, sels}
+use Rattle.order_laws.specs.Edits.{Edit, edited}
 use Rattle.order_laws.specs.Members.{has_selector}
 use Rattle.step_laws.proofs.ForCallers.{rule_is_light, steps_weigh}
+use Rattle.step_laws.specs.declared.step.Step.{Step}
+use Rattle.step_laws.specs.declared.step.Step.TheVariants.{JoinDeclDown, JoinDeclUp, JoinSelDown, JoinSelUp}
 use Rattle.step_laws.specs.RuleParting.{both_selectors}
-use Rattle.step_laws.specs.Sizes.{brought_weight, rule_weight, taken_weight}
+use Rattle.step_laws.specs.Sizes.{Saves, brought_weight, rule_weight, size, taken_weight, weight}
 use Rattle.step_laws.specs.StepEdits.{join_decls_down, join_decls_up, join_selectors_down, join_selectors_up}
-use Rattle.next_step.specs.Late.{DeclsWeighAtMost, LeavesOfSelectors, SelectorsWeighAtMost}
+use Rattle.step_laws.specs.Steps.{IsStep, first_item, last_item}
+use Rattle.step_savings.specs.Apart.{RulesApart}
+use Rattle.next_step.specs.Late.{CommonWeighsAtMost, DeclsWeighAtMost, LeavesOfSelectors, SelectorsWeighAtMost}
 
 -- ---- Parts of lists
 

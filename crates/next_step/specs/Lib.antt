@@ -1,4 +1,4 @@
-pub mod Digested
+pub mod Common
 pub mod Halves
 pub mod Kinds
 pub mod Late
@@ -7,6 +7,7 @@ pub mod Looking
 pub mod Marked
 pub mod Named
 pub mod Once
+pub mod Repeated
 pub mod Seconds
 pub mod Shares
 pub mod Viewed

@@ -11,12 +11,11 @@ use Rattle.plan_laws.specs.Plannable.{IsPlannable}
 use Rattle.rule_tables.specs.Tables.{Cover}
 use Rattle.step_laws.specs.declared.step.Step.{Step}
 use Rattle.step_savings.specs.Apart.{RulesApart, StepApart}
-use Rattle.next_step.specs.Digested.{Tells}
 use Rattle.next_step.specs.Looking.{AreLater, Covers, FoundParts, Keeps}
 use Rattle.next_step.specs.Marked.{rules_of}
-use Rattle.next_step.specs.Once.{DeclsStandOnce, PartsStandOnce}
+use Rattle.next_step.specs.Once.{DeclsStandOnce, PartStandsOnce}
 use Rattle.next_step.specs.declared.view.Attempt.{Attempt}
-use Rattle.next_step.specs.declared.view.Owner.{Owner}
+use Rattle.next_step.specs.declared.view.Focus.{Focus}
 use Rattle.next_step.specs.declared.view.Partners.{Partners}
 use Rattle.next_step.specs.declared.view.View.{View}
 
@@ -27,12 +26,11 @@ pub record IsView (v : View) : Type 0 where
   pub weighed : AreWeighed v.source.now v.indexed.now.items (item_ids_of v.indexed.now.marks) v.weights.now
 
 -- The rule is the one of this number, its item has this order key and owns what the candidate stands for, and what is told of it is so.
-pub record IsOwner (v : View) (o : Owner) : Type 0 where
+pub record IsFocus (v : View) (o : Focus) : Type 0 where
   pub rule : slice_get v.indexed.now.items o.number ≡ Some (Rule o.rule.now)
   pub there : o.number < length v.indexed.now.items
   pub order_key : IsOrderKeyAt v.indexed.now.marks o.order_key o.number
   pub owned : slice_index (item_ids_of v.indexed.now.marks) o.number ≡ v.after.now.owner
-  pub digests : Tells o.digests.now o.rule.now
   pub own_selectors : o.own_selectors ≡ true → HasOwnSelectors v.indexed.now.items o.number
   pub once : o.once ≡ true → DeclsStandOnce v.indexed.now.items o.number
 
@@ -41,11 +39,11 @@ pub record ArePartners (indexed : IndexedParts) (p : Partners) : Type 0 where
   pub upper : p.upper < length indexed.items
   pub lower : p.lower < length indexed.items
   pub apart : p.apart ≡ true → RulesApart indexed.items p.upper p.lower
-  pub once : p.once ≡ true → DeclsStandOnce indexed.items p.lower
+  pub once : p.lower_once ≡ true → DeclsStandOnce indexed.items p.lower
 
 -- What is told of a step is so.
 pub record IsAttempt (v : View) (a : Attempt) : Type 0 where
-  pub once : a.once ≡ true → PartsStandOnce v.indexed.now.items a.step
+  pub once : a.part_once ≡ true → PartStandsOnce v.indexed.now.items a.step
   pub apart : a.apart ≡ true → StepApart v.indexed.now.items a.step
   pub past : a.past ≡ true → IsBarred v.indexed.now v.barriers.now a.step
 

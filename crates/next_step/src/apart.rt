@@ -1,85 +1,70 @@
 //! What is known of two rules without a look at all their parts: that they have no selector in common.
 //! `known` takes what was noted of them, and `masks` one word of each of them, which says more of their steps.
-//! Digests of the selectors of a rule are compared with those of another one.
+//! Many selectors of a rule are looked for in the tables.
 
-ghost use Rattle.std.specs.Prelude.{◌≡◌, ◌<◌, IfOk, Some, length, slice_get, true};
+ghost use Rattle.std.specs.Prelude.{◌≡◌, ◌<◌, Some, length, slice_get, true};
 ghost use Rattle.css_model.specs.declared.sheet.Item.TheVariants as item;
 ghost use Rattle.css_model.specs.Sheets.RuleParts.{RuleParts};
 ghost use Rattle.step_savings.specs.Apart.{AreApart, RulesApart};
-ghost use Rattle.next_step.specs.Digested.{HasNone, Tells};
-ghost use Rattle.next_step.specs.Viewed.{IsOwner};
+ghost use Rattle.next_step.specs.Viewed.{IsFocus, IsView};
 
 pub(crate) mod known;
 pub(crate) mod masks;
 
 use crate::apart::masks::share_no_selector;
-use crate::view::{Owner, View};
-use css_model::{Rule, SelItem};
-use indexed_sheet::IndexedSheet;
+use crate::view::{Focus, View};
+use css_model::Rule;
 use rule_parts::find_rule;
-use rule_tables::{selector_digest, selector_digests};
-use std::alloc::{AllocError, Global};
-use std::collections::BTreeSet;
+use rule_tables::rules_are_order_keyed;
 
-/// Rules with fewer selectors than this get no digests.
+/// Rules with fewer selectors than this are not looked for in the tables.
 const FEW: usize = 16;
 
-/// The digests of the selectors of a rule, or `None` if it has few.
-/// `Err(AllocError)` if memory is short.
-pub(crate) fn told_digests(alloc: Global, rule: &Rule) -> Result<Option<BTreeSet<u32>>, AllocError>
-    ensures { IfOk result (λ told. Tells told rule.now) }
+/// Whether the rule of this number is known to have no selector of another rule, by the tables.
+fn has_none_of(view: &View<'_>, number: u32, rule: &Rule) -> bool
+    requires view { IsView view.now }
+    requires there { number < length view.now.indexed.now.items }
+    ensures { result ≡ true → (r : RuleParts) → slice_get view.now.indexed.now.items number ≡ Some (item.Rule r) → AreApart r rule.now }
 {
-    if rule.selectors.len() < FEW {
-        return Ok(None);
-    }
-    let digests = selector_digests(alloc, &rule.selectors)?;
-    let seen: BTreeSet<u32> = digests.into_iter().collect(alloc)?;
-    Ok(Some(seen))
+    rules_are_order_keyed();
+    let _marks = view.indexed.marks();
+    let order_key = view.indexed.mark(number).order_key;
+    view.tables.has_none_of(order_key, &rule.selectors)
 }
 
-/// Whether it is known that no selector has one of these digests.
-fn have_none(seen: &BTreeSet<u32>, selectors: &[SelItem]) -> bool
-    ensures { result ≡ true → HasNone seen.now selectors.now }
+/// Whether the focus and the rule of another number are known to have no selector in common, by the tables.
+/// Those of the rule with fewer selectors are looked for. Of few selectors none is looked for.
+fn are_apart_by_tables(view: &View<'_>, focus: &Focus<'_>, other: u32, rule: &Rule) -> bool
+    requires view { IsView view.now }
+    requires focus { IsFocus view.now focus.now }
+    requires rule { slice_get view.now.indexed.now.items other ≡ Some (item.Rule rule.now) }
+    ensures { result ≡ true → AreApart focus.now.rule.now rule.now }
 {
-    let mut rest = selectors;
-    'rest: while let Some((first, behind)) = rest.split_first() {
-        let digest = selector_digest(&first.selector);
-        if seen.contains(&digest) {
-            return false;
-        }
-        rest = behind;
+    let own = focus.rule;
+    let ours = own.selectors.len();
+    let theirs = rule.selectors.len();
+    if ours < FEW && theirs < FEW {
+        return false;
     }
-    true
-}
-
-/// Whether a rule is known to have no selector in common with the rule that has the digests `told`.
-fn is_apart(told: &Option<BTreeSet<u32>>, rule: &Rule) -> bool
-    ensures { result ≡ true → (r : RuleParts) → Tells told.now r → AreApart r rule.now }
-{
-    match told {
-        Some(seen) => have_none(seen, &rule.selectors),
-        None => false,
+    if theirs < ours {
+        has_none_of(view, focus.number, rule)
+    } else {
+        has_none_of(view, other, own)
     }
 }
 
-/// Whether the rule of this number is known to have no selector in common with the rule that has the digests `told`.
-fn is_apart_there(indexed: &IndexedSheet, told: &Option<BTreeSet<u32>>, number: u32) -> bool
-    ensures { result ≡ true → (r q : RuleParts) → Tells told.now r → slice_get indexed.now.items number ≡ Some (item.Rule q) → AreApart r q }
-{
-    match find_rule(indexed.sheet(), number) {
-        Some(rule) => is_apart(told, rule),
-        None => false,
-    }
-}
-
-/// Whether the rule of another number is known to have no selector in common with the owner.
-pub(crate) fn are_apart(view: &View<'_>, owner: &Owner<'_>, other: u32) -> bool
-    requires owner { IsOwner view.now owner.now }
+/// Whether the rule of another number is known to have no selector in common with the focus.
+pub(crate) fn are_apart(view: &View<'_>, focus: &Focus<'_>, other: u32) -> bool
+    requires view { IsView view.now }
+    requires focus { IsFocus view.now focus.now }
     requires other { other < length view.now.indexed.now.items }
-    ensures { result ≡ true → RulesApart view.now.indexed.now.items owner.now.number other }
+    ensures { result ≡ true → RulesApart view.now.indexed.now.items focus.now.number other }
 {
-    if share_no_selector(view.indexed, owner.number, other) {
+    if share_no_selector(view.indexed, focus.number, other) {
         return true;
     }
-    is_apart_there(view.indexed, owner.digests, other)
+    match find_rule(view.indexed.sheet(), other) {
+        Some(rule) => are_apart_by_tables(view, focus, other, rule),
+        None => false,
+    }
 }

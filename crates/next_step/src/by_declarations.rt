@@ -2,61 +2,65 @@
 //! It goes along the order keys of the others, above the rule and below it, and ends once all the rest comes too late.
 //! `joins` tries the steps of two rules, and `shares` says what their share saves.
 
-ghost use Rattle.std.specs.Prelude.{◌≡◌, ◌≢◌, ℕ, ◌<◌, IfSome, OnOk, Some, length, true};
-ghost use Rattle.std.specs.List.{Contains};
-ghost use Rattle.std.specs.List.Sorted.{IsStrictlyIncreasing};
+ghost use Rattle.std.specs.Prelude.{◌≡◌, ◌≢◌, ℕ, ◌<◌, IfSome, OnOk, Some, length, slice_get, true};
+ghost use Rattle.css_model.specs.declared.sheet.Item.TheVariants as item;
+ghost use Rattle.css_model.specs.Sheets.RuleParts.{RuleParts};
+ghost use Rattle.rule_tables.specs.Ahead.{IsAhead};
+ghost use Rattle.rule_tables.specs.SharedKeys.{IsShared};
 ghost use Rattle.step_kinds.specs.declared.kind.Kind.TheVariants as candidate_kinds;
 ghost use Rattle.step_laws.specs.declared.step.Step as declared;
 ghost use Rattle.step_laws.specs.Steps.{first_item, last_item};
 ghost use Rattle.step_savings.specs.Apart.{RulesApart};
+ghost use Rattle.next_step.specs.Common.{AreInCommon, AreInCommonAt, TellCommon};
 ghost use Rattle.next_step.specs.Kinds.{IsByDecls};
 ghost use Rattle.next_step.specs.Late.{ByDeclsSaveAtMost};
 ghost use Rattle.next_step.specs.LaterOrderKeys.{AreLateFrom};
 ghost use Rattle.next_step.specs.Looking.{IsWith};
 ghost use Rattle.next_step.specs.Once.{DeclsStandOnce};
-ghost use Rattle.next_step.specs.Viewed.{CoversIn, Grows, IsOwner, IsView};
+ghost use Rattle.next_step.specs.Viewed.{CoversIn, Grows, IsFocus, IsView};
 
 pub(crate) mod joins;
 pub(crate) mod shares;
 
 use crate::apart::are_apart;
 use crate::by_declarations::joins::try_by_decls;
-use crate::others::halves::halves;
 use crate::others::{other_number, owns_none_below};
 use crate::queue::found::Found;
+use crate::too_late::by_common::is_poor;
 use crate::too_late::by_order_keys::most_beside;
 use crate::too_late::by_weights::{is_known_once, is_light, is_within};
-use crate::view::{Owner, Partners, View};
+use crate::view::{Focus, Partners, View};
+use rule_tables::{Ahead, Common, Met, SharedKeys};
 use std::alloc::AllocError;
 use step_kinds::Kind;
 
-/// What the steps by declarations of the owner and a rule above it save at most, if this is known.
-/// It holds if each declaration of the owner is in it once.
-fn most_above(view: &View<'_>, owner: &Owner<'_>) -> Option<u64>
+/// What the steps by declarations of the focus and a rule above it save at most, if this is known.
+/// It holds if each declaration of the focus is in it once.
+fn most_above(view: &View<'_>, focus: &Focus<'_>) -> Option<u64>
     requires view { IsView view.now }
-    requires owner { IsOwner view.now owner.now }
-    ensures { IfSome result (λ most. (upper : ℕ) → ByDeclsSaveAtMost view.now.source.now view.now.indexed.now.items upper owner.now.number most) }
+    requires focus { IsFocus view.now focus.now }
+    ensures { IfSome result (λ most. (upper : ℕ) → ByDeclsSaveAtMost view.now.source.now view.now.indexed.now.items upper focus.now.number most) }
 {
     let heaviest = view.weights.heaviest();
-    if owner.own_selectors {
+    if focus.own_selectors {
         return Some(heaviest.decls);
     }
     let selectors = view
         .weights
-        .under(view.indexed.mark(owner.number).item_id)
+        .under(view.indexed.mark(focus.number).item_id)
         .selectors;
     heaviest.decls.checked_add(u64::from(selectors))
 }
 
-/// What the steps by declarations of the owner and a rule below it save at most, if this is known.
+/// What the steps by declarations of the focus and a rule below it save at most, if this is known.
 /// It holds if each declaration of the one below is in it once.
-fn most_below(view: &View<'_>, owner: &Owner<'_>) -> Option<u64>
+fn most_below(view: &View<'_>, focus: &Focus<'_>) -> Option<u64>
     requires view { IsView view.now }
-    requires owner { IsOwner view.now owner.now }
-    ensures { IfSome result (λ most. (lower : ℕ) → ByDeclsSaveAtMost view.now.source.now view.now.indexed.now.items owner.now.number lower most) }
+    requires focus { IsFocus view.now focus.now }
+    ensures { IfSome result (λ most. (lower : ℕ) → ByDeclsSaveAtMost view.now.source.now view.now.indexed.now.items focus.now.number lower most) }
 {
     let heaviest = view.weights.heaviest();
-    if owner.own_selectors {
+    if focus.own_selectors {
         return Some(heaviest.decls);
     }
     heaviest.decls.checked_add(heaviest.selectors)
@@ -88,195 +92,211 @@ fn are_late_from(found: &Found, most: Option<u64>, once: bool, at: u64, order_ke
     true
 }
 
-/// Whether the owner and the rule of another number are known to have no selector in common.
-fn are_known_apart(view: &View<'_>, owner: &Owner<'_>, other: u32) -> bool
-    requires owner { IsOwner view.now owner.now }
+/// Whether the focus and the rule of another number are known to have no selector in common.
+fn are_known_apart(view: &View<'_>, focus: &Focus<'_>, other: u32) -> bool
+    requires view { IsView view.now }
+    requires focus { IsFocus view.now focus.now }
     requires other { other < length view.now.indexed.now.items }
-    requires differ { other ≢ owner.now.number }
-    ensures forth { result ≡ true → RulesApart view.now.indexed.now.items owner.now.number other }
-    ensures back { result ≡ true → RulesApart view.now.indexed.now.items other owner.now.number }
+    requires differ { other ≢ focus.now.number }
+    ensures forth { result ≡ true → RulesApart view.now.indexed.now.items focus.now.number other }
+    ensures back { result ≡ true → RulesApart view.now.indexed.now.items other focus.now.number }
 {
-    owner.own_selectors || are_apart(view, owner, other)
+    if focus.own_selectors {
+        return true;
+    }
+    let theirs = view.indexed.facts(other);
+    if theirs.own_selectors {
+        return true;
+    }
+    are_apart(view, focus, other)
 }
 
-/// Puts the priorities of the steps by declarations of the owner and an item below it.
+/// Puts the priorities of the steps by declarations of the focus and an item below it.
 /// `once` says that each declaration of the one below is known to be in it once.
 fn try_lower(
     view: &View<'_>,
-    owner: &Owner<'_>,
+    focus: &Focus<'_>,
     other: u32,
     once: bool,
+    common: Common,
     found: &mut Found,
 ) -> Result<(), AllocError>
     requires view { IsView view.now }
-    requires owner { IsOwner view.now owner.now }
+    requires focus { IsFocus view.now focus.now }
     requires other { other < length view.now.indexed.now.items }
-    requires in_order { owner.now.number < other }
+    requires in_order { focus.now.number < other }
     requires once { once ≡ true → DeclsStandOnce view.now.indexed.now.items other }
+    requires common { (r : RuleParts) → slice_get view.now.indexed.now.items other ≡ Some (item.Rule r) → AreInCommon view.now.source.now focus.now.rule.now r common }
     ensures grows { OnOk result (Grows view.now found.old found.new) }
-    ensures covers { OnOk result ((k : declared.Step) → IsByDecls k → first_item k ≡ owner.now.number → last_item k ≡ other → CoversIn view.now found.new k) }
+    ensures covers { OnOk result ((k : declared.Step) → IsByDecls k → first_item k ≡ focus.now.number → last_item k ≡ other → CoversIn view.now found.new k) }
 {
     let partners = Partners {
-        upper: owner.number,
+        upper: focus.number,
         lower: other,
-        apart: are_known_apart(view, owner, other),
-        once,
+        apart: are_known_apart(view, focus, other),
+        lower_once: once,
     };
+    if is_poor(view, focus, other, &partners, common, found) {
+        return Ok(());
+    }
     try_by_decls(view, &partners, found)
 }
 
-/// Puts the priorities of the steps by declarations of the owner and an item above it.
+/// Puts the priorities of the steps by declarations of the focus and an item above it.
 fn try_upper(
     view: &View<'_>,
-    owner: &Owner<'_>,
+    focus: &Focus<'_>,
     other: u32,
+    common: Common,
     found: &mut Found,
 ) -> Result<(), AllocError>
     requires view { IsView view.now }
-    requires owner { IsOwner view.now owner.now }
-    requires in_order { other < owner.now.number }
+    requires focus { IsFocus view.now focus.now }
+    requires in_order { other < focus.now.number }
+    requires common { (r : RuleParts) → slice_get view.now.indexed.now.items other ≡ Some (item.Rule r) → AreInCommon view.now.source.now focus.now.rule.now r common }
     ensures grows { OnOk result (Grows view.now found.old found.new) }
-    ensures covers { OnOk result ((k : declared.Step) → IsByDecls k → first_item k ≡ other → last_item k ≡ owner.now.number → CoversIn view.now found.new k) }
+    ensures covers { OnOk result ((k : declared.Step) → IsByDecls k → first_item k ≡ other → last_item k ≡ focus.now.number → CoversIn view.now found.new k) }
 {
     let partners = Partners {
         upper: other,
-        lower: owner.number,
-        apart: are_known_apart(view, owner, other),
-        once: owner.once,
+        lower: focus.number,
+        apart: are_known_apart(view, focus, other),
+        lower_once: focus.once,
     };
+    if is_poor(view, focus, other, &partners, common, found) {
+        return Ok(());
+    }
     try_by_decls(view, &partners, found)
 }
 
-/// Puts the priorities of the steps by declarations of the owner and another item with this order key.
+/// Puts the priorities of the steps by declarations of the focus and another item with this order key.
 /// `last` is the number of the last other item that was found.
 fn try_partner(
     view: &View<'_>,
-    owner: &Owner<'_>,
-    order_key: u64,
+    focus: &Focus<'_>,
+    met: Met,
     last: &mut u32,
     found: &mut Found,
 ) -> Result<(), AllocError>
     requires view { IsView view.now }
-    requires owner { IsOwner view.now owner.now }
+    requires focus { IsFocus view.now focus.now }
+    requires common { AreInCommonAt view.now focus.now met.order_key met.common }
     ensures grows { OnOk result (Grows view.now found.old found.new) }
-    ensures covers { OnOk result ((k : declared.Step) → IsWith view.now.indexed.now owner.now.number order_key k → IsByDecls k → CoversIn view.now found.new k) }
+    ensures covers { OnOk result ((k : declared.Step) → IsWith view.now.indexed.now focus.now.number met.order_key k → IsByDecls k → CoversIn view.now found.new k) }
 {
     let _marks = view.indexed.marks();
-    let number = owner.number;
-    let Some(other) = other_number(view, owner, order_key, last) else {
+    let number = focus.number;
+    let Some(other) = other_number(view, focus, met.order_key, last) else {
         return Ok(());
     };
     if other < number {
         let partners = Partners {
             upper: other,
             lower: number,
-            apart: owner.own_selectors,
-            once: owner.once,
+            apart: focus.own_selectors,
+            lower_once: focus.once,
         };
         if is_light(view, &partners, found) {
             return Ok(());
         }
-        return try_upper(view, owner, other, found);
+        return try_upper(view, focus, other, met.common, found);
     }
     if number < other {
         let partners = Partners {
             upper: number,
             lower: other,
-            apart: owner.own_selectors,
-            once: false,
+            apart: focus.own_selectors,
+            lower_once: false,
         };
         if is_light(view, &partners, found) {
             return Ok(());
         }
         let once = is_known_once(view, other);
-        return try_lower(view, owner, other, once, found);
+        return try_lower(view, focus, other, once, met.common, found);
     }
     Ok(())
 }
 
-/// Puts the priorities of the steps by declarations of the owner and items above it with these order keys, which ascend.
+/// Puts the priorities of the steps by declarations of the focus and items above it with these order keys, which ascend.
 /// It ends once all the rest comes too late.
 fn try_above(
     view: &View<'_>,
-    owner: &Owner<'_>,
-    order_keys: &[u64],
+    focus: &Focus<'_>,
+    mut order_keys: Ahead<'_>,
     found: &mut Found,
 ) -> Result<(), AllocError>
     requires view { IsView view.now }
-    requires owner { IsOwner view.now owner.now }
-    requires ascends { IsStrictlyIncreasing order_keys.now }
-    requires above { (order_key : ℕ) → Contains order_keys.now order_key → order_key < owner.now.order_key }
+    requires focus { IsFocus view.now focus.now }
+    requires above { (order_key : ℕ) → IsAhead order_keys order_key → order_key < focus.now.order_key }
+    requires common { (order_key : ℕ) → IsAhead order_keys order_key → TellCommon view.now focus.now order_keys order_key }
     ensures grows { OnOk result (Grows view.now found.old found.new) }
-    ensures covers { OnOk result ((order_key : ℕ) (k : declared.Step) → Contains order_keys.now order_key → IsWith view.now.indexed.now owner.now.number order_key k → IsByDecls k → CoversIn view.now found.new k) }
+    ensures covers { OnOk result ((order_key : ℕ) (k : declared.Step) → IsAhead order_keys.entry order_key → IsWith view.now.indexed.now focus.now.number order_key k → IsByDecls k → CoversIn view.now found.new k) }
 {
     let _marks = view.indexed.marks();
-    let most = most_above(view, owner);
+    let most = most_above(view, focus);
     let mut last = 0;
-    let mut rest = order_keys;
-    'rest: while let Some((order_key, behind)) = rest.split_first() {
-        if are_late_from(found, most, owner.once, owner.order_key, *order_key) {
+    'order_keys: while let Some(met) = order_keys.next() {
+        if are_late_from(found, most, focus.once, focus.order_key, met.order_key) {
             return Ok(());
         }
-        try_partner(view, owner, *order_key, &mut last, found)?;
-        rest = behind;
+        try_partner(view, focus, met, &mut last, found)?;
     }
     Ok(())
 }
 
-/// Puts the priorities of the steps by declarations of the owner and items below it with these order keys, which ascend.
+/// Puts the priorities of the steps by declarations of the focus and items below it with these order keys, which ascend.
 /// If each declaration of each rule is in it once, it ends once all the rest comes too late.
 fn try_below(
     view: &View<'_>,
-    owner: &Owner<'_>,
-    order_keys: &[u64],
+    focus: &Focus<'_>,
+    mut order_keys: Ahead<'_>,
     found: &mut Found,
 ) -> Result<(), AllocError>
     requires view { IsView view.now }
-    requires owner { IsOwner view.now owner.now }
-    requires ascends { IsStrictlyIncreasing order_keys.now }
-    requires below { (order_key : ℕ) → Contains order_keys.now order_key → owner.now.order_key < order_key }
+    requires focus { IsFocus view.now focus.now }
+    requires below { (order_key : ℕ) → IsAhead order_keys order_key → focus.now.order_key < order_key }
+    requires common { (order_key : ℕ) → IsAhead order_keys order_key → TellCommon view.now focus.now order_keys order_key }
     ensures grows { OnOk result (Grows view.now found.old found.new) }
-    ensures covers { OnOk result ((order_key : ℕ) (k : declared.Step) → Contains order_keys.now order_key → IsWith view.now.indexed.now owner.now.number order_key k → IsByDecls k → CoversIn view.now found.new k) }
+    ensures covers { OnOk result ((order_key : ℕ) (k : declared.Step) → IsAhead order_keys.entry order_key → IsWith view.now.indexed.now focus.now.number order_key k → IsByDecls k → CoversIn view.now found.new k) }
 {
     let _marks = view.indexed.marks();
-    let most = most_below(view, owner);
-    let mut last = owner.number;
-    let mut rest = order_keys;
-    'rest: while let Some((order_key, behind)) = rest.split_first() {
+    let most = most_below(view, focus);
+    let mut last = focus.number;
+    'order_keys: while let Some(met) = order_keys.next() {
         if are_late_from(
             found,
             most,
             view.weights.once(),
-            owner.order_key,
-            *order_key,
+            focus.order_key,
+            met.order_key,
         ) {
             return Ok(());
         }
-        try_partner(view, owner, *order_key, &mut last, found)?;
-        rest = behind;
+        try_partner(view, focus, met, &mut last, found)?;
     }
     Ok(())
 }
 
-/// Puts the priorities of the steps by declarations of the owner and other items with these order keys, which ascend.
+/// Puts the priorities of the steps by declarations of the focus and other items with these order keys.
 /// These steps are joins by declarations and shares.
 pub(crate) fn try_decl_partners(
     view: &View<'_>,
-    owner: &Owner<'_>,
-    order_keys: &[u64],
+    focus: &Focus<'_>,
+    order_keys: &SharedKeys<'_>,
     found: &mut Found,
 ) -> Result<(), AllocError>
     requires view { IsView view.now }
-    requires owner { IsOwner view.now owner.now }
-    requires ascends { IsStrictlyIncreasing order_keys.now }
+    requires focus { IsFocus view.now focus.now }
+    requires common { (order_key : ℕ) → TellCommon view.now focus.now order_keys.now order_key }
     ensures grows { OnOk result (Grows view.now found.old found.new) }
-    ensures covers { OnOk result ((order_key : ℕ) (k : declared.Step) → Contains order_keys.now order_key → IsWith view.now.indexed.now owner.now.number order_key k → IsByDecls k → CoversIn view.now found.new k) }
+    ensures covers { OnOk result ((order_key : ℕ) (k : declared.Step) → IsShared order_keys.now order_key → IsWith view.now.indexed.now focus.now.number order_key k → IsByDecls k → CoversIn view.now found.new k) }
 {
     let _marks = view.indexed.marks();
-    let (above, below) = halves(order_keys, owner.order_key);
-    try_above(view, owner, above, found)?;
-    if owns_none_below(view, owner) {
+    let before = order_keys.below(view.alloc, focus.order_key)?;
+    try_above(view, focus, before, found)?;
+    if owns_none_below(view, focus) {
         return Ok(());
     }
-    try_below(view, owner, below, found)
+    let behind = order_keys.above(view.alloc, focus.order_key)?;
+    try_below(view, focus, behind, found)
 }

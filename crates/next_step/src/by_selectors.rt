@@ -13,7 +13,7 @@ ghost use Rattle.step_laws.specs.declared.step.Step.TheVariants as kinds;
 ghost use Rattle.next_step.specs.Kinds.{IsSelectorJoin};
 ghost use Rattle.next_step.specs.LaterOrderKeys.{AreAllOnOneSide, AreLateFrom};
 ghost use Rattle.next_step.specs.Looking.{IsWith};
-ghost use Rattle.next_step.specs.Viewed.{ArePartners, CoversIn, Grows, IsOwner, IsView};
+ghost use Rattle.next_step.specs.Viewed.{ArePartners, CoversIn, Grows, IsFocus, IsView};
 
 use crate::apart::masks::selectors_differ;
 use crate::barriers::{Past, is_down_past, is_up_past};
@@ -23,7 +23,7 @@ use crate::queue::found::Found;
 use crate::too_late::by_order_keys::most_beside;
 use crate::too_late::by_parts::selector_joins_are_late;
 use crate::trying::try_both;
-use crate::view::{Attempt, Owner, Partners, View};
+use crate::view::{Attempt, Focus, Partners, View};
 use std::alloc::AllocError;
 use step_kinds::Kind;
 use step_laws::Step;
@@ -65,7 +65,7 @@ fn try_selector_joins(
     }
     let up = Attempt {
         step: Step::JoinSelUp { upper, lower },
-        once: false,
+        part_once: false,
         apart: false,
         past: past.up,
     };
@@ -95,28 +95,28 @@ fn try_pair(view: &View<'_>, upper: u32, lower: u32, found: &mut Found) -> Resul
         upper,
         lower,
         apart: false,
-        once: false,
+        lower_once: false,
     };
     try_selector_joins(view, &partners, Past { up, down }, found)
 }
 
-/// Puts the priorities of the joins by selectors of the owner and another item with this order key.
+/// Puts the priorities of the joins by selectors of the focus and another item with this order key.
 /// `last` is the number of the last other item that was found.
 fn try_partner(
     view: &View<'_>,
-    owner: &Owner<'_>,
+    focus: &Focus<'_>,
     order_key: u64,
     last: &mut u32,
     found: &mut Found,
 ) -> Result<(), AllocError>
     requires view { IsView view.now }
-    requires owner { IsOwner view.now owner.now }
+    requires focus { IsFocus view.now focus.now }
     ensures grows { OnOk result (Grows view.now found.old found.new) }
-    ensures covers { OnOk result ((k : declared.Step) → IsWith view.now.indexed.now owner.now.number order_key k → IsSelectorJoin k → CoversIn view.now found.new k) }
+    ensures covers { OnOk result ((k : declared.Step) → IsWith view.now.indexed.now focus.now.number order_key k → IsSelectorJoin k → CoversIn view.now found.new k) }
 {
     let _marks = view.indexed.marks();
-    let number = owner.number;
-    let Some(other) = other_number(view, owner, order_key, last) else {
+    let number = focus.number;
+    let Some(other) = other_number(view, focus, order_key, last) else {
         return Ok(());
     };
     if other < number {
@@ -126,55 +126,55 @@ fn try_partner(
     }
 }
 
-/// Puts the priorities of the joins by selectors of the owner and items on one side of it with these order keys, which ascend.
+/// Puts the priorities of the joins by selectors of the focus and items on one side of it with these order keys, which ascend.
 /// It ends once all the rest comes too late. It looks for the first one from the number `near` on.
 fn try_side(
     view: &View<'_>,
-    owner: &Owner<'_>,
+    focus: &Focus<'_>,
     near: u32,
     order_keys: &[u64],
     found: &mut Found,
 ) -> Result<(), AllocError>
     requires view { IsView view.now }
-    requires owner { IsOwner view.now owner.now }
+    requires focus { IsFocus view.now focus.now }
     requires ascends { IsStrictlyIncreasing order_keys.now }
-    requires side { AreAllOnOneSide owner.now.order_key order_keys.now }
+    requires side { AreAllOnOneSide focus.now.order_key order_keys.now }
     ensures grows { OnOk result (Grows view.now found.old found.new) }
-    ensures covers { OnOk result ((order_key : ℕ) (k : declared.Step) → Contains order_keys.now order_key → IsWith view.now.indexed.now owner.now.number order_key k → IsSelectorJoin k → CoversIn view.now found.new k) }
+    ensures covers { OnOk result ((order_key : ℕ) (k : declared.Step) → Contains order_keys.now order_key → IsWith view.now.indexed.now focus.now.number order_key k → IsSelectorJoin k → CoversIn view.now found.new k) }
 {
     let _marks = view.indexed.marks();
     let heaviest = view.weights.heaviest();
     let mut last = near;
     let mut rest = order_keys;
     'rest: while let Some((order_key, behind)) = rest.split_first() {
-        if are_late_from(found, heaviest, owner.order_key, *order_key) {
+        if are_late_from(found, heaviest, focus.order_key, *order_key) {
             return Ok(());
         }
-        try_partner(view, owner, *order_key, &mut last, found)?;
+        try_partner(view, focus, *order_key, &mut last, found)?;
         rest = behind;
     }
     Ok(())
 }
 
-/// Puts the priorities of the joins by selectors of the owner and other items with these order keys, which ascend.
+/// Puts the priorities of the joins by selectors of the focus and other items with these order keys, which ascend.
 /// It takes the items above it first, then those below it. On both sides it ends once all the rest comes too late.
 pub(crate) fn try_selector_partners(
     view: &View<'_>,
-    owner: &Owner<'_>,
+    focus: &Focus<'_>,
     order_keys: &[u64],
     found: &mut Found,
 ) -> Result<(), AllocError>
     requires view { IsView view.now }
-    requires owner { IsOwner view.now owner.now }
+    requires focus { IsFocus view.now focus.now }
     requires ascends { IsStrictlyIncreasing order_keys.now }
     ensures grows { OnOk result (Grows view.now found.old found.new) }
-    ensures covers { OnOk result ((order_key : ℕ) (k : declared.Step) → Contains order_keys.now order_key → IsWith view.now.indexed.now owner.now.number order_key k → IsSelectorJoin k → CoversIn view.now found.new k) }
+    ensures covers { OnOk result ((order_key : ℕ) (k : declared.Step) → Contains order_keys.now order_key → IsWith view.now.indexed.now focus.now.number order_key k → IsSelectorJoin k → CoversIn view.now found.new k) }
 {
     let _marks = view.indexed.marks();
-    let (above, below) = halves(order_keys, owner.order_key);
-    try_side(view, owner, 0, above, found)?;
-    if owns_none_below(view, owner) {
+    let (above, below) = halves(order_keys, focus.order_key);
+    try_side(view, focus, 0, above, found)?;
+    if owns_none_below(view, focus) {
         return Ok(());
     }
-    try_side(view, owner, owner.number, below, found)
+    try_side(view, focus, focus.number, below, found)
 }

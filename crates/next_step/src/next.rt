@@ -2,23 +2,22 @@
 //! The cuts of the item come first, then its steps by declarations, and then its joins by selectors.
 //! `passes` finds the partners of the item by the tables.
 
-ghost use Rattle.std.specs.Prelude.{◌≡◌, ℕ, ◌≤◌, Some, IfOk, IfSome, OnOk, length, slice_get};
+ghost use Rattle.std.specs.Prelude.{◌≡◌, ◌⊎◌, ℕ, ◌≤◌, Some, true, IfOk, IfSome, OnOk, length, slice_get};
 ghost use Rattle.step_queue.specs.Weights.{room};
 ghost use Rattle.indexed_sheet.specs.Facts.{AreTrueOf};
 ghost use Rattle.indexed_sheet.specs.MarkList.{item_ids_of, order_keys_of};
 ghost use Rattle.step_laws.specs.declared.step.Step as declared;
-ghost use Rattle.next_step.specs.Viewed.{AreLaterIn, CoversIn, Grows, IsOwner, IsView};
+ghost use Rattle.next_step.specs.Viewed.{AreLaterIn, CoversIn, Grows, IsFocus, IsView};
 
 pub(crate) mod passes;
 
-use crate::cuts::look_at_cuts;
+use crate::cuts::{Parts, look_at_cuts};
 use crate::next::passes::{has_own_selectors, look_at_decls, look_at_selectors};
 use crate::queue::found::Found;
-use crate::view::{Owner, View};
+use crate::view::{Focus, View};
 use indexed_sheet::Facts;
 use rule_parts::find_rule;
 use std::alloc::{AllocError, Global};
-use std::collections::BTreeSet;
 
 /// What was seen of the item of this number.
 #[derive(Clone, Copy, Debug)]
@@ -38,27 +37,47 @@ pub struct Looked {
     pub seen: Option<Seen>,
 }
 
-/// Puts the priorities of all steps of the owner, and returns what was seen of it.
+/// Whether no other rule has one of the selectors of a rule, or none has one of its declarations.
+fn has_own_parts(own_selectors: bool, own_decls: bool) -> bool
+    ensures { result ≡ true → (own_selectors ≡ true) ⊎ (own_decls ≡ true) }
+{
+    if own_selectors {
+        return true;
+    }
+    own_decls
+}
+
+/// Whether it is known that a rule has pairs of its own: each of its parts is in it once, and `own` holds.
+/// `own` says that no other rule has one of its selectors, or none has one of its declarations.
+fn has_own_pairs(parts: Parts, own: bool) -> bool
+    ensures once { result ≡ true → parts.once ≡ true }
+    ensures selectors_once { result ≡ true → parts.selectors_once ≡ true }
+    ensures own { result ≡ true → own ≡ true }
+{
+    parts.once && parts.selectors_once && own
+}
+
+/// Puts the priorities of all steps of the focus, and returns what was seen of it.
 /// `Err(AllocError)` if memory is short.
 fn look_at(
     alloc: Global,
     view: &View<'_>,
-    owner: &Owner<'_>,
+    focus: &Focus<'_>,
     found: &mut Found,
 ) -> Result<Facts, AllocError>
     requires view { IsView view.now }
-    requires owner { IsOwner view.now owner.now }
+    requires focus { IsFocus view.now focus.now }
     ensures grows { OnOk result (Grows view.now found.old found.new) }
     ensures covers { OnOk result ((k : declared.Step) → CoversIn view.now found.new k) }
-    ensures facts { IfOk result (AreTrueOf view.now.indexed.now.items owner.now.number) }
+    ensures facts { IfOk result (AreTrueOf view.now.indexed.now.items focus.now.number) }
 {
     let _marks = view.indexed.marks();
-    let parts = look_at_cuts(alloc, view, owner, found)?;
-    let own_selectors = has_own_selectors(view, owner);
-    let known = Owner {
+    let parts = look_at_cuts(alloc, view, focus, found)?;
+    let own_selectors = has_own_selectors(view, focus);
+    let known = Focus {
         own_selectors,
         once: parts.once,
-        ..*owner
+        ..*focus
     };
     let own_decls = look_at_decls(alloc, view, &known, found)?;
     look_at_selectors(alloc, view, &known, found)?;
@@ -66,6 +85,7 @@ fn look_at(
         no_cut: parts.no_cut,
         own_selectors,
         own_decls,
+        own_pairs: has_own_pairs(parts, has_own_parts(own_selectors, own_decls)),
     })
 }
 
@@ -100,16 +120,14 @@ pub fn next_candidates(alloc: Global, view: &View<'_>, at: u64) -> Result<Looked
     let Some(rule) = find_rule(view.indexed.sheet(), number) else {
         return Ok(Looked { found, seen: None });
     };
-    let digests: Option<BTreeSet<u32>> = None;
-    let owner = Owner {
+    let focus = Focus {
         number,
         rule,
         order_key: at,
-        digests: &digests,
         own_selectors: false,
         once: false,
     };
-    let facts = look_at(alloc, view, &owner, &mut found)?;
+    let facts = look_at(alloc, view, &focus, &mut found)?;
     Ok(Looked {
         found,
         seen: Some(Seen { number, facts }),

@@ -59,7 +59,7 @@ pub(crate) fn try_known(
     if saving == 0 {
         return Ok(());
     }
-    if !is_step_of(view.indexed, view.tables, step, false) {
+    if !is_step_of(view.alloc, view.indexed, view.tables, step, false)? {
         return Ok(());
     }
     if !is_beside(view, step) {
@@ -103,7 +103,13 @@ pub(crate) fn try_step(
     ensures grows { OnOk result (Grows view.now found.old found.new) }
     ensures covers { OnOk result (CoversIn view.now found.new attempt.now.step) }
 {
-    if !is_step_of(view.indexed, view.tables, &attempt.step, attempt.once) {
+    if !is_step_of(
+        view.alloc,
+        view.indexed,
+        view.tables,
+        &attempt.step,
+        attempt.part_once,
+    )? {
         return Ok(());
     }
     put_priority(view, attempt, found)
@@ -121,7 +127,13 @@ pub(crate) fn try_cut(
     ensures covers { OnOk result (CoversIn view.now found.new attempt.now.step) }
     ensures none { IfOk result (λ has. has ≡ false → HasStep view.now.indexed.now.items attempt.now.step → ⊥) }
 {
-    if !is_step_of(view.indexed, view.tables, &attempt.step, attempt.once) {
+    if !is_step_of(
+        view.alloc,
+        view.indexed,
+        view.tables,
+        &attempt.step,
+        attempt.part_once,
+    )? {
         return Ok(false);
     }
     put_priority(view, attempt, found)?;
@@ -144,7 +156,13 @@ pub(crate) fn try_both(
     ensures first { OnOk result (CoversIn view.now found.new first.now.step) }
     ensures second { OnOk result (CoversIn view.now found.new second.now.step) }
 {
-    if !is_step_of(view.indexed, view.tables, &first.step, first.once) {
+    if !is_step_of(
+        view.alloc,
+        view.indexed,
+        view.tables,
+        &first.step,
+        first.part_once,
+    )? {
         return Ok(());
     }
     put_priority(view, first, found)?;

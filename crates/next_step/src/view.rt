@@ -6,13 +6,15 @@ use css_model::Rule;
 use indexed_sheet::IndexedSheet;
 use rule_tables::Tables;
 use saved_bytes::KnownLengths;
-use std::collections::BTreeSet;
+use std::alloc::Global;
 use step_laws::Step;
 use step_queue::{Barriers, Candidate, RuleWeights};
 
 /// What the planner looks at while it looks for the next steps.
 #[derive(Clone, Copy)]
 pub struct View<'a> {
+    /// Where memory comes from.
+    pub alloc: Global,
     /// The sheet, with a mark for each item.
     pub indexed: &'a IndexedSheet,
     /// Tables of its rules, by the order keys of their items.
@@ -29,15 +31,13 @@ pub struct View<'a> {
 
 /// The rule whose steps are looked for, and what is known of it.
 #[derive(Clone, Copy)]
-pub(crate) struct Owner<'a> {
+pub(crate) struct Focus<'a> {
     /// The number of its item.
     pub number: u32,
     /// The rule.
     pub rule: &'a Rule,
     /// The order key of its item.
     pub order_key: u64,
-    /// Digests of its selectors, if there are some.
-    pub digests: &'a Option<BTreeSet<u32>>,
     /// No other rule has one of its selectors.
     pub own_selectors: bool,
     /// Each of its declarations is in it once.
@@ -54,7 +54,7 @@ pub(crate) struct Partners {
     /// They have no selector in common.
     pub apart: bool,
     /// Each declaration of the lower one is in it once.
-    pub once: bool,
+    pub lower_once: bool,
 }
 
 /// A step that is tried, and what is known of it.
@@ -62,8 +62,8 @@ pub(crate) struct Partners {
 pub(crate) struct Attempt {
     /// The step.
     pub step: Step,
-    /// Each part of the kind that it cuts is in its rule once.
-    pub once: bool,
+    /// The part that it cuts is in its rule once.
+    pub part_once: bool,
     /// If it is a step of two items, their rules have no selector in common.
     pub apart: bool,
     /// It goes past a barrier.

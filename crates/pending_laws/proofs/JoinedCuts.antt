@@ -102,7 +102,7 @@ if_any_in r p [] ds h = absurd (nowhere p h)
 if_any_in r p (s ∷ ss) [] h = absurd (nowhere p h)
 if_any_in r p (s ∷ ss) (d ∷ ds) h = (has_rule r p).0 h
 
-left_in : (r : RuleParts) (p : Pair) → HasPair (rule_or_none r) p → InRule r p
+pub left_in : (r : RuleParts) (p : Pair) → HasPair (rule_or_none r) p → InRule r p
 left_in r p h = if_any_in r p r.selectors r.decls h
 
 in_if_any : (r : RuleParts) (p : Pair) (ss : List SelItem) (ds : List DeclItem) → Contains (sels ss) p.selector → Contains (decls ds) p.decl → InRule r p → HasPair (item_if_any ss ds r) p

@@ -12,6 +12,7 @@ mod Queued
 mod MadeParts
 mod Names
 mod Ordered
+mod OwnPairs
 mod OwnParts
 mod Rooms
 mod Standing

@@ -68,7 +68,7 @@ decl d = d.decl
 abbrev selector : SelItem → SelectorParts
 selector s = s.selector
 
-last_in : (ds : List DeclItem) (d : Decl) → Contains (map decl (each_last ds)) d → Contains (map decl ds) d
+pub last_in : (ds : List DeclItem) (d : Decl) → Contains (map decl (each_last ds)) d → Contains (map decl ds) d
 last_in [] d = λ h. h
 last_in (x ∷ ds) d = cond_both (has_decl ds x.decl) (each_last ds) (x ∷ each_last ds) (λ ys. Contains (map decl ys) d → Contains (map decl (x ∷ ds)) d)
     (λ again h. Contains-there x.decl (map decl ds) d (last_in ds d h))
@@ -80,7 +80,7 @@ last_in (x ∷ ds) d = cond_both (has_decl ds x.decl) (each_last ds) (x ∷ each
 
 -- ---- Rules that are made
 
-both_in : (u l : RuleParts) (s : SelectorParts) → Contains (map selector (both_selectors u l)) s → Contains (selectors_of u) s ⊎ Contains (selectors_of l) s
+pub both_in : (u l : RuleParts) (s : SelectorParts) → Contains (map selector (both_selectors u l)) s → Contains (selectors_of u) s ⊎ Contains (selectors_of l) s
 both_in u l s h = which (in_sum selector u.selectors (filter (λ s. not_in s) l.selectors) s h)
   where
     not_in : SelItem → Bool
@@ -90,7 +90,7 @@ both_in u l s h = which (in_sum selector u.selectors (filter (λ s. not_in s) l.
     which (inl g) = inl g
     which (inr g) = inr (filtered selector (λ s. not_in s) l.selectors s g)
 
-common_in : (u l : RuleParts) (d : Decl) → Contains (map decl (common_decls u l)) d → Contains (decls_of l) d
+pub common_in : (u l : RuleParts) (d : Decl) → Contains (map decl (common_decls u l)) d → Contains (decls_of l) d
 common_in u l d h = filtered decl (λ d. has_decl u.decls d.decl) l.decls d (last_in (filter (λ d. has_decl u.decls d.decl) l.decls) d h)
 
 less_of_upper : (u l : RuleParts) (gone : List DeclItem) → IsMadeOfBoth u l (without_decls gone u)

@@ -1,7 +1,7 @@
 -- What may be known of a rule while steps are taken: that no part of it can be cut, and that no other rule has one
 -- of its selectors, or of its declarations (own).
 use Rattle.std.specs.Prelude.{◌≡◌, ◌≢◌, ℕ, ◌<◌, List, Some, length, slice_get}
-use Rattle.std.specs.List.{Contains}
+use Rattle.std.specs.List.{AllPairs, Contains}
 use Rattle.css_model.specs.declared.sheet.Decl.{Decl}
 use Rattle.css_model.specs.declared.sheet.Item.{Item}
 use Rattle.css_model.specs.declared.sheet.Item.TheVariants.{Rule}
@@ -20,6 +20,10 @@ use Rattle.plan_laws.specs.Barrier.SideBySide.{HasCome}
 abbrev pub HasNoCut : List Item → ℕ → Type 0
 HasNoCut items n = (k : Step) → (IsOfTwo k → ⊥) → first_item k ≡ n → HasStep items k → ⊥
 
+-- the rule of this number has a selector and a declaration
+abbrev pub HasParts : List Item → ℕ → Type 0
+HasParts items n = (r : RuleParts) → slice_get items n ≡ Some (Rule r) → (0 < length r.selectors) × (0 < length r.decls)
+
 -- no other rule has one of its selectors
 abbrev pub HasOwnSelectors : List Item → ℕ → Type 0
 HasOwnSelectors items n = (m : ℕ) (r q : RuleParts) (s : SelectorParts) → m ≢ n → slice_get items n ≡ Some (Rule r) → slice_get items m ≡ Some (Rule q) →
@@ -29,6 +33,23 @@ HasOwnSelectors items n = (m : ℕ) (r q : RuleParts) (s : SelectorParts) → m 
 abbrev pub HasOwnDecls : List Item → ℕ → Type 0
 HasOwnDecls items n = (m : ℕ) (r q : RuleParts) (d : Decl) → m ≢ n → slice_get items n ≡ Some (Rule r) → slice_get items m ≡ Some (Rule q) →
     Contains (decls_of r) d → Contains (decls_of q) d → ⊥
+
+-- each part of the rule of this number is in it once, and no other rule has one of its selectors together with one of its declarations;
+-- of a rule without selectors nothing is said of its declarations
+pub record HasOwnPairs (items : List Item) (n : ℕ) : Type 0 where
+  pub selectors_once : (r : RuleParts) → slice_get items n ≡ Some (Rule r) → AllPairs (λ s t. s ≢ t) (selectors_of r)
+  pub decls_once : (r : RuleParts) (s : SelectorParts) → slice_get items n ≡ Some (Rule r) → Contains (selectors_of r) s → AllPairs (λ d e. d ≢ e) (decls_of r)
+  pub own : (m : ℕ) (r q : RuleParts) (s : SelectorParts) (d : Decl) → m ≢ n → slice_get items n ≡ Some (Rule r) → slice_get items m ≡ Some (Rule q) →
+      Contains (selectors_of r) s → Contains (decls_of r) d → Contains (selectors_of q) s → Contains (decls_of q) d → ⊥
+
+-- A rule with pairs of its own has no cut, if it has a selector and a declaration.
+abbrev pub OwnPairsHaveNoCut : Type 0
+OwnPairsHaveNoCut = (items : List Item) (n : ℕ) → HasParts items n → HasOwnPairs items n → HasNoCut items n
+
+-- The rules that a step makes of rules with pairs of their own have pairs of their own. So has a rule that the step leaves, if it had.
+abbrev pub OwnPairsGoOn : Type 0
+OwnPairsGoOn = (items : List Item) (j : Step) (d : Edit) → IsStep items j d → (HasOwnPairs items (first_item j) → HasOwnPairs items (last_item j) →
+    (n : ℕ) → (HasCome d items n → ⊥) → HasOwnPairs (edited d items) n) × ((n : ℕ) → Leaves d n → n < length items → HasOwnPairs items n → HasOwnPairs (edited d items) (new_number d items n))
 
 -- Each of these stays so of a rule that a step leaves.
 abbrev pub NoCutComes : Type 0

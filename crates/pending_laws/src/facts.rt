@@ -1,6 +1,6 @@
 //! What is known of a rule, after a step.
 
-ghost use Rattle.pending_laws.specs.Facts.{JoinedHasNoCut, JoinedHasOwnParts, NoCutComes, OwnPartsStay};
+ghost use Rattle.pending_laws.specs.Facts.{JoinedHasNoCut, JoinedHasOwnParts, NoCutComes, OwnPairsGoOn, OwnPairsHaveNoCut, OwnPartsStay};
 
 use plan_laws::items_stay;
 use step_laws::steps_rearrange;
@@ -31,3 +31,17 @@ pub fn joined_has_no_cut()
 pub fn joined_has_own_parts()
     ensures { JoinedHasOwnParts }
 {}
+
+/// No part of a rule can be cut, if no other rule has one of its selectors together with one of its declarations, and each of
+/// its parts is in it once. It has a selector and a declaration.
+pub fn own_pairs_have_no_cut()
+    ensures { OwnPairsHaveNoCut }
+{}
+
+/// If no other rule has a pair of the rules of a step, and each of their parts is in it once, the same holds of the rules that the
+/// step makes. It stays so of a rule that the step leaves.
+pub fn own_pairs_go_on()
+    ensures { OwnPairsGoOn }
+{
+    items_stay();
+}

@@ -25,7 +25,10 @@ pub use candidates::{
     candidates_go_on, first_candidate_is_taken, no_candidate_is_done, pending_goes_over,
     pending_may_change, start_is_pending,
 };
-pub use facts::{joined_has_no_cut, joined_has_own_parts, no_cut_comes, own_parts_stay};
+pub use facts::{
+    joined_has_no_cut, joined_has_own_parts, no_cut_comes, own_pairs_go_on, own_pairs_have_no_cut,
+    own_parts_stay,
+};
 pub use item_ids::{item_ids_tell_items, old_owners_have_come, owners_stay};
 pub use pending::{pending_steps_are_covered, steps_are_watched, steps_pending_go_on};
 pub use priorities::{

@@ -41,6 +41,7 @@ fn next_of(
 {
     let at = home_of(&plan.homes, candidate.owner);
     let view = View {
+        alloc,
         indexed: &plan.indexed,
         tables: &plan.tables,
         source,

@@ -72,7 +72,8 @@ pub(crate) fn try_candidate<O: Obstacles>(
     barriers_stay();
     first_candidate_is_taken();
     priorities_are_ordered();
-    let Some(step) = step_of_candidate(&plan.indexed, &plan.tables, source, candidate) else {
+    let Some(step) = step_of_candidate(alloc, &plan.indexed, &plan.tables, source, candidate)?
+    else {
         pass_none(alloc, source, plan, candidate)?;
         return Ok(None);
     };

@@ -3,6 +3,7 @@ mod ItemIds
 mod Enqueued
 mod Heavier
 mod Made
+mod Plain
 mod Members
 mod Reindexed
 mod Moving

@@ -10,11 +10,12 @@ use Rattle.css_model.specs.Sheets.Printed.{printed_declaration, printed_selector
 use Rattle.css_model.specs.Sheets.RuleParts.{RuleParts}
 use Rattle.step_queue.specs.declared.rule_weights.RuleWeight.{RuleWeight}
 use Rattle.step_queue.specs.Once.{StandOnce}
-use Rattle.step_queue.specs.RuleWeights.{WeighsAtMost, WeightParts}
+use Rattle.step_queue.specs.RuleWeights.{ArePlain, WeighsAtMost, WeightParts}
 use Rattle.order_laws.specs.Edits.{Edit}
 use Rattle.indexed_sheet.specs.IndexedParts.{IndexedParts}
 use Rattle.planner_state.specs.Weighing.{BringsAtMost, IsAtMost, MakesAtMost, joined_by_decls, joined_by_selectors}
 use Rattle.planner_state.proofs.Heavier.{weight_both}
+use Rattle.planner_state.proofs.Plain.{both_plain}
 use Rattle.step_laws.specs.declared.step.Step.{Step}
 use Rattle.step_laws.specs.declared.step.Step.TheVariants.{JoinSelUp, JoinSelDown, JoinDeclUp, JoinDeclDown}
 use Rattle.step_laws.specs.RuleParting.{both_selectors}
@@ -36,17 +37,28 @@ module _ (source : List ℕ) (u l : RuleParts) (a b : RuleWeight) (above : Weigh
       let m = above.decls in
       let n = below.decls in
       let sum : weight (printed_declaration source) (u.decls ++ l.decls) ≤ a.decls + b.decls = omega (arith, both, m, n) in
-      record { selectors = less; decls = le-min sum can.small_decls; once = λ e. absurd (false≢true e) }
+      record {
+        selectors = less;
+        decls = le-min sum can.small_decls;
+        once = λ e. absurd (false≢true e);
+        plain = λ e. both_plain source u.decls l.decls (above.plain (and_parts a.plain b.plain e).0) (below.plain (and_parts a.plain b.plain e).1);
+      }
 
   -- one with the selectors of both
-  by_decls : (ds : List DeclItem) → weight (printed_declaration source) ds ≤ max a.decls b.decls → (a.once ≡ true → b.once ≡ true → StandOnce (λ (x : DeclItem). x.decl) ds) → IsWeighable source (record { selectors = both_selectors u l; decls = ds }) →
+  by_decls : (ds : List DeclItem) → weight (printed_declaration source) ds ≤ max a.decls b.decls → (a.once ≡ true → b.once ≡ true → StandOnce (λ (x : DeclItem). x.decl) ds) → (a.plain ≡ true → b.plain ≡ true → ArePlain source ds) →
+      IsWeighable source (record { selectors = both_selectors u l; decls = ds }) →
       WeighsAtMost source (record { selectors = both_selectors u l; decls = ds }) (joined_by_decls a b)
-  by_decls ds less once can =
+  by_decls ds less once plain can =
       let both : weight (printed_selector source) (both_selectors u l) ≤ weight (printed_selector source) u.selectors + weight (printed_selector source) l.selectors = weight_both source u l in
       let m = above.selectors in
       let n = below.selectors in
       let sum : weight (printed_selector source) (both_selectors u l) ≤ a.selectors + b.selectors = omega (arith, both, m, n) in
-      record { selectors = le-min sum can.small_selectors; decls = less; once = λ e. once (and_parts a.once b.once e).0 (and_parts a.once b.once e).1 }
+      record {
+        selectors = le-min sum can.small_selectors;
+        decls = less;
+        once = λ e. once (and_parts a.once b.once e).0 (and_parts a.once b.once e).1;
+        plain = λ e. plain (and_parts a.plain b.plain e).0 (and_parts a.plain b.plain e).1;
+      }
 
 -- ---- Steps
 
@@ -73,7 +85,7 @@ module _ (indexed : IndexedParts) (weights : WeightParts) (x y : ℕ) (a b : Rul
       let l : WeighsAtMost source is.lower b = below source is.lower weighed is.rules.lower_at in
       let less : weight (printed_declaration source) is.upper.decls ≤ max a.decls b.decls = (let m = u.decls in let n = le-max_left a.decls b.decls in omega (arith, m, n)) in
       subst (λ (d : Edit). BringsAtMost source (joined_by_decls a b) d) (sym is.is)
-      ((of_item source (joined_by_decls a b) (record { selectors = both_selectors is.upper is.lower; decls = is.upper.decls }) (by_decls source is.upper is.lower a b u l is.upper.decls less (λ first second. u.once first)), tt), (tt, tt))
+      ((of_item source (joined_by_decls a b) (record { selectors = both_selectors is.upper is.lower; decls = is.upper.decls }) (by_decls source is.upper is.lower a b u l is.upper.decls less (λ first second. u.once first) (λ first second. u.plain first)), tt), (tt, tt))
 
   pub decls_down : MakesAtMost indexed weights (JoinDeclDown x y) (joined_by_decls a b)
   decls_down source e weighed is =
@@ -81,7 +93,7 @@ module _ (indexed : IndexedParts) (weights : WeightParts) (x y : ℕ) (a b : Rul
       let l : WeighsAtMost source is.lower b = below source is.lower weighed is.rules.lower_at in
       let less : weight (printed_declaration source) is.lower.decls ≤ max a.decls b.decls = (let m = l.decls in let n = le-max_right a.decls b.decls in omega (arith, m, n)) in
       subst (λ (d : Edit). BringsAtMost source (joined_by_decls a b) d) (sym is.is)
-      (tt, ((of_item source (joined_by_decls a b) (record { selectors = both_selectors is.upper is.lower; decls = is.lower.decls }) (by_decls source is.upper is.lower a b u l is.lower.decls less (λ first second. l.once second)), tt), tt))
+      (tt, ((of_item source (joined_by_decls a b) (record { selectors = both_selectors is.upper is.lower; decls = is.lower.decls }) (by_decls source is.upper is.lower a b u l is.lower.decls less (λ first second. l.once second) (λ first second. l.plain second)), tt), tt))
 
 -- ---- Either way
 

@@ -194,6 +194,9 @@ pub(crate) fn reactivate_moved(
         → spec.IsActive watched.now queue.new p.selector p.decl) }
 {
     steps_rearrange();
+    if watched.is_empty() {
+        return Ok(());
+    }
     let (first, last) = moved_out(step);
     reactivate_rule(alloc, watched, queue, sheet, first)?;
     if first == last {

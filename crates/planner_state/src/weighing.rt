@@ -1,22 +1,26 @@
 //! Upper bounds for the weights of the rules of a plan.
 
 ghost use Rattle.std.specs.Prelude.{◌≡◌, ◌+◌, ◌<◌, ◌≢◌, ◌≤◌, ℕ, IfSome, OnOk, Some, length, min, slice_get, true};
-ghost use Rattle.std.specs.List.{Contains};
+ghost use Rattle.std.specs.List.{AllByRecursion, Contains};
 ghost use Rattle.css_model.specs.declared.sheet.Item.TheVariants as kinds;
 ghost use Rattle.css_model.specs.Sheets.Limits.{max_bytes, max_items};
+ghost use Rattle.css_model.specs.Sheets.Printed.{printed_declaration};
 ghost use Rattle.css_model.specs.Sheets.RuleParts.{RuleParts};
+ghost use Rattle.css_model.specs.Sheets.Sound.{IsSoundDeclaration};
 ghost use Rattle.queue_laws.specs.MarkNames.{IsMarked};
 ghost use Rattle.step_queue.specs.Once.{StandOnce};
-ghost use Rattle.step_queue.specs.RuleWeights.{WeighsAtMost};
+ghost use Rattle.step_queue.specs.RuleWeights as weights;
+ghost use Rattle.step_queue.specs.RuleWeights.{ArePlain, WeighsAtMost};
 ghost use Rattle.indexed_sheet.specs.declared.marks.Mark as marking;
 ghost use Rattle.planner_state.specs.Created.{AreCreated};
 ghost use Rattle.planner_state.specs.Weighing as spec;
+ghost use Rattle.step_laws.specs.Sizes.{weight};
 ghost use Rattle.step_laws.specs.Steps.{HasStep};
 ghost use Rattle.step_savings.specs.Weighing.{IsWeighable};
 
-use css_model::{Item, MAX_BYTES, Rule};
+use css_model::{Decl, DeclItem, Item, MAX_BYTES, Rule};
 use indexed_sheet::IndexedSheet;
-use rule_parts::{decls_weight, selectors_weight};
+use rule_parts::{Lengths, decls_weight, selectors_weight};
 use saved_bytes::KnownLengths;
 use smallvec::SmallVec;
 use std::alloc::AllocError;
@@ -34,6 +38,30 @@ fn has_each_once(rule: &Rule) -> bool
     rule.decls.len() <= MANY && are_decls_different(&rule.decls)
 }
 
+/// Returns how long a declaration is printed, if its property is written in the source as it is told.
+fn told_length(decl: &Decl) -> u64
+    ensures { result ≡ weights.told_length decl.now }
+{
+    let importance: u64 = if decl.important { 10 } else { 0 };
+    decl.name.codes().len() as u64 + 1 + decl.value.bytes().len() as u64 + importance
+}
+
+/// Returns `true` only if each of the declarations is printed as long as its parts tell.
+fn are_plain(source: &KnownLengths<'_>, decls: &[DeclItem]) -> bool
+    requires sound { AllByRecursion (IsSoundDeclaration source.now) decls.now }
+    requires small { weight (printed_declaration source.now) decls.now ≤ max_bytes }
+    ensures { result ≡ true → ArePlain source.now decls.now }
+{
+    let mut rest = decls;
+    'rest: while let Some((first, behind)) = rest.split_first() {
+        if source.decl(first) != told_length(&first.decl) {
+            return false;
+        }
+        rest = behind;
+    }
+    true
+}
+
 /// Returns what a rule weighs at most.
 fn weight_of(source: &KnownLengths<'_>, rule: &Rule) -> RuleWeight
     requires { IsWeighable source.now rule.now }
@@ -43,6 +71,7 @@ fn weight_of(source: &KnownLengths<'_>, rule: &Rule) -> RuleWeight
         selectors: selectors_weight(source, &rule.selectors) as u32,
         decls: decls_weight(source, &rule.decls) as u32,
         once: has_each_once(rule),
+        plain: are_plain(source, &rule.decls),
     }
 }
 
@@ -62,6 +91,7 @@ fn joined_by_selectors(upper: RuleWeight, lower: RuleWeight) -> RuleWeight
         selectors: upper.selectors.max(lower.selectors),
         decls: together(upper.decls, lower.decls),
         once: false,
+        plain: upper.plain && lower.plain,
     }
 }
 
@@ -73,6 +103,7 @@ fn joined_by_decls(upper: RuleWeight, lower: RuleWeight) -> RuleWeight
         selectors: together(upper.selectors, lower.selectors),
         decls: upper.decls.max(lower.decls),
         once: upper.once && lower.once,
+        plain: upper.plain && lower.plain,
     }
 }
 

@@ -1,4 +1,5 @@
 mod LastCommon
 mod PartWeights
+mod SelectorSets
 mod ToldApart
 pub mod ForCallers

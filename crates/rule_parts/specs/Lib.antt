@@ -1,1 +1,2 @@
 pub mod LastCommon
+pub mod SelectorSets

@@ -147,8 +147,9 @@ fn each_last(alloc: Global, items: &[DeclItem]) -> Result<Vec<DeclItem>, AllocEr
     Ok(last)
 }
 
-/// The declarations of the lower rule that are in the upper one too, each once, where it comes last.
-fn common_decls(alloc: Global, upper: &Rule, lower: &Rule) -> Result<Vec<DeclItem>, AllocError>
+/// Copies of the declarations of the lower rule that are in the upper one too, each once, where it comes last.
+/// `Err(AllocError)` if memory is short.
+pub fn common_decls(alloc: Global, upper: &Rule, lower: &Rule) -> Result<Vec<DeclItem>, AllocError>
     ensures { IfOk result (λ common. common.items ≡ parting.common_decls upper.now lower.now) }
 {
     let common = decls_among(alloc, &lower.decls, &upper.decls)?;

@@ -1,3 +1,4 @@
+pub mod Ahead
 pub mod Cutting
 pub mod Digests
 pub mod Entries
@@ -7,3 +8,4 @@ pub mod Pairs
 pub mod Places
 pub mod StepPartners
 pub mod Tables
+pub mod SharedKeys

@@ -1,6 +1,7 @@
 -- Tables of the rules of a sheet by their parts (own).
-use Rattle.std.specs.Prelude.{◌≢◌, ◌↔◌, ◌⊎◌, ℕ, List, [], ◌∷◌, map}
+use Rattle.std.specs.Prelude.{◌≡◌, ◌≢◌, ◌↔◌, ◌⊎◌, ◌+◌, Bool, true, cond, ℕ, List, [], ◌∷◌, map}
 use Rattle.std.specs.List.{Contains, flat_map}
+use Rattle.std.specs.List.Sorted.{IsStrictlyIncreasing}
 use Rattle.css_model.specs.declared.sheet.Decl.{Decl}
 use Rattle.css_model.specs.declared.sheet.DeclItem.{DeclItem}
 use Rattle.css_model.specs.declared.sheet.Item.{Item}
@@ -10,6 +11,7 @@ use Rattle.css_model.specs.Documents.SelectorParts.{SelectorParts}
 use Rattle.css_model.specs.Sheets.RuleParts.{RuleParts}
 use Rattle.css_model.specs.Sheets.StyleRule.{HaveSameSelectors, selectors_of}
 use Rattle.rule_tables.specs.declared.entries.Entry.{Entry}
+use Rattle.rule_tables.specs.Ahead.{AllAscend, IsAhead, Reached, Reaches, total_at}
 use Rattle.rule_tables.specs.Digests.{selector_digest, decl_digest}
 use Rattle.step_laws.specs.Steps.{decls_of}
 use Rattle.rule_tables.specs.Entries.{Puts, PutsSome, TakesOut, decl_entries, entry, selector_entries}
@@ -93,6 +95,38 @@ pub record PutsShared (entries : List Entry) (digests old new : List ℕ) : Type
 -- the new set of order keys has the old ones and those that stand under one of these digests
 abbrev pub PutsUnderOne : List Entry → List ℕ → List ℕ → List ℕ → Type 0
 PutsUnderOne entries digests old new = (order_key : ℕ) → Contains new order_key ↔ (Contains old order_key ⊎ IsUnderOne entries digests order_key)
+
+-- how many of these declarations pass a test, and what they weigh
+abbrev pub count_of : (Decl → Bool) → List DeclItem → ℕ
+count_of passes [] = 0
+count_of passes (d ∷ decls) = cond (passes d.decl) 1 0 + count_of passes decls
+
+abbrev pub weight_of : (Decl → Bool) → List DeclItem → List ℕ → ℕ
+weight_of passes [] weights = 0
+weight_of passes (d ∷ decls) [] = 0
+weight_of passes (d ∷ decls) (w ∷ weights) = cond (passes d.decl) w 0 + weight_of passes decls weights
+
+-- the entries have this order key under the digest of each declaration that passes a test
+abbrev pub AreEntered : List Entry → ℕ → (Decl → Bool) → Type 0
+AreEntered entries order_key passes = (d : Decl) → passes d ≡ true → Contains entries (entry (decl_digest d) order_key)
+
+abbrev pub sum_of : List ℕ → ℕ
+sum_of [] = 0
+sum_of (w ∷ weights) = w + sum_of weights
+
+-- a list has the order keys under the digest of a declaration, which weighs so much
+pub record IsListUnder (entries : List Entry) (decl : Decl) (weight : ℕ) (list : Reached) : Type 0 where
+  pub under : (k : ℕ) → Contains list.order_keys k ↔ Contains entries (entry (decl_digest decl) k)
+  pub ascends : IsStrictlyIncreasing list.order_keys
+  pub common : list.common ≡ record { count = 1; weight = weight }
+
+-- Lists have the order keys under the digests of these declarations, which weigh so much, and say at least of which declarations
+-- they are.
+pub record AreListsUnder (entries : List Entry) (decls : List DeclItem) (weights : List ℕ) (lists : List Reached) : Type 0 where
+  pub under : (k : ℕ) → IsAhead lists k ↔ IsUnderOne entries (decl_digests decls) k
+  pub ascend : AllAscend lists
+  pub count : (k : ℕ) (passes : Decl → Bool) → AreEntered entries k passes → Reaches (total_at (λ c. c.count) lists k) (count_of passes decls)
+  pub weight : (k : ℕ) (passes : Decl → Bool) → AreEntered entries k passes → Reaches (total_at (λ c. c.weight) lists k) (weight_of passes decls weights)
 
 -- ---- Changes of both tables
 

@@ -1,7 +1,7 @@
 //! Lists of order keys under digests.
 
-ghost use Rattle.std.specs.Prelude.{◌≡◌, ◌<◌, ◌≤◌, ◌↔◌, ◌⊎◌, ◌∷◌, [], ℕ, IfOk, IsTrue, MatchResult, OnErr, OnOk, Some, length, slice_get};
-ghost use Rattle.std.specs.List.{AllWithin, Contains};
+ghost use Rattle.std.specs.Prelude.{◌≡◌, ◌+◌, ◌-◌, ◌<◌, ◌≤◌, ◌↔◌, ◌⊎◌, ◌∷◌, [], ℕ, IfOk, IsTrue, MatchResult, Err, OnErr, OnOk, Some, drop, length, slice_get, slice_index, true};
+ghost use Rattle.std.specs.List.{AllWithin, Contains, insert, remove};
 ghost use Rattle.std.specs.List.Sorted.{IsStrictlyIncreasing};
 ghost use Rattle.rule_tables.specs.Entries as spec;
 ghost use Rattle.rule_tables.specs.Places.{IsPlaceAmong};
@@ -54,21 +54,99 @@ pub(crate) fn shorter<'a>(order_keys: &'a [u64], others: &'a [u64]) -> &'a [u64]
     order_keys
 }
 
-/// Order keys that ascend. One needs no memory.
+/// How many of these order keys, which ascend, are below another one.
+fn count_below(order_keys: &[u64], at: u64) -> usize
+    requires { IsStrictlyIncreasing order_keys.now }
+    ensures few { result ≤ length order_keys.now }
+    ensures below { (k : ℕ) → k < result → slice_index order_keys.now k < at }
+    ensures from { (k : ℕ) → result ≤ k → k < length order_keys.now → at ≤ slice_index order_keys.now k }
+{
+    match find_place(order_keys, at) {
+        Ok(place) => place,
+        Err(place) => place,
+    }
+}
+
+/// Those of the order keys, which ascend, that are below another one.
+pub(crate) fn keys_below(order_keys: &[u64], at: u64) -> &[u64]
+    requires { IsStrictlyIncreasing order_keys.now }
+    ensures ascends { IsStrictlyIncreasing result.now }
+    ensures below { (k : ℕ) → Contains result.now k ↔ (Contains order_keys.now k × (k < at)) }
+{
+    &order_keys[..count_below(order_keys, at)]
+}
+
+/// Those of the order keys, which ascend, that are not below another one.
+fn keys_from(order_keys: &[u64], at: u64) -> &[u64]
+    requires { IsStrictlyIncreasing order_keys.now }
+    ensures ascends { IsStrictlyIncreasing result.now }
+    ensures from { (k : ℕ) → Contains result.now k ↔ (Contains order_keys.now k × (at ≤ k)) }
+{
+    &order_keys[count_below(order_keys, at)..]
+}
+
+/// Those of the order keys, which ascend, that are above another one.
+pub(crate) fn keys_above(order_keys: &[u64], at: u64) -> &[u64]
+    requires { IsStrictlyIncreasing order_keys.now }
+    ensures ascends { IsStrictlyIncreasing result.now }
+    ensures above { (k : ℕ) → Contains result.now k ↔ (Contains order_keys.now k × (at < k)) }
+{
+    let rest = keys_from(order_keys, at);
+    let Some((first, behind)) = rest.split_first() else {
+        return rest;
+    };
+    if *first == at {
+        return behind;
+    }
+    rest
+}
+
+/// Whether there are free places, and a place is in the first half of so many others.
+fn is_room_in_front(free: usize, place: usize, count: usize) -> bool
+    ensures { result ≡ true → 0 < free }
+{
+    free > 0 && place < count / 2
+}
+
+/// Moves the order keys from a place to before another one by one to the back, over the one there.
+fn move_back(places: &mut [u64], from: usize, to: usize)
+    requires order { from ≤ to }
+    requires within { to < length places.old }
+    ensures count { length places.new ≡ length places.old }
+    ensures moved { drop (from + 1) places.new ≡ remove (drop from places.old) (to - from) }
+{
+    places.copy_within(from..to, from + 1);
+}
+
+/// Moves the order keys from a place to before another one by one to the front, and puts an order key where there is room then.
+fn move_front(places: &mut [u64], from: usize, to: usize, order_key: u64)
+    requires some { 0 < from }
+    requires order { from ≤ to }
+    requires within { to ≤ length places.old }
+    ensures count { length places.new ≡ length places.old }
+    ensures moved { drop (from - 1) places.new ≡ insert (drop from places.old) (to - from) order_key }
+{
+    places.copy_within(from..to, from - 1);
+    places[to - 1] = order_key;
+}
+
+/// Order keys that ascend. One needs no memory. Places before the first are free, so that the first order keys are put in and
+/// taken out as fast as the last.
 #[derive(Debug, Drop)]
 struct OrderKeyList {
-    order_keys: SmallVec<u64, 1>,
+    places: SmallVec<u64, 1>,
+    free: usize,
 }
 
 impl Model for OrderKeyList {
-    ghost use Rattle.std.specs.Prelude.{List, ℕ};
+    ghost use Rattle.std.specs.Prelude.{◌≤◌, List, ℕ, drop, length};
     ghost use Rattle.std.specs.List.Sorted.{IsStrictlyIncreasing};
 
     ghost Value = { List ℕ };
 
-    ghost view = { λ l. l.order_keys.items };
+    ghost view = { λ l. drop l.free l.places.items };
 
-    ghost invariant = { λ l. IsStrictlyIncreasing l.order_keys.items };
+    ghost invariant = { λ l. IsStrictlyIncreasing (drop l.free l.places.items) × (l.free ≤ length l.places.items) };
 }
 
 impl OrderKeyList {
@@ -76,9 +154,9 @@ impl OrderKeyList {
     fn of_one(alloc: Global, order_key: u64) -> OrderKeyList
         ensures { result ≡ order_key ∷ [] }
     {
-        let mut order_keys = SmallVec::new(alloc);
-        order_keys.push_reserved(order_key);
-        OrderKeyList { order_keys }
+        let mut places = SmallVec::new(alloc);
+        places.push_reserved(order_key);
+        OrderKeyList { places, free: 0 }
     }
 
     /// The order keys.
@@ -86,7 +164,39 @@ impl OrderKeyList {
         ensures list { result.now ≡ self.now }
         ensures ascends { IsStrictlyIncreasing result.now }
     {
-        &self.order_keys
+        &self.places[self.free..]
+    }
+
+    /// Puts an order key in at a place.
+    fn put_at(&mut self, place: usize, order_key: u64) -> Result<(), AllocError>
+        requires { IsPlaceAmong self.old order_key (Err place) }
+        ensures ok { OnOk result (self.new ≡ insert self.old place order_key) }
+        ensures err { OnErr result (self.new ≡ self.old) }
+    {
+        let count = self.places.len() - self.free;
+        let at = self.free + place;
+        if is_room_in_front(self.free, place, count) {
+            move_front(self.places.as_mut_slice(), self.free, at, order_key);
+            self.free -= 1;
+            return Ok(());
+        }
+        self.places.insert(at, order_key)?;
+        Ok(())
+    }
+
+    /// Takes the order key at a place out.
+    fn take_at(&mut self, place: usize)
+        requires { place < length self.old }
+        ensures { self.new ≡ remove self.old place }
+    {
+        let count = self.places.len() - self.free;
+        let at = self.free + place;
+        if place < count / 2 {
+            move_back(self.places.as_mut_slice(), self.free, at);
+            self.free += 1;
+            return;
+        }
+        self.places.remove(at);
     }
 
     /// Puts an order key in, if it is not there.
@@ -94,12 +204,9 @@ impl OrderKeyList {
         ensures ok { OnOk result (spec.Puts self.old (order_key ∷ []) self.new) }
         ensures err { OnErr result (self.new ≡ self.old) }
     {
-        match find_place(&self.order_keys, order_key) {
+        match find_place(self.list(), order_key) {
             Ok(_) => Ok(()),
-            Err(place) => {
-                self.order_keys.insert(place, order_key)?;
-                Ok(())
-            }
+            Err(place) => self.put_at(place, order_key),
         }
     }
 
@@ -107,8 +214,8 @@ impl OrderKeyList {
     fn take(&mut self, order_key: u64)
         ensures { spec.TakesOut self.old (order_key ∷ []) self.new }
     {
-        if let Ok(place) = find_place(&self.order_keys, order_key) {
-            self.order_keys.remove(place);
+        if let Ok(place) = find_place(self.list(), order_key) {
+            self.take_at(place);
         }
     }
 
@@ -116,7 +223,7 @@ impl OrderKeyList {
     fn is_empty(&self) -> bool
         ensures { IsTrue result ↔ (self.now ≡ []) }
     {
-        self.order_keys.is_empty()
+        self.free == self.places.len()
     }
 }
 

@@ -1,21 +1,27 @@
 //! Order keys of the rules that have parts in common with a rule.
 
-ghost use Rattle.std.specs.Prelude.{◌≡◌, ◌≢◌, [], ℕ, Decides, IfOk, IfSome, IsTrue, OnOk};
+ghost use Rattle.std.specs.Prelude.{◌≡◌, ◌≢◌, [], ℕ, IfOk, IsTrue, OnOk, length};
 ghost use Rattle.std.specs.List.{Contains};
 ghost use Rattle.std.specs.List.Sorted.{IsStrictlyIncreasing};
 ghost use Rattle.css_model.specs.declared.sheet.SelItem.{SelItem};
 ghost use Rattle.rule_tables.specs.Entries.{HaveSameMembers, Puts};
-ghost use Rattle.rule_tables.specs.OrderKeys.{order_keys_of};
+ghost use Rattle.rule_tables.specs.Ahead.{Reaches};
+ghost use Rattle.rule_tables.specs.SharedKeys.{shared};
 ghost use Rattle.rule_tables.specs.Tables as spec;
 
+use crate::ahead::{Common, capped_sum};
 use crate::digests::{decl_digest, decl_digests, selector_digest};
-use crate::order_key_lists::{OrderKeyLists, has_no_other, shorter};
+use crate::order_key_lists::{OrderKeyLists, has_no_other, has_order_key, shorter};
 use crate::order_keys::OrderKeys;
-use css_model::{DeclItem, SelItem};
+use crate::shared_keys::{SharedKeys, SharedList};
+use css_model::{Decl, DeclItem, SelItem};
 use std::alloc::{AllocError, Global};
 
 /// How many selectors of a rule are looked at.
 const FEW: usize = 8;
+
+/// Of more declarations than this the order keys are put together in one list.
+const MANY: usize = 16;
 
 /// The first selectors.
 fn first_few(selectors: &[SelItem]) -> &[SelItem]
@@ -55,6 +61,20 @@ pub(crate) fn have_no_others(entries: &OrderKeyLists, selectors: &[SelItem], own
     let mut rest = selectors;
     'rest: while let Some((first, behind)) = rest.split_first() {
         if !has_no_other(entries.under(selector_digest(&first.selector)), own) {
+            return false;
+        }
+        rest = behind;
+    }
+    true
+}
+
+/// Whether an order key is under the digest of none of these selectors.
+pub(crate) fn is_under_none(entries: &OrderKeyLists, selectors: &[SelItem], order_key: u64) -> bool
+    ensures { IsTrue result → spec.IsUnderOne entries.now (spec.selector_digests selectors.now) order_key → ⊥ }
+{
+    let mut rest = selectors;
+    'rest: while let Some((first, behind)) = rest.split_first() {
+        if has_order_key(entries.under(selector_digest(&first.selector)), order_key) {
             return false;
         }
         rest = behind;
@@ -129,46 +149,89 @@ pub(crate) fn in_order(mut found: Vec<u64>) -> Result<Vec<u64>, AllocError>
     Ok(found)
 }
 
-/// Whether two lists are the same.
-fn are_same(order_keys: &[u64], others: &[u64]) -> bool
-    ensures { Decides result (order_keys.now ≡ others.now) }
+/// The order keys under the digest of a declaration, which weighs so much.
+fn list_under<'a>(entries: &'a OrderKeyLists, decl: &Decl, weight: u64) -> SharedList<'a>
+    ensures { spec.IsListUnder entries.now decl.now weight (shared result) }
 {
-    order_keys == others
+    SharedList {
+        order_keys: OrderKeys::Under(entries.under(decl_digest(decl))),
+        common: Common { count: 1, weight },
+    }
 }
 
-/// The order keys under the digest of each of these declarations, where they are the same for all.
-fn order_keys_alike<'a>(entries: &'a OrderKeyLists, decls: &[DeclItem]) -> Option<&'a [u64]>
-    ensures ascends { IfSome result (λ order_keys. IsStrictlyIncreasing order_keys.now) }
-    ensures under { IfSome result (λ order_keys. spec.PutsUnderOne entries.now (spec.decl_digests decls.now) [] order_keys.now) }
+/// The order keys under the digest of each of these declarations, which weigh so much, in lists of their own.
+fn lists_under<'a>(
+    alloc: Global,
+    entries: &'a OrderKeyLists,
+    decls: &[DeclItem],
+    weights: &[u64],
+) -> Result<SharedKeys<'a>, AllocError>
+    requires { length weights.now ≡ length decls.now }
+    ensures { IfOk result (λ l. spec.AreListsUnder entries.now decls.now weights.now l) }
 {
-    let Some((first, behind)) = decls.split_first() else {
-        return Some(&[]);
-    };
-    let found = entries.under(decl_digest(&first.decl));
-    let mut rest = behind;
-    'rest: while let Some((next, behind)) = rest.split_first() {
-        if !are_same(entries.under(decl_digest(&next.decl)), found) {
-            return None;
-        }
+    let mut lists = Vec::with_capacity(alloc, decls.len())?;
+    let mut rest = decls;
+    let mut rest_of_weights = weights;
+    'rest: while let Some((first, behind)) = rest.split_first() {
+        let Some((weight, weights_behind)) = rest_of_weights.split_first() else {
+            return Ok(SharedKeys { lists });
+        };
+        lists.push(list_under(entries, &first.decl, *weight))?;
+        rest = behind;
+        rest_of_weights = weights_behind;
+    }
+    Ok(SharedKeys { lists })
+}
+
+/// The sum of weights, or the greatest number if it is more.
+fn total(weights: &[u64]) -> u64
+    ensures { Reaches result (spec.sum_of weights.now) }
+{
+    let mut total: u64 = 0;
+    let mut rest = weights;
+    'rest: while let Some((first, behind)) = rest.split_first() {
+        total = capped_sum(total, *first);
         rest = behind;
     }
-    Some(found)
+    total
 }
 
-/// The order keys under the digest of one of these declarations, ascending. It takes no memory where the declarations have
-/// all the same.
+/// The order keys under the digest of one of these declarations, which weigh so much, in one list.
+fn one_list_under<'a>(
+    alloc: Global,
+    entries: &'a OrderKeyLists,
+    decls: &[DeclItem],
+    weights: &[u64],
+) -> Result<SharedKeys<'a>, AllocError>
+    ensures { IfOk result (λ l. spec.AreListsUnder entries.now decls.now weights.now l) }
+{
+    let mut found = Vec::new(alloc);
+    put_under_decls(alloc, &mut found, entries, decls)?;
+    let order_keys = in_order(found)?;
+    let common = Common {
+        count: decls.len(),
+        weight: total(weights),
+    };
+    let mut lists = Vec::with_capacity(alloc, 1)?;
+    lists.push(SharedList {
+        order_keys: OrderKeys::Made(order_keys),
+        common,
+    })?;
+    Ok(SharedKeys { lists })
+}
+
+/// The order keys under the digest of one of these declarations, which weigh so much. Those of many are put together.
 pub(crate) fn order_keys_of_decls<'a>(
     alloc: Global,
     entries: &'a OrderKeyLists,
     decls: &[DeclItem],
-) -> Result<OrderKeys<'a>, AllocError>
-    ensures ascends { IfOk result (λ l. IsStrictlyIncreasing (order_keys_of l)) }
-    ensures under { IfOk result (λ l. spec.PutsUnderOne entries.now (spec.decl_digests decls.now) [] (order_keys_of l)) }
+    weights: &[u64],
+) -> Result<SharedKeys<'a>, AllocError>
+    requires { length weights.now ≡ length decls.now }
+    ensures { IfOk result (λ l. spec.AreListsUnder entries.now decls.now weights.now l) }
 {
-    if let Some(order_keys) = order_keys_alike(entries, decls) {
-        return Ok(OrderKeys::Under(order_keys));
+    if decls.len() > MANY {
+        return one_list_under(alloc, entries, decls, weights);
     }
-    let mut found = Vec::new(alloc);
-    put_under_decls(alloc, &mut found, entries, decls)?;
-    Ok(OrderKeys::Made(in_order(found)?))
+    lists_under(alloc, entries, decls, weights)
 }

@@ -1,13 +1,16 @@
 //! Tables of the rules of a sheet by their parts.
 
-ghost use Rattle.std.specs.Prelude.{◌≡◌, ◌≢◌, ◌↔◌, ◌∷◌, [], ℕ, true, IfOk, IsTrue, List, OnErr, OnOk};
+ghost use Rattle.std.specs.Prelude.{◌≡◌, ◌≢◌, ◌↔◌, ◌∷◌, [], ℕ, true, IfOk, IsTrue, List, OnErr, OnOk, length, map};
 ghost use Rattle.std.specs.List.{Contains};
 ghost use Rattle.std.specs.List.Sorted.{IsStrictlyIncreasing};
 ghost use Rattle.css_model.specs.declared.sheet.Decl.{Decl};
 ghost use Rattle.css_model.specs.Documents.SelectorParts.{SelectorParts};
 ghost use Rattle.css_model.specs.Sheets.StyleRule.{HaveSameSelectors, selectors_of};
 ghost use Rattle.rule_tables.specs.OrderKeys.{order_keys_of};
+ghost use Rattle.order_laws.specs.Members.{has_decl};
+ghost use Rattle.rule_tables.specs.Ahead.{Reaches, total_at};
 ghost use Rattle.rule_tables.specs.Pairs as pairs;
+ghost use Rattle.rule_tables.specs.SharedKeys.{IsShared};
 ghost use Rattle.rule_tables.specs.Tables as spec;
 ghost use Rattle.step_laws.specs.Steps.{decls_of};
 
@@ -17,10 +20,11 @@ use crate::order_key_lists::{OrderKeyLists, has_no_other};
 use crate::order_keys::OrderKeys;
 use crate::pairs::{OrderKeyedRules, is_pair_in_both, is_pair_soon};
 use crate::partners::{
-    have_no_others, in_order, order_keys_of_decls, order_keys_of_selectors, put_shared,
-    put_under_decls,
+    have_no_others, in_order, is_under_none, order_keys_of_decls, order_keys_of_selectors,
+    put_shared, put_under_decls,
 };
-use css_model::{Decl, Item, Rule, Selector};
+use crate::shared_keys::SharedKeys;
+use css_model::{Decl, Item, Rule, SelItem, Selector};
 use std::alloc::{AllocError, Global};
 use std::marker::Model;
 
@@ -141,16 +145,25 @@ impl Tables {
         Ok(OrderKeys::Under(order_keys_of_selectors(&self.selectors, &rule.selectors)))
     }
 
-    /// The order keys, ascending, of the rules that have one of the declarations, and maybe of others that have one with
-    /// the digest of one of them. `AllocError` where memory is short.
-    pub fn with_decl(&self, alloc: Global, rule: &Rule) -> Result<OrderKeys<'_>, AllocError>
-        ensures ascends { IfOk result (λ l. IsStrictlyIncreasing (order_keys_of l)) }
+    /// The order keys of the rules that have one of the declarations, and maybe of others that have one with the digest of
+    /// one of them. The declarations weigh so much each. `AllocError` where memory is short.
+    pub fn with_decl(
+        &self,
+        alloc: Global,
+        rule: &Rule,
+        weights: &[u64],
+    ) -> Result<SharedKeys<'_>, AllocError>
+        requires { length weights.now ≡ length rule.now.decls }
         ensures all { IfOk result (λ l. (rules : List spec.OrderKeyed) (x : spec.OrderKeyed) (d : Decl) → spec.Cover self.now rules
-            → Contains rules x → Contains (decls_of rule.now) d → Contains (decls_of x.rule) d → Contains (order_keys_of l) x.order_key) }
-        ensures only { IfOk result (λ l. (order_key : ℕ) → Contains (order_keys_of l) order_key
+            → Contains rules x → Contains (decls_of rule.now) d → Contains (decls_of x.rule) d → IsShared l x.order_key) }
+        ensures only { IfOk result (λ l. (order_key : ℕ) → IsShared l order_key
             → spec.IsUnderOne self.now.decls (spec.decl_digests rule.now.decls) order_key) }
+        ensures count { IfOk result (λ l. (rules : List spec.OrderKeyed) (x : spec.OrderKeyed) → spec.Cover self.now rules → Contains rules x
+            → Reaches (total_at (λ c. c.count) l x.order_key) (spec.count_of (has_decl x.rule.decls) rule.now.decls)) }
+        ensures weight { IfOk result (λ l. (rules : List spec.OrderKeyed) (x : spec.OrderKeyed) → spec.Cover self.now rules → Contains rules x
+            → Reaches (total_at (λ c. c.weight) l x.order_key) (spec.weight_of (has_decl x.rule.decls) rule.now.decls weights.now)) }
     {
-        order_keys_of_decls(alloc, &self.decls, &rule.decls)
+        order_keys_of_decls(alloc, &self.decls, &rule.decls, weights)
     }
 
     /// Whether no other rule than that with the order key `own` has one of the rule's selectors. The answer is no too where
@@ -160,6 +173,14 @@ impl Tables {
             → Contains rules x → x.order_key ≢ own → Contains (selectors_of rule.now) s → Contains (selectors_of x.rule) s → ⊥ }
     {
         have_no_others(&self.selectors, &rule.selectors, own)
+    }
+
+    /// Whether the rule with this order key is known to have none of these selectors.
+    pub fn has_none_of(&self, order_key: u64, selectors: &[SelItem]) -> bool
+        ensures { result ≡ true → (rules : List spec.OrderKeyed) (x : spec.OrderKeyed) (s : SelectorParts) → spec.Cover self.now rules
+            → Contains rules x → x.order_key ≡ order_key → Contains (map (λ i. i.selector) selectors.now) s → Contains (selectors_of x.rule) s → ⊥ }
+    {
+        is_under_none(&self.selectors, selectors, order_key)
     }
 
     /// Whether a selector and a declaration are together in one of these rules that has another order key than `own`. The

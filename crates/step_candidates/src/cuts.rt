@@ -1,6 +1,6 @@
 //! Checks whether a step is one of a sheet, with tables of its rules.
 
-ghost use Rattle.std.specs.Prelude.{◌↔◌, IsTrue};
+ghost use Rattle.std.specs.Prelude.{◌↔◌, IfOk, IsTrue};
 ghost use Rattle.step_candidates.specs.Numbered as spec;
 ghost use Rattle.step_laws.specs.declared.step.Step.TheVariants as kinds;
 ghost use Rattle.step_laws.specs.Steps.{HasStep};
@@ -8,6 +8,7 @@ ghost use Rattle.step_laws.specs.Steps.{HasStep};
 use crate::numbered::{Numbered, find_rule};
 use merge_steps::is_step;
 use rule_tables::{can_lose_decl, can_lose_selector, decl_cuts_are_told, selector_cuts_are_told};
+use std::alloc::AllocError;
 use step_laws::Step;
 
 /// Returns whether a declaration of a rule can be cut.
@@ -37,13 +38,13 @@ fn can_cut_selector(on: &Numbered<'_>, number: u32, sel: u32) -> bool
 }
 
 /// Returns whether a step is one of the sheet.
-pub(crate) fn is_step_of(on: &Numbered<'_>, step: &Step) -> bool
+pub(crate) fn is_step_of(on: &Numbered<'_>, step: &Step) -> Result<bool, AllocError>
     requires { spec.IsReady on.now.tables.now on.now.lengths.now on.now.sheet.now.items }
-    ensures { IsTrue result ↔ HasStep on.now.sheet.now.items step.now }
+    ensures { IfOk result (λ is. IsTrue is ↔ HasStep on.now.sheet.now.items step.now) }
 {
     match *step {
-        Step::CutDecl { item, decl } => can_cut_decl(on, item, decl),
-        Step::CutSel { item, sel } => can_cut_selector(on, item, sel),
-        _ => is_step(on.sheet, step),
+        Step::CutDecl { item, decl } => Ok(can_cut_decl(on, item, decl)),
+        Step::CutSel { item, sel } => Ok(can_cut_selector(on, item, sel)),
+        _ => is_step(on.alloc, on.sheet, step),
     }
 }

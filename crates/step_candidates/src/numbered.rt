@@ -18,6 +18,7 @@ use std::alloc::{AllocError, Global};
 /// A sheet with tables of its rules by their numbers, and with the lengths of its texts.
 #[derive(Clone, Copy, Debug)]
 pub(crate) struct Numbered<'a> {
+    pub(crate) alloc: Global,
     pub(crate) sheet: &'a Sheet,
     pub(crate) tables: &'a Tables,
     pub(crate) lengths: &'a KnownLengths<'a>,

@@ -31,6 +31,7 @@ pub(crate) fn find_saving_steps(
     let numbers = numbers(alloc, &sheet.items)?;
     let tables = Tables::new(alloc, &sheet.items, &numbers)?;
     let on = Numbered {
+        alloc,
         sheet,
         tables: &tables,
         lengths: &lengths,

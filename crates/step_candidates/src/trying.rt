@@ -30,7 +30,8 @@ fn try_step(on: &Numbered<'_>, step: &Step, found: &mut Found) -> Result<(), All
     requires { IsReady on.now.tables.now on.now.lengths.now on.now.sheet.now.items }
     ensures { OnOk result (Adds on.now.lengths.now on.now.sheet.now.items (λ k. k ≡ step.now) found.old found.new) }
 {
-    if !is_step_of(on, step) {
+    let is = is_step_of(on, step)?;
+    if !is {
         return Ok(());
     }
     if !saves(on, step) {

@@ -1,5 +1,8 @@
 -- How much each rule of an indexed sheet weighs at most (own).
-use Rattle.std.specs.Prelude.{◌≡◌, ◌≤◌, ◌-◌, ◌^◌, ℕ, Bool, true, false, List, Some, get_or, slice_get}
+use Rattle.std.specs.Prelude.{◌≡◌, ◌≤◌, ◌-◌, ◌+◌, ◌^◌, ℕ, Bool, true, false, List, Some, get_or, if◌then◌else◌, length, slice_get}
+use Rattle.std.specs.List.{Contains}
+use Rattle.css_model.specs.declared.sheet.Decl.{Decl}
+use Rattle.css_model.specs.declared.sheet.DeclItem.{DeclItem}
 use Rattle.css_model.specs.declared.sheet.Item.{Item}
 use Rattle.css_model.specs.declared.sheet.Item.TheVariants.{Rule}
 use Rattle.css_model.specs.Sheets.Printed.{printed_declaration, printed_selector}
@@ -19,7 +22,7 @@ pub record WeightParts : Type 0 where
 
 -- more than any rule weighs; nothing is known of its declarations
 abbrev pub unknown : RuleWeight
-unknown = record { selectors = 2 ^ 32 - 1; decls = 2 ^ 32 - 1; once = false }
+unknown = record { selectors = 2 ^ 32 - 1; decls = 2 ^ 32 - 1; once = false; plain = false }
 
 -- what the rule of an item id weighs at most
 abbrev pub weight_under : List RuleWeight → ℕ → RuleWeight
@@ -31,11 +34,20 @@ pub record TellsTheSame (old new : WeightParts) : Type 0 where
   pub heaviest : new.heaviest ≡ old.heaviest
   pub once : new.once ≡ old.once
 
+-- how long a declaration is printed, if its property is written as it is told
+abbrev pub told_length : Decl → ℕ
+told_length d = length d.name + 1 + length d.value + (if d.important then 10 else 0)
+
+-- each of these declarations is printed as long as its parts tell
+abbrev pub ArePlain : List ℕ → List DeclItem → Type 0
+ArePlain source decls = (d : DeclItem) → Contains decls d → length (printed_declaration source d) ≡ told_length d.decl
+
 -- A rule weighs no more than this, and it has each of its declarations once, if `once` says so.
 pub record WeighsAtMost (source : List ℕ) (r : RuleParts) (w : RuleWeight) : Type 0 where
   pub selectors : weight (printed_selector source) r.selectors ≤ w.selectors
   pub decls : weight (printed_declaration source) r.decls ≤ w.decls
   pub once : w.once ≡ true → StandOnce (λ x. x.decl) r.decls
+  pub plain : w.plain ≡ true → ArePlain source r.decls
 
 -- No rule among items, which have these item ids, weighs more than the weights say of it, and none more than what is heaviest.
 pub record AreWeighed (source : List ℕ) (items : List Item) (item_ids : List ℕ) (weights : WeightParts) : Type 0 where

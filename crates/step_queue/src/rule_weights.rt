@@ -17,6 +17,8 @@ pub struct RuleWeight {
     pub decls: u32,
     /// The rule is known to have each of its declarations once.
     pub once: bool,
+    /// Each of its declarations is known to be printed as long as its name, its value and its importance tell.
+    pub plain: bool,
 }
 
 /// What each rule weighs at most, under its item id, and the greatest of these weights.
@@ -43,6 +45,7 @@ pub(crate) fn unknown() -> RuleWeight
         selectors: u32::MAX,
         decls: u32::MAX,
         once: false,
+        plain: false,
     }
 }
 

@@ -1,6 +1,6 @@
 //! Priorities that are on the watch list, under the pairs that block their steps.
 
-ghost use Rattle.std.specs.Prelude.{◌≡◌, ◌⊎◌, ◌+◌, ◌*◌, ◌^◌, ◌<◌, [], IfOk, OnOk};
+ghost use Rattle.std.specs.Prelude.{◌≡◌, ◌⊎◌, ◌+◌, ◌*◌, ◌^◌, ◌<◌, ◌↔◌, [], IfOk, IsTrue, OnOk};
 ghost use Rattle.std.specs.List.{Contains};
 ghost use Rattle.step_queue.specs.WatchLists as spec;
 ghost use Rattle.step_queue.specs.declared.watch_list.Entry as declared;
@@ -85,6 +85,13 @@ impl WatchList {
         WatchList {
             entries: BTreeSet::new(alloc),
         }
+    }
+
+    /// Whether no candidate is on the watch list.
+    pub fn is_empty(&self) -> bool
+        ensures { IsTrue result ↔ (self.now ≡ []) }
+    {
+        self.entries.is_empty()
     }
 
     /// Puts a candidate on the watch list under the digests of a pair. What was on the watch list stays.

@@ -39,7 +39,7 @@ fn try_decl_joins(view: &View<'_>, partners: &Partners, found: &mut Found) -> Re
     }
     let up = Attempt {
         step: Step::JoinDeclUp { upper, lower },
-        once: false,
+        part_once: false,
         apart,
         past: is_up_past(view.indexed, view.barriers, upper, lower),
     };
@@ -76,7 +76,7 @@ fn try_share(view: &View<'_>, partners: &Partners, found: &mut Found) -> Result<
     }
     let attempt = Attempt {
         step,
-        once: false,
+        part_once: false,
         apart,
         past: false,
     };

@@ -174,7 +174,7 @@ pub(crate) fn share_saving(view: &View<'_>, partners: &Partners) -> Option<u32>
     let Some(below) = find_rule(view.indexed.sheet(), partners.lower) else {
         return None;
     };
-    if !has_each_once(below, partners.once) {
+    if !has_each_once(below, partners.lower_once) {
         return None;
     }
     saving_of(view, partners, above, below)

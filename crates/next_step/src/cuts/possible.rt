@@ -1,6 +1,6 @@
 //! Whether a step is one of an indexed sheet, with tables of its rules.
 
-ghost use Rattle.std.specs.Prelude.{◌≡◌, ◌↔◌, ◌≤◌, IfNone, IfSome, IsTrue, true, length};
+ghost use Rattle.std.specs.Prelude.{◌≡◌, ◌↔◌, ◌≤◌, IfNone, IfOk, IfSome, IsTrue, true, length};
 ghost use Rattle.std.specs.List.{Contains};
 ghost use Rattle.css_model.specs.Sheets.Limits.{max_items};
 ghost use Rattle.css_model.specs.Sheets.RuleParts.{RuleParts};
@@ -8,7 +8,7 @@ ghost use Rattle.rule_tables.specs.Tables.{Cover, with_order_key};
 ghost use Rattle.step_laws.specs.declared.step.Step.TheVariants as kinds;
 ghost use Rattle.step_laws.specs.Steps.{HasStep};
 ghost use Rattle.next_step.specs.Marked.{rules_of};
-ghost use Rattle.next_step.specs.Once.{DeclsStandOnce, PartsStandOnce, SelectorsStandOnce};
+ghost use Rattle.next_step.specs.Once.{DeclStandsOnce, PartStandsOnce, SelectorStandsOnce};
 
 use css_model::{Decl, Rule, Selector};
 use indexed_sheet::IndexedSheet;
@@ -18,6 +18,7 @@ use rule_tables::{
     OrderKeyedRules, Tables, can_lose_decl, can_lose_selector, decl_cuts_are_told, has_both,
     order_keyed_rules_stand, rules_are_order_keyed, selector_cuts_are_told,
 };
+use std::alloc::{AllocError, Global};
 use step_laws::Step;
 
 /// The rule with an order key, if there is one.
@@ -55,11 +56,11 @@ impl OrderKeyedRules for IndexedRules<'_> {
     }
 }
 
-/// Whether a declaration of a rule can be cut. `once` says that each declaration is known to be in the rule once.
+/// Whether a declaration of a rule can be cut. `once` says that it is known to be in the rule once.
 fn can_cut_decl(indexed: &IndexedSheet, tables: &Tables, number: u32, decl: u32, once: bool) -> bool
     requires few { length indexed.now.items ≤ max_items }
     requires cover { Cover tables.now (rules_of indexed.now) }
-    requires once { once ≡ true → DeclsStandOnce indexed.now.items number }
+    requires once { once ≡ true → DeclStandsOnce indexed.now.items number decl }
     ensures { IsTrue result ↔ HasStep indexed.now.items (kinds.CutDecl number decl) }
 {
     decl_cuts_are_told();
@@ -72,7 +73,7 @@ fn can_cut_decl(indexed: &IndexedSheet, tables: &Tables, number: u32, decl: u32,
     can_lose_decl(tables, &rules, own, rule, decl, once)
 }
 
-/// Whether a selector of a rule can be cut. `once` says that each selector is known to be in the rule once.
+/// Whether a selector of a rule can be cut. `once` says that it is known to be in the rule once.
 fn can_cut_selector(
     indexed: &IndexedSheet,
     tables: &Tables,
@@ -82,7 +83,7 @@ fn can_cut_selector(
 ) -> bool
     requires few { length indexed.now.items ≤ max_items }
     requires cover { Cover tables.now (rules_of indexed.now) }
-    requires once { once ≡ true → SelectorsStandOnce indexed.now.items number }
+    requires once { once ≡ true → SelectorStandsOnce indexed.now.items number sel }
     ensures { IsTrue result ↔ HasStep indexed.now.items (kinds.CutSel number sel) }
 {
     selector_cuts_are_told();
@@ -95,19 +96,25 @@ fn can_cut_selector(
     can_lose_selector(tables, &rules, own, rule, sel, once)
 }
 
-/// Whether a step is one of an indexed sheet. Takes no memory.
+/// Whether a step is one of an indexed sheet. `Err(AllocError)` if memory is short.
 ///
-/// `once` says that each part of the kind that the step cuts is known to be in its rule once. Then none is looked for among
-/// the others. The time is that of the parts of its rules, and of a cut that of the rules with these parts.
-pub(crate) fn is_step_of(indexed: &IndexedSheet, tables: &Tables, step: &Step, once: bool) -> bool
+/// `once` says that the part that the step cuts is known to be in its rule once. Then it is not looked for among the others.
+/// The time is that of the parts of its rules, and of a cut that of the rules with these parts.
+pub(crate) fn is_step_of(
+    alloc: Global,
+    indexed: &IndexedSheet,
+    tables: &Tables,
+    step: &Step,
+    once: bool,
+) -> Result<bool, AllocError>
     requires few { length indexed.now.items ≤ max_items }
     requires cover { Cover tables.now (rules_of indexed.now) }
-    requires once { once ≡ true → PartsStandOnce indexed.now.items step.now }
-    ensures { IsTrue result ↔ HasStep indexed.now.items step.now }
+    requires once { once ≡ true → PartStandsOnce indexed.now.items step.now }
+    ensures { IfOk result (λ is. IsTrue is ↔ HasStep indexed.now.items step.now) }
 {
     match *step {
-        Step::CutDecl { item, decl } => can_cut_decl(indexed, tables, item, decl, once),
-        Step::CutSel { item, sel } => can_cut_selector(indexed, tables, item, sel, once),
-        _ => is_step(indexed.sheet(), step),
+        Step::CutDecl { item, decl } => Ok(can_cut_decl(indexed, tables, item, decl, once)),
+        Step::CutSel { item, sel } => Ok(can_cut_selector(indexed, tables, item, sel, once)),
+        _ => is_step(alloc, indexed.sheet(), step),
     }
 }

@@ -1,6 +1,6 @@
 //! Which step a candidate names.
 
-ghost use Rattle.std.specs.Prelude.{◌≡◌, ℕ, ◌≤◌, ◌<◌, ◌^◌, IfNone, IfSome, length, slice_index};
+ghost use Rattle.std.specs.Prelude.{◌≡◌, ℕ, ◌≤◌, ◌<◌, ◌^◌, IfNone, IfOk, IfSome, length, slice_index};
 ghost use Rattle.css_model.specs.Sheets.Limits.{max_items};
 ghost use Rattle.pending_laws.specs.Priorities.{named};
 ghost use Rattle.step_queue.specs.Told.{candidate_told};
@@ -20,6 +20,7 @@ use crate::cuts::possible::is_step_of;
 use indexed_sheet::IndexedSheet;
 use rule_tables::Tables;
 use saved_bytes::{KnownLengths, saved_if_apart};
+use std::alloc::{AllocError, Global};
 use step_kinds::{Kind, step_of};
 use step_laws::{Step, parts_are_few};
 use step_queue::Candidate;
@@ -83,51 +84,53 @@ fn named_step(indexed: &IndexedSheet, candidate: &Candidate) -> Option<Step>
 
 /// A step, if it is one of the indexed sheet and saves exactly this, which is more than 0.
 fn tested(
+    alloc: Global,
     indexed: &IndexedSheet,
     tables: &Tables,
     source: &KnownLengths<'_>,
     step: Step,
     saving: u32,
-) -> Option<Step>
+) -> Result<Option<Step>, AllocError>
     requires plannable { IsPlannable source.now indexed.now.items }
     requires cover { Cover tables.now (rules_of indexed.now) }
-    ensures same { IfSome result (λ k. k ≡ step) }
-    ensures has { IfSome result (λ k. HasStep indexed.now.items k) }
-    ensures some { IfSome result (λ k. 0 < saving) }
-    ensures saves { IfSome result (λ k. (e : Edit) → IsStep indexed.now.items step e → Saves source.now indexed.now.items e saving) }
-    ensures none { IfNone result ((e : Edit) → IsStep indexed.now.items step e → Saves source.now indexed.now.items e saving → 0 < saving → ⊥) }
+    ensures same { IfOk result (λ found. IfSome found (λ k. k ≡ step)) }
+    ensures has { IfOk result (λ found. IfSome found (λ k. HasStep indexed.now.items k)) }
+    ensures some { IfOk result (λ found. IfSome found (λ k. 0 < saving)) }
+    ensures saves { IfOk result (λ found. IfSome found (λ k. (e : Edit) → IsStep indexed.now.items step e → Saves source.now indexed.now.items e saving)) }
+    ensures none { IfOk result (λ found. IfNone found ((e : Edit) → IsStep indexed.now.items step e → Saves source.now indexed.now.items e saving → 0 < saving → ⊥)) }
 {
-    if !is_step_of(indexed, tables, &step, false) {
-        return None;
-    }
     if saving == 0 {
-        return None;
+        return Ok(None);
+    }
+    if !is_step_of(alloc, indexed, tables, &step, false)? {
+        return Ok(None);
     }
     let apart = is_known_apart(indexed, &step);
     if saved_if_apart(source, indexed.sheet(), &step, apart) != saving {
-        return None;
+        return Ok(None);
     }
-    Some(step)
+    Ok(Some(step))
 }
 
 /// The step of an indexed sheet that a candidate names, if it saves exactly what the candidate says, and this is more than 0.
 ///
-/// `None` if no such step saves as much. The tables cover the rules of the sheet, with the order keys of their items. Takes no
-/// memory. The time is that of the parts of the step's rules, and of a cut that of the rules with these parts.
+/// `Ok(None)` if no such step saves as much. The tables cover the rules of the sheet, with the order keys of their items. The time
+/// is that of the parts of the step's rules, and of a cut that of the rules with these parts. `Err(AllocError)` if memory is short.
 pub fn step_of_candidate(
+    alloc: Global,
     indexed: &IndexedSheet,
     tables: &Tables,
     source: &KnownLengths<'_>,
     candidate: &Candidate,
-) -> Option<Step>
+) -> Result<Option<Step>, AllocError>
     requires plannable { IsPlannable source.now indexed.now.items }
     requires cover { Cover tables.now (rules_of indexed.now) }
-    ensures some { IfSome result (IsStepOf source.now indexed.now candidate.now) }
-    ensures none { IfNone result (NamesNone source.now indexed.now candidate.now) }
+    ensures some { IfOk result (λ found. IfSome found (IsStepOf source.now indexed.now candidate.now)) }
+    ensures none { IfOk result (λ found. IfNone found (NamesNone source.now indexed.now candidate.now)) }
 {
     parts_are_few();
     let Some(step) = named_step(indexed, candidate) else {
-        return None;
+        return Ok(None);
     };
-    tested(indexed, tables, source, step, candidate.saving.0)
+    tested(alloc, indexed, tables, source, step, candidate.saving.0)
 }

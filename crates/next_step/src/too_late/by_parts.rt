@@ -109,7 +109,7 @@ fn without_common(view: &View<'_>, partners: &Partners, most: u64) -> Option<u64
 
 /// How much a step of two items may save, at most, and not come before the first of the others, if this is known.
 /// The step is of this kind or a later one.
-fn late_saving(
+pub(crate) fn late_saving(
     indexed: &IndexedSheet,
     others: &Option<Candidate>,
     kind: Kind,
@@ -163,7 +163,7 @@ pub(crate) fn share_is_late(view: &View<'_>, partners: &Partners, found: &Found)
     requires partners { ArePartners view.now.indexed.now partners.now }
     ensures { result ≡ true → IsLate view.now.source.now view.now.indexed.now found.now (kinds.Share partners.now.upper partners.now.lower) }
 {
-    if !partners.once {
+    if !partners.lower_once {
         return false;
     }
     let Some(most) = late_saving(view.indexed, &found.others, Kind::Sharing, partners) else {

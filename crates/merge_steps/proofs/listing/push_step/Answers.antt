@@ -12,9 +12,9 @@ returns-in_ok-push c =
     subst (λ (list : List Step). ListsTo c.args.sheet.now.items (kind_number c.args.kind) c.args.first (c.args.second + 1) list)
     (sym (c.in_ok-push.ensures.items ∙ ap (λ (k : Step). c.args.found.now.items ++ k ∷ []) c.step_of-step.ensures))
     (pushed c.args.sheet.now.items c.args.found.now.items c.args.kind c.args.first c.args.second c.requires
-    (subst (HasStep c.args.sheet.now.items) c.step_of-step.ensures (c.is_step.ensures.0 c.if-is_step.true)))
+    (subst (HasStep c.args.sheet.now.items) c.step_of-step.ensures (c.in_ok-is.ensures.0 c.if-is.true)))
 
-pub returns-else-is_step : goal.returns-else-is_step
-returns-else-is_step c =
+pub returns-else-is : goal.returns-else-is
+returns-else-is c =
     skipped c.args.sheet.now.items c.args.found.now.items c.args.kind c.args.first c.args.second c.requires
-    (λ has. false≢true (sym c.if-is_step.false ∙ c.is_step.ensures.1 (subst (HasStep c.args.sheet.now.items) (sym c.step_of-step.ensures) has)))
+    (λ has. false≢true (sym c.if-is.false ∙ c.in_ok-is.ensures.1 (subst (HasStep c.args.sheet.now.items) (sym c.step_of-step.ensures) has)))

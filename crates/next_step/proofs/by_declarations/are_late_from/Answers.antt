@@ -1,4 +1,8 @@
-use Rattle.next_step.proofs.Words.{AreLateFrom, Candidate, DeclJoinUp, FoundParts, Option, ap, arith, subst}
+use Rattle.std.proofs.Common.{Option, ap, arith, subst}
+use Rattle.step_kinds.specs.declared.kind.Kind.TheVariants.{DeclJoinUp}
+use Rattle.step_queue.specs.declared.candidate.Candidate.{Candidate}
+use Rattle.next_step.specs.LaterOrderKeys.{AreLateFrom}
+use Rattle.next_step.specs.Looking.{FoundParts}
 use Rattle.next_step.proofs.by_declarations.are_late_from.Goals as goal
 
 pub returns-clause-late : goal.returns-clause-late

@@ -1,14 +1,18 @@
-use Rattle.next_step.proofs.Words.{Contains, Grows, IsByDecls, IsStrictlyIncreasing, length, ℕ, ◌<◌}
-use Rattle.next_step.proofs.LaterOrderKeys.{AreCovered}
+use Rattle.std.proofs.Common.{ℕ, ◌<◌}
+use Rattle.rule_tables.specs.Ahead.{IsAhead, count_left}
+use Rattle.next_step.specs.Common.{TellCommon}
+use Rattle.next_step.specs.Kinds.{IsByDecls}
+use Rattle.next_step.specs.Viewed.{Grows}
+use Rattle.next_step.proofs.InCommon.{AreCoveredAhead}
 use Rattle.next_step.proofs.by_declarations.try_above.Given as goal
 
-abbrev pub invariant-rest : goal.invariant-rest
-invariant-rest l = record {
+abbrev pub invariant-order_keys : goal.invariant-order_keys
+invariant-order_keys l = record {
   grows : Grows l.view l.fn.found l.found;
-  covers : AreCovered l.view l.owner.number IsByDecls l.found l.initial.rest l.rest;
-  ascends : IsStrictlyIncreasing l.rest;
-  above : (x : ℕ) → Contains l.rest x → x < l.owner.order_key;
+  covers : AreCoveredAhead l.view l.focus.number IsByDecls l.found l.initial.order_keys l.order_keys;
+  above : (x : ℕ) → IsAhead l.order_keys x → x < l.focus.order_key;
+  common : (x : ℕ) → IsAhead l.order_keys x → TellCommon l.view l.focus l.order_keys x;
 }
 
-abbrev pub decreases-rest : goal.decreases-rest
-decreases-rest l = length l.rest
+abbrev pub decreases-order_keys : goal.decreases-order_keys
+decreases-order_keys l = count_left l.order_keys

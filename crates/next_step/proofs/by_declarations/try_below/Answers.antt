@@ -1,33 +1,42 @@
-use Rattle.next_step.proofs.Words.{Contains, Contains-there, IsByDecls, IsStrictlyIncreasing, List, inr, nil_from_length, subst, sym, ℕ, ◌∙◌}
-use Rattle.next_step.proofs.LaterOrderKeys.{ascends_behind, none_left, one_more, rest_covered}
+use Rattle.std.proofs.Common.{ℕ, ◌≡◌, ◌⊎◌, inl, inr, sym, subst, ◌∙◌}
+use Rattle.std.proofs.lemmas.Bool.{cases_eq}
+use Rattle.rule_tables.specs.Ahead.{IsAhead}
+use Rattle.next_step.specs.Kinds.{IsByDecls}
 use Rattle.next_step.proofs.DeclLate.{rest_below}
+use Rattle.next_step.proofs.InCommon.{none_left, one_more, rest_covered, tells_same}
 use Rattle.next_step.proofs.Looking.{grows_both, grows_itself}
 use Rattle.next_step.proofs.by_declarations.try_below.Goals as goal
 
-pub rest-init : goal.rest-init
-rest-init c = record {
+pub order_keys-init : goal.order_keys-init
+order_keys-init c = record {
   grows = grows_itself c.args.view.now c.args.found.now;
   covers = λ x k among with_it by. inr among;
-  ascends = c.requires.ascends;
   below = c.requires.below;
+  common = c.requires.common;
 }
 
-pub rest-preserved : goal.rest-preserved
-rest-preserved c = record {
-  grows = grows_both c.args.view.now c.args.found.now c.rest.found c.try_partner.new.found c.rest.invariant.grows c.in_ok-try_partner.ensures.grows;
-  covers = one_more c.args.view.now c.args.owner.now.number IsByDecls c.rest.found c.try_partner.new.found c.args.order_keys.now c.rest.rest.now c.in-Some.behind.now c.in-Some.order_key.now
-      c.in-Some.ensures.cases.0 c.in_ok-try_partner.ensures.grows c.rest.invariant.covers c.in_ok-try_partner.ensures.covers;
-  ascends = ascends_behind c.in-Some.order_key.now c.in-Some.behind.now (subst IsStrictlyIncreasing c.in-Some.ensures.cases.0 c.rest.invariant.ascends);
-  below = λ x among. c.rest.invariant.below x (subst (λ (xs : List ℕ). Contains xs x) (sym c.in-Some.ensures.cases.0) (Contains-there c.in-Some.order_key.now c.in-Some.behind.now x among));
+pub try_partner-requires-clause-common : goal.try_partner-requires-clause-common
+try_partner-requires-clause-common c = c.order_keys.invariant.common c.in-Some.met.order_key c.in-Some.ensures.first.0 c.in-Some.met.common c.in-Some.ensures.common
+
+pub order_keys-preserved : goal.order_keys-preserved
+order_keys-preserved c = record {
+  grows = grows_both c.args.view.now c.args.found.now c.order_keys.found c.try_partner.new.found c.order_keys.invariant.grows c.in_ok-try_partner.ensures.grows;
+  covers = one_more c.args.view.now c.args.focus.now.number IsByDecls c.order_keys.found c.try_partner.new.found c.args.order_keys c.order_keys.order_keys c.next.new.self c.in-Some.met.order_key
+      left c.in_ok-try_partner.ensures.grows c.order_keys.invariant.covers c.in_ok-try_partner.ensures.covers;
+  below = λ x among. c.order_keys.invariant.below x ((c.in-Some.ensures.rest x).0 among).0;
+  common = λ x among. tells_same c.args.view.now c.args.focus.now (λ k. k ≡ c.in-Some.met.order_key → ⊥) c.order_keys.order_keys c.next.new.self c.in-Some.ensures.others x ((c.in-Some.ensures.rest x).0 among).1
+      (c.order_keys.invariant.common x ((c.in-Some.ensures.rest x).0 among).0);
 }
+  where
+    left : (k : ℕ) → IsAhead c.order_keys.order_keys k → (k ≡ c.in-Some.met.order_key) ⊎ IsAhead c.next.new.self k
+    left k among = elim (cases_eq k c.in-Some.met.order_key) [ inl same ↦ inl same | inr other ↦ inr ((c.in-Some.ensures.rest k).1 (among, other)) ]
 
 pub returns-clause-covers : goal.returns-clause-covers
-returns-clause-covers c = none_left c.args.view.now c.args.owner.now.number IsByDecls c.rest.found c.args.order_keys.now c.rest.rest.now
-    (nil_from_length c.rest.rest.now (rw c.in_default.is at c.split_first.ensures.cases)) c.rest.invariant.covers
+returns-clause-covers c = none_left c.args.view.now c.args.focus.now.number IsByDecls c.order_keys.found c.args.order_keys c.order_keys.order_keys (rw c.in_default.is at c.next.ensures.none) c.order_keys.invariant.covers
 
 pub returns-then-are_late_from-clause-covers : goal.returns-then-are_late_from-clause-covers
 returns-then-are_late_from-clause-covers c =
-    rest_covered c.args.view.now c.args.owner.now.number IsByDecls c.rest.found c.args.order_keys.now c.rest.rest.now
-    (rest_below c.args.view.now c.args.owner.now c.requires.owner c.marks-marks.ensures.are_marks c.rest.found c.most_below-most.result c.in-Some.order_key.now c.in-Some.behind.now c.rest.rest.now
-    c.in-Some.ensures.cases.0 c.rest.invariant.ascends c.rest.invariant.below (c.requires.view.weighed.once (sym c.once.ensures ∙ c.are_late_from.ensures.once c.if-are_late_from.true)) c.most_below-most.ensures (c.are_late_from.ensures.late c.if-are_late_from.true))
-    c.rest.invariant.covers
+    rest_covered c.args.view.now c.args.focus.now.number IsByDecls c.order_keys.found c.args.order_keys c.order_keys.order_keys
+    (rest_below c.args.view.now c.args.focus.now c.requires.focus c.marks-marks.ensures.are_marks c.order_keys.found c.most_below-most.result c.in-Some.met.order_key (IsAhead c.order_keys.order_keys)
+    c.in-Some.ensures.first.0 c.in-Some.ensures.first.1 c.order_keys.invariant.below (c.requires.view.weighed.once (sym c.once.ensures ∙ c.are_late_from.ensures.once c.if-are_late_from.true)) c.most_below-most.ensures (c.are_late_from.ensures.late c.if-are_late_from.true))
+    c.order_keys.invariant.covers

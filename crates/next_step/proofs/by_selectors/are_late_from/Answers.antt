@@ -1,5 +1,9 @@
-use Rattle.next_step.proofs.Words.{AreLateFrom, Candidate, FoundParts, Option, SelJoinUp, ap, arith, subst, ◌≤◌}
+use Rattle.std.proofs.Common.{◌≤◌, Option, ap, arith, subst}
 use Rattle.std.proofs.lemmas.Bool.{leb-true}
+use Rattle.step_kinds.specs.declared.kind.Kind.TheVariants.{SelJoinUp}
+use Rattle.step_queue.specs.declared.candidate.Candidate.{Candidate}
+use Rattle.next_step.specs.LaterOrderKeys.{AreLateFrom}
+use Rattle.next_step.specs.Looking.{FoundParts}
 use Rattle.next_step.proofs.by_selectors.are_late_from.Goals as goal
 
 pub returns-in-Some : goal.returns-in-Some

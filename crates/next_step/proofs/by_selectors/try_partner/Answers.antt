@@ -14,10 +14,10 @@ try_pair-requires-else-other-number-clause-lower c =
 
 pub returns-then-other-number-clause-covers : goal.returns-then-other-number-clause-covers
 returns-then-other-number-clause-covers c =
-    on_both c.try_pair.result _ _ _ (λ up down k w join. with_above c.args.view.now c.args.owner.now c.requires.owner c.marks-marks.ensures.are_marks c.try_pair.new.found c.args.order_key c.in-Some.other c.in-Some.ensures.some c.if-other-number.true k
-    (both_covered c.args.view.now c.try_pair.new.found c.in-Some.other c.args.owner.now.number up down k join) w) c.try_pair.ensures.up c.try_pair.ensures.down
+    on_both c.try_pair.result _ _ _ (λ up down k w join. with_above c.args.view.now c.args.focus.now c.requires.focus c.marks-marks.ensures.are_marks c.try_pair.new.found c.args.order_key c.in-Some.other c.in-Some.ensures.some c.if-other-number.true k
+    (both_covered c.args.view.now c.try_pair.new.found c.in-Some.other c.args.focus.now.number up down k join) w) c.try_pair.ensures.up c.try_pair.ensures.down
 
 pub returns-else-other-number-clause-covers : goal.returns-else-other-number-clause-covers
 returns-else-other-number-clause-covers c =
-    on_both c.try_pair-else-other-number.result _ _ _ (λ up down k w join. with_below c.args.view.now c.args.owner.now c.requires.owner c.marks-marks.ensures.are_marks c.try_pair-else-other-number.new.found c.args.order_key c.in-Some.other c.in-Some.ensures.some c.if-other-number.false k
-    (both_covered c.args.view.now c.try_pair-else-other-number.new.found c.args.owner.now.number c.in-Some.other up down k join) w) c.try_pair-else-other-number.ensures.up c.try_pair-else-other-number.ensures.down
+    on_both c.try_pair-else-other-number.result _ _ _ (λ up down k w join. with_below c.args.view.now c.args.focus.now c.requires.focus c.marks-marks.ensures.are_marks c.try_pair-else-other-number.new.found c.args.order_key c.in-Some.other c.in-Some.ensures.some c.if-other-number.false k
+    (both_covered c.args.view.now c.try_pair-else-other-number.new.found c.args.focus.now.number c.in-Some.other up down k join) w) c.try_pair-else-other-number.ensures.up c.try_pair-else-other-number.ensures.down

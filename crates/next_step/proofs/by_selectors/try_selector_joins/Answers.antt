@@ -1,5 +1,6 @@
-use Rattle.next_step.proofs.Words.{JoinSelDown, JoinSelUp, false≢true}
+use Rattle.std.proofs.lemmas.Bool.{false≢true}
 use Rattle.pending_laws.specs.declared.way.Way.TheVariants.{Up, Down}
+use Rattle.step_laws.specs.declared.step.Step.TheVariants.{JoinSelUp, JoinSelDown}
 use Rattle.next_step.proofs.Alike.{selector_joins_alike}
 use Rattle.next_step.proofs.Later.{late_covers}
 use Rattle.next_step.proofs.Looking.{no_step}

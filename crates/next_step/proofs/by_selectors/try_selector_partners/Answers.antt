@@ -1,4 +1,6 @@
-use Rattle.next_step.proofs.Words.{Grows, IsSelectorJoin, inl, inr}
+use Rattle.std.proofs.Common.{inl, inr}
+use Rattle.next_step.specs.Kinds.{IsSelectorJoin}
+use Rattle.next_step.specs.Viewed.{Grows}
 use Rattle.next_step.proofs.ByOrderKeys.{by_halves}
 use Rattle.next_step.proofs.Looking.{grows_both, kept_covers}
 use Rattle.next_step.proofs.OwnedBelow.{none_with}
@@ -17,13 +19,13 @@ returns-clause-grows c = on_ok c.try_side-2.result (Grows c.args.view.now c.try_
 
 pub returns-clause-covers : goal.returns-clause-covers
 returns-clause-covers c = on_both c.try_side-2.result (Grows c.args.view.now c.try_side.new.found c.try_side-2.new.found) _ _
-    (λ grows covers. by_halves c.args.view.now c.args.owner.now c.requires.owner c.marks-marks.ensures.are_marks c.try_side-2.new.found IsSelectorJoin c.args.order_keys.now c.halves.result.0.now c.halves.result.1.now c.halves.ensures.below c.halves.ensures.above
+    (λ grows covers. by_halves c.args.view.now c.args.focus.now c.requires.focus c.marks-marks.ensures.are_marks c.try_side-2.new.found IsSelectorJoin c.args.order_keys.now c.halves.result.0.now c.halves.result.1.now c.halves.ensures.below c.halves.ensures.above
     (λ order_key k among w by. kept_covers c.args.view.now c.try_side.new.found c.try_side-2.new.found grows k (c.in_ok-try_side.ensures.covers order_key k among w by))
     covers) c.try_side-2.ensures.grows c.try_side-2.ensures.covers
 
 pub returns-then-owns_none_below-clause-covers : goal.returns-then-owns_none_below-clause-covers
 returns-then-owns_none_below-clause-covers c =
     let none = c.owns_none_below.ensures c.if-owns_none_below.true in
-    by_halves c.args.view.now c.args.owner.now c.requires.owner c.marks-marks.ensures.are_marks c.try_side.new.found IsSelectorJoin c.args.order_keys.now c.halves.result.0.now c.halves.result.1.now c.halves.ensures.below c.halves.ensures.above
+    by_halves c.args.view.now c.args.focus.now c.requires.focus c.marks-marks.ensures.are_marks c.try_side.new.found IsSelectorJoin c.args.order_keys.now c.halves.result.0.now c.halves.result.1.now c.halves.ensures.below c.halves.ensures.above
     c.in_ok-try_side.ensures.covers
-    (λ order_key k among w by. none_with c.args.view.now c.args.owner.now c.requires.owner c.try_side.new.found c.marks-marks.ensures.are_marks c.marks-marks.ensures.as_many none.0 none.1 order_key (c.halves.ensures.above.above order_key among) k w)
+    (λ order_key k among w by. none_with c.args.view.now c.args.focus.now c.requires.focus c.try_side.new.found c.marks-marks.ensures.are_marks c.marks-marks.ensures.as_many none.0 none.1 order_key (c.halves.ensures.above.above order_key among) k w)

@@ -1,11 +1,17 @@
-use Rattle.next_step.proofs.Words.{CutDecl, arith, false≢true, length, max_bytes, ◌<◌, ◌≤◌}
+use Rattle.std.proofs.Common.{◌<◌, ◌≤◌, length, arith, subst}
+use Rattle.std.proofs.lemmas.Bool.{false≢true}
+use Rattle.css_model.specs.Sheets.Limits.{max_bytes}
+use Rattle.css_model.specs.Sheets.RuleParts.{RuleParts}
+use Rattle.rule_tables.specs.Losing.{HasDeclOnce}
+use Rattle.step_laws.specs.declared.step.Step.TheVariants.{CutDecl}
 use Rattle.next_step.proofs.Looking.{cut_more, grows_both, grows_itself, none_more}
 use Rattle.next_step.proofs.NamedSteps.{rule_is_small}
+use Rattle.next_step.proofs.Rules.{one_rule}
 use Rattle.next_step.proofs.cuts.try_decl_cuts.Goals as goal
 
 pub overflow_cast-count : goal.overflow_cast-count
 overflow_cast-count c =
-    let m : length c.args.owner.now.rule.now.decls ≤ max_bytes = (rule_is_small c.parts_are_few.ensures c.args.view.now.source.now c.args.view.now.indexed.now.items c.requires.view.plannable c.args.owner.now.number c.args.owner.now.rule.now c.requires.owner.rule).0 in omega (arith, m)
+    let m : length c.args.focus.now.rule.now.decls ≤ max_bytes = (rule_is_small c.parts_are_few.ensures c.args.view.now.source.now c.args.view.now.indexed.now.items c.requires.view.plannable c.args.focus.now.number c.args.focus.now.rule.now c.requires.focus.rule).0 in omega (arith, m)
 
 pub loop-decl-init : goal.loop-decl-init
 loop-decl-init c = record {
@@ -16,7 +22,7 @@ loop-decl-init c = record {
 
 pub try_cut-requires-clause-attempt : goal.try_cut-requires-clause-attempt
 try_cut-requires-clause-attempt c = record {
-  once = c.requires.owner.once;
+  once = λ known r at. subst (λ (q : RuleParts). HasDeclOnce q c.loop-decl.decl) (one_rule c.args.view.now.indexed.now.items c.args.focus.now.number c.args.focus.now.rule.now r c.requires.focus.rule at) (c.is_decl_once.ensures known);
   apart = λ known. absurd (false≢true known);
   past = λ known. absurd (false≢true known);
 }
@@ -24,12 +30,12 @@ try_cut-requires-clause-attempt c = record {
 pub loop-decl-preserved : goal.loop-decl-preserved
 loop-decl-preserved c = record {
   grows = grows_both c.args.view.now c.args.found.now c.loop-decl.found c.try_cut.new.found c.loop-decl.invariant.grows c.in_ok-has.ensures.grows;
-  covers = cut_more c.args.view.now (CutDecl c.args.owner.now.number) c.loop-decl.found c.try_cut.new.found c.loop-decl.decl c.in_ok-has.ensures.grows c.loop-decl.invariant.covers c.in_ok-has.ensures.covers;
-  none = λ known. none_more c.args.view.now.indexed.now.items (CutDecl c.args.owner.now.number) c.loop-decl.decl (c.loop-decl.invariant.none (c.either-some.ensures.one known)) (c.in_ok-has.ensures.none (c.either-some.ensures.other known));
+  covers = cut_more c.args.view.now (CutDecl c.args.focus.now.number) c.loop-decl.found c.try_cut.new.found c.loop-decl.decl c.in_ok-has.ensures.grows c.loop-decl.invariant.covers c.in_ok-has.ensures.covers;
+  none = λ known. none_more c.args.view.now.indexed.now.items (CutDecl c.args.focus.now.number) c.loop-decl.decl (c.loop-decl.invariant.none (c.either-some.ensures.one known)) (c.in_ok-has.ensures.none (c.either-some.ensures.other known));
 }
 
 pub returns-clause-covers : goal.returns-clause-covers
-returns-clause-covers c = λ i less. c.loop-decl.invariant.covers i (let l : i < length c.args.owner.now.rule.now.decls = less in omega (arith, l, c.decl_count-count.ensures))
+returns-clause-covers c = λ i less. c.loop-decl.invariant.covers i (let l : i < length c.args.focus.now.rule.now.decls = less in omega (arith, l, c.decl_count-count.ensures))
 
 pub returns-clause-none : goal.returns-clause-none
-returns-clause-none c = λ known i less. c.loop-decl.invariant.none known i (let l : i < length c.args.owner.now.rule.now.decls = less in omega (arith, l, c.decl_count-count.ensures))
+returns-clause-none c = λ known i less. c.loop-decl.invariant.none known i (let l : i < length c.args.focus.now.rule.now.decls = less in omega (arith, l, c.decl_count-count.ensures))

@@ -1,4 +1,6 @@
-use Rattle.next_step.proofs.Words.{IsSaving, Item, List, subst, sym}
+use Rattle.std.proofs.Common.{List, subst, sym}
+use Rattle.css_model.specs.declared.sheet.Item.{Item}
+use Rattle.saved_bytes.specs.Savings.{IsSaving}
 use Rattle.step_savings.specs.Apart.{StepApart}
 use Rattle.next_step.proofs.Looking.{past_barrier}
 use Rattle.next_step.proofs.trying.put_priority.Goals as goal

@@ -1,5 +1,9 @@
-use Rattle.next_step.proofs.Words.{Candidate, IsAmong, IsSaving, Keeps, candidate_told, rules, subst, ℕ, ◌<◌, ◌≡◌, ◌⊎◌}
+use Rattle.std.proofs.Common.{◌≡◌, ◌⊎◌, ◌<◌, ℕ, rules, subst}
+use Rattle.step_queue.specs.declared.candidate.Candidate.{Candidate}
+use Rattle.step_queue.specs.Told.{candidate_told}
+use Rattle.saved_bytes.specs.Savings.{IsSaving}
 use Rattle.plan_laws.specs.Cover.{IsSooner}
+use Rattle.next_step.specs.Looking.{IsAmong, Keeps}
 use Rattle.next_step.proofs.Looking.{later_priority, nothing_saved, put_grows}
 use Rattle.next_step.proofs.Results.{on_both}
 use Rattle.next_step.proofs.trying.put_saving.Goals as goal

@@ -1,4 +1,5 @@
-use Rattle.next_step.proofs.Words.{IsSaving, subst, ℕ}
+use Rattle.std.proofs.Common.{ℕ, subst}
+use Rattle.saved_bytes.specs.Savings.{IsSaving}
 use Rattle.next_step.proofs.Looking.{nothing_saved}
 use Rattle.next_step.proofs.trying.try_known.Goals as goal
 

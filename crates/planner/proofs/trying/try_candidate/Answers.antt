@@ -11,7 +11,7 @@ use Rattle.step_laws.specs.Steps.{IsStep}
 use Rattle.next_step.specs.Named.{IsStepOf, NamesNone}
 
 pub pass_none-requires-clause-none : goal.pass_none-requires-clause-none
-pass_none-requires-clause-none g c = subst (λ (p : PlanParts). NamesNone c.args.source.now p.indexed c.args.candidate.now) c.plan.view_is c.in_default.ensures.none
+pass_none-requires-clause-none g c = subst (λ (p : PlanParts). NamesNone c.args.source.now p.indexed c.args.candidate.now) c.plan.view_is (rw c.in_default.is at c.in_ok-step.ensures.none)
 
 pub returns-in_ok-queue_again-in-None-clause-state : goal.returns-in_ok-queue_again-in-None-clause-state
 returns-in_ok-queue_again-in-None-clause-state g c = c.in_ok-queue_again-in-None.ensures.state (g.O.Obstacles.answers c.obstacle_on.new.obstacles) c.args.source.now
@@ -22,7 +22,7 @@ pub returns-in_ok-queue_again-in-None-clause-found : goal.returns-in_ok-queue_ag
 returns-in_ok-queue_again-in-None-clause-found g c = first_found c.first_candidate_is_taken.ensures c.priorities_are_ordered.ensures (g.O.Obstacles.answers c.obstacle_on.new.obstacles) c.args.source.now c.args.plan.now c.args.candidate.now c.in-Some.step
     (more_answers c.answers_may_come.ensures c.barriers_stay.ensures (g.O.Obstacles.answers c.args.obstacles.now) (g.O.Obstacles.answers c.obstacle_on.new.obstacles) c.args.source.now c.args.plan.now (candidate_told c.args.candidate.now ∷ c.args.plan.now.candidates)
     c.in_ok-obstacle_on.ensures.asked c.requires.queued) c.requires.first
-    (subst (λ (p : PlanParts). IsStepOf c.args.source.now p.indexed c.args.candidate.now c.in-Some.step) c.plan.view_is c.in-Some.ensures.some)
+    (subst (λ (p : PlanParts). IsStepOf c.args.source.now p.indexed c.args.candidate.now c.in-Some.step) c.plan.view_is (rw c.in-Some.is at c.in_ok-step.ensures.some))
     (subst (λ (p : PlanParts). (e : Edit) → IsStep p.indexed.items c.in-Some.step e → IsFree (g.O.Obstacles.answers c.obstacle_on.new.obstacles) p.indexed.items e) c.plan.view_is (rw c.in-None.is at c.in_ok-obstacle_on.ensures.free))
 
 pub returns-in_ok-pass_blocked-in-Some-2-clause-state : goal.returns-in_ok-pass_blocked-in-Some-2-clause-state

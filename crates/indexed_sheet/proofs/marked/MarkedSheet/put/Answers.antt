@@ -22,6 +22,7 @@ invariant_of-result c =
           ∙ put_length c.args.number (items_in c.args.left) c.in_ok-marks.ensures.marks.made c.sheet.inside.items.items c.self.inside.marks.list c.in_ok-marks.ensures.marks.count_is same
           ∙ sym (ap (λ (items : List Item). length items) c.in_ok-items.ensures),
       c.in_ok-masks.ensures
+          ∙ ap (λ (left : List ItemMask). put_at c.args.number left c.self.inside.masks.items) c.requires.masks
           ∙ ap (λ (masks : List ItemMask). put_at c.args.number (map item_mask (items_in c.args.left)) masks) masked
           ∙ put_map item_mask c.args.number (items_in c.args.left) c.sheet.inside.items.items
           ∙ sym (ap (λ (items : List Item). map item_mask items) c.in_ok-items.ensures),

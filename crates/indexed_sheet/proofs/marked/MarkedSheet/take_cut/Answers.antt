@@ -8,6 +8,7 @@ use Rattle.css_model.specs.Sheets.RuleParts.{RuleParts}
 use Rattle.step_laws.specs.Steps.{first_item}
 use Rattle.step_savings.proofs.ForCallers.{first_rule, has_part}
 use Rattle.indexed_sheet.specs.Putting.{items_in, placeholder}
+use Rattle.indexed_sheet.proofs.LeftMasks.{cut_mask_known}
 use Rattle.indexed_sheet.proofs.Taken.{cut_items, cut_marks, few_above}
 use Rattle.indexed_sheet.proofs.marked.MarkedSheet.take_cut.Goals as goal
 
@@ -20,6 +21,10 @@ pub cut-left-requires-clause-part : goal.cut-left-requires-clause-part
 cut-left-requires-clause-part c =
     has_part c.args.self.items c.args.step.now c.lift-indexed.result.1 c.requires.is_step
     (subst (λ (i : ℕ). slice_get c.args.self.items i ≡ Some (Rule c.lift-indexed.result.1)) c.requires.number c.lift-indexed.ensures.rule)
+
+pub masks_of_cut-masks-requires : goal.masks_of_cut-masks-requires
+masks_of_cut-masks-requires c =
+    cut_mask_known c.args.self.items c.args.step.now c.args.number c.lift-indexed.result.1 (items_in c.cut-left.result) c.mask-mask.result c.lift-indexed.ensures.rule c.cut-left.ensures c.mask-mask.ensures
 
 pub put-requires-clause-at : goal.put-requires-clause-at
 put-requires-clause-at c =

@@ -11,7 +11,7 @@ use Rattle.indexed_sheet.specs.declared.marks.Mark.{Mark}
 use Rattle.indexed_sheet.specs.Marking.{HasOrderKeyBefore}
 use Rattle.indexed_sheet.specs.Putting.{items_in, placeholder}
 use Rattle.indexed_sheet.proofs.EditPuts.{change}
-use Rattle.indexed_sheet.proofs.JoinedMasks.{above_known, below_known, masks_known}
+use Rattle.indexed_sheet.proofs.LeftMasks.{masks_known}
 use Rattle.indexed_sheet.proofs.Puts.{put_within}
 use Rattle.indexed_sheet.proofs.Taken.{two_items, two_order_keys, two_marks, in_order, get_other, one_made, few_above, few_below, order_key_for}
 use Rattle.indexed_sheet.proofs.marked.MarkedSheet.take_two.Goals as goal
@@ -62,12 +62,11 @@ put-requires-clause-room c = λ more.
 pub put-requires-clause-item_ids : goal.put-requires-clause-item_ids
 put-requires-clause-item_ids c = omega (arith, c.requires.item_ids, c.lift-again.ensures.next, c.lift-lifted.ensures.next)
 
-pub put-requires-clause-known : goal.put-requires-clause-known
-put-requires-clause-known c =
-    below_known (items_in c.in_ok-left.left.above) (items_in c.in_ok-left.left.below) c.joined_mask-known.result
-    (masks_known c.args.self.items c.lift-lifted.result.0.items c.args.step.now c.args.upper c.args.lower c.lift-lifted.result.1 c.lift-again.result.1 (items_in c.in_ok-left.left.above) (items_in c.in_ok-left.left.below)
-    c.mask.result c.mask-2.result c.joined_mask-known.result c.requires.join c.requires.is_step c.requires.first c.requires.last c.lift-lifted.ensures.rule c.lift-lifted.ensures.items c.lift-again.ensures.rule
-    c.in_ok-left.ensures.changes c.mask.ensures c.mask-2.ensures c.joined_mask-known.ensures)
+pub masks_of_both-masks_above-requires : goal.masks_of_both-masks_above-requires
+masks_of_both-masks_above-requires c =
+    masks_known c.args.self.items c.lift-lifted.result.0.items c.args.step.now c.args.upper c.args.lower c.lift-lifted.result.1 c.lift-again.result.1 (items_in c.in_ok-left.left.above) (items_in c.in_ok-left.left.below)
+    c.mask-upper_mask.result c.mask-lower_mask.result c.requires.join c.requires.is_step c.requires.first c.requires.last c.lift-lifted.ensures.rule c.lift-lifted.ensures.items c.lift-again.ensures.rule
+    c.in_ok-left.ensures.changes c.mask-upper_mask.ensures c.mask-lower_mask.ensures
 
 pub put-requires-2-clause-at : goal.put-requires-2-clause-at
 put-requires-2-clause-at c =
@@ -84,13 +83,6 @@ put-requires-2-clause-room c = λ more.
     let few : length (items_in c.in_ok-left.left.above) ≤ 1 =
     few_above c.args.step.now c.lift-lifted.result.1 c.lift-again.result.1 (items_in c.in_ok-left.left.above) (change (last_item c.args.step.now) (items_in c.in_ok-left.left.below) ∷ []) c.in_ok-left.ensures.changes in
     absurd (omega (arith, more, few))
-
-pub put-requires-2-clause-known : goal.put-requires-2-clause-known
-put-requires-2-clause-known c =
-    above_known (items_in c.in_ok-left.left.above) (items_in c.in_ok-left.left.below) c.joined_mask-known.result
-    (masks_known c.args.self.items c.lift-lifted.result.0.items c.args.step.now c.args.upper c.args.lower c.lift-lifted.result.1 c.lift-again.result.1 (items_in c.in_ok-left.left.above) (items_in c.in_ok-left.left.below)
-    c.mask.result c.mask-2.result c.joined_mask-known.result c.requires.join c.requires.is_step c.requires.first c.requires.last c.lift-lifted.ensures.rule c.lift-lifted.ensures.items c.lift-again.ensures.rule
-    c.in_ok-left.ensures.changes c.mask.ensures c.mask-2.ensures c.joined_mask-known.ensures)
 
 pub put-requires-2-clause-item_ids : goal.put-requires-2-clause-item_ids
 put-requires-2-clause-item_ids c =

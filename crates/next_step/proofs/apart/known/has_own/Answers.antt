@@ -1,4 +1,4 @@
-use Rattle.next_step.proofs.Digesting.{apart_turned}
+use Rattle.next_step.proofs.RulesApart.{apart_turned}
 use Rattle.next_step.proofs.DeclWeights.{own_apart}
 use Rattle.next_step.proofs.apart.known.has_own.Goals as goal
 

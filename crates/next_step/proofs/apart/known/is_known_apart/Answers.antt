@@ -1,4 +1,5 @@
-use Rattle.next_step.proofs.Words.{RulesApart, subst, true, ℕ, ◌≡◌}
+use Rattle.std.proofs.Common.{◌≡◌, ℕ, true, subst}
+use Rattle.step_savings.specs.Apart.{RulesApart}
 use Rattle.next_step.proofs.apart.known.is_known_apart.Goals as goal
 
 pub returns : goal.returns

@@ -1,4 +1,5 @@
-use Rattle.next_step.proofs.Words.{arith, nat_tests, ◌≡◌}
+use Rattle.std.proofs.Common.{◌≡◌, arith}
+use Rattle.std.proofs.lemmas.Bool.Decides.{nat_tests}
 use Rattle.next_step.proofs.Masked.{no_decl_join}
 use Rattle.next_step.proofs.apart.masks.decls_differ.Goals as goal
 

@@ -1,4 +1,6 @@
-use Rattle.next_step.proofs.Words.{arith, bit_and, nat_tests, ◌≡◌}
+use Rattle.std.proofs.Common.{◌≡◌, arith}
+use Rattle.std.specs.Prelude.{bit_and}
+use Rattle.std.proofs.lemmas.Bool.Decides.{nat_tests}
 use Rattle.next_step.proofs.Masked.{keeps_decl}
 use Rattle.next_step.proofs.apart.masks.has_own_family.Goals as goal
 

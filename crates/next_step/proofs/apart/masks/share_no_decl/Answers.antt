@@ -1,4 +1,6 @@
-use Rattle.next_step.proofs.Words.{arith, bit_and, nat_tests, ◌≡◌}
+use Rattle.std.proofs.Common.{◌≡◌, arith}
+use Rattle.std.specs.Prelude.{bit_and}
+use Rattle.std.proofs.lemmas.Bool.Decides.{nat_tests}
 use Rattle.next_step.proofs.Masked.{no_share}
 use Rattle.next_step.proofs.apart.masks.share_no_decl.Goals as goal
 

@@ -1,4 +1,6 @@
-use Rattle.next_step.proofs.Words.{order_keys_of, rules_of, sym, true≢false, ◌∙◌}
+use Rattle.std.proofs.Common.{sym, true≢false, ◌∙◌}
+use Rattle.indexed_sheet.specs.MarkList.{order_keys_of}
+use Rattle.next_step.specs.Marked.{rules_of}
 use Rattle.next_step.proofs.FromOrderKey.{cover_from, has_from}
 use Rattle.next_step.proofs.barriers.standing.stands_from.Goals as goal
 

@@ -1,4 +1,5 @@
-use Rattle.next_step.proofs.Words.{CoversIn, Grows, JoinDeclDown, JoinDeclUp, Share}
+use Rattle.step_laws.specs.declared.step.Step.TheVariants.{JoinDeclUp, JoinDeclDown, Share}
+use Rattle.next_step.specs.Viewed.{CoversIn, Grows}
 use Rattle.next_step.proofs.Looking.{all_by_decls, grows_both, kept_covers}
 use Rattle.next_step.proofs.Results.{on_both, on_ok}
 use Rattle.next_step.proofs.by_declarations.joins.try_by_decls.Goals as goal

@@ -1,4 +1,5 @@
-use Rattle.next_step.proofs.Words.{Share, false≢true}
+use Rattle.std.proofs.lemmas.Bool.{false≢true}
+use Rattle.step_laws.specs.declared.step.Step.TheVariants.{Share}
 use Rattle.next_step.proofs.Later.{late_covers}
 use Rattle.next_step.proofs.Looking.{no_step}
 use Rattle.next_step.proofs.by_declarations.joins.try_share.Goals as goal

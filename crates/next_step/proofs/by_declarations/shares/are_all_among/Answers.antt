@@ -1,6 +1,9 @@
-use Rattle.next_step.proofs.Words.{AreDeclsAmong, Bool, DeclItem, List, RuleParts, ap, ap₂, subst, sym, true, ◌↔◌, ◌∙◌, ◌≡◌}
+use Rattle.std.proofs.Common.{◌≡◌, ◌↔◌, Bool, true, List, ap, ap₂, subst, sym, ◌∙◌}
 use Rattle.std.specs.List.{list_all}
+use Rattle.css_model.specs.declared.sheet.DeclItem.{DeclItem}
+use Rattle.css_model.specs.Sheets.RuleParts.{RuleParts}
 use Rattle.order_laws.specs.Members.{has_decl}
+use Rattle.step_laws.specs.Steps.{AreDeclsAmong}
 use Rattle.next_step.proofs.Sharing.{among_all}
 use Rattle.next_step.proofs.by_declarations.shares.are_all_among.Goals as goal
 

@@ -1,7 +1,15 @@
-use Rattle.next_step.proofs.Words.{DeclItem, IsSaving, List, RuleParts, Share, among_weight, ap, ap₂, max_bytes, printed_declaration, subst, sym, true, weight, ℕ, ◌+◌, ◌∙◌, ◌≡◌, ◌≤◌}
+use Rattle.std.proofs.Common.{◌≡◌, ℕ, ◌+◌, ◌≤◌, List, true, ap, ap₂, subst, sym, ◌∙◌}
+use Rattle.css_model.specs.declared.sheet.DeclItem.{DeclItem}
+use Rattle.css_model.specs.Sheets.Limits.{max_bytes}
+use Rattle.css_model.specs.Sheets.Printed.{printed_declaration}
+use Rattle.css_model.specs.Sheets.RuleParts.{RuleParts}
+use Rattle.saved_bytes.specs.Savings.{IsSaving}
+use Rattle.step_laws.specs.declared.step.Step.TheVariants.{Share}
+use Rattle.step_laws.specs.Sizes.{weight}
 use Rattle.rule_tables.proofs.ForCallers.{some_then}
 use Rattle.next_step.proofs.Sharing.{saves_none, saves_rest, weighable}
 use Rattle.next_step.proofs.by_declarations.shares.saving_of.Goals as goal
+use Rattle.next_step.specs.Shares.{among_weight}
 
 pub returns-in-Some : goal.returns-in-Some
 returns-in-Some c =

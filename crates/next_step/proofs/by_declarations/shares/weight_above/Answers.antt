@@ -1,7 +1,11 @@
-use Rattle.next_step.proofs.Words.{AllByRecursion, among_weight, arith, printed_declaration, subst, sym, weight, ◌∙◌, ◌≤◌}
+use Rattle.std.proofs.Common.{◌≤◌, arith, sym, subst, ◌∙◌}
+use Rattle.std.specs.List.{AllByRecursion}
+use Rattle.css_model.specs.Sheets.Printed.{printed_declaration}
 use Rattle.css_model.specs.Sheets.Sound.{IsSoundDeclaration}
+use Rattle.step_laws.specs.Sizes.{weight}
 use Rattle.next_step.proofs.Sharing.{all_count, among_count, none_count}
 use Rattle.next_step.proofs.by_declarations.shares.weight_above.Goals as goal
+use Rattle.next_step.specs.Shares.{among_weight}
 
 pub returns-then-most-limit-clause-none : goal.returns-then-most-limit-clause-none
 returns-then-most-limit-clause-none c =

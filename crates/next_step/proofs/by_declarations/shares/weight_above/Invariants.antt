@@ -1,6 +1,11 @@
-use Rattle.next_step.proofs.Words.{AllByRecursion, among_weight, length, max_bytes, printed_declaration, weight, ◌+◌, ◌≡◌, ◌≤◌}
+use Rattle.std.proofs.Common.{◌≡◌, ◌+◌, ◌≤◌, length}
+use Rattle.std.specs.List.{AllByRecursion}
+use Rattle.css_model.specs.Sheets.Limits.{max_bytes}
+use Rattle.css_model.specs.Sheets.Printed.{printed_declaration}
 use Rattle.css_model.specs.Sheets.Sound.{IsSoundDeclaration}
+use Rattle.step_laws.specs.Sizes.{weight}
 use Rattle.next_step.proofs.by_declarations.shares.weight_above.Given as goal
+use Rattle.next_step.specs.Shares.{among_weight}
 
 -- those that are left are counted whole
 abbrev pub invariant-rest : goal.invariant-rest

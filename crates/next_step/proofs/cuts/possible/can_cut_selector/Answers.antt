@@ -1,13 +1,14 @@
-use Rattle.next_step.proofs.Words.{Item, List, Rule, SelItem, Some, order_keys_of, slice_get, subst, ◌≡◌}
-use Rattle.next_step.proofs.Differing.{once_removed}
+use Rattle.std.proofs.Common.{◌≡◌, List, Some, subst}
+use Rattle.std.specs.Prelude.{slice_get}
+use Rattle.css_model.specs.declared.sheet.Item.{Item}
+use Rattle.css_model.specs.declared.sheet.Item.TheVariants.{Rule}
+use Rattle.indexed_sheet.specs.MarkList.{order_keys_of}
 use Rattle.next_step.proofs.Telling.{there_of, told}
 use Rattle.next_step.proofs.cuts.possible.can_cut_selector.Goals as goal
 
 pub can_lose_selector-requires-clause-once : goal.can_lose_selector-requires-clause-once
-can_lose_selector-requires-clause-once c = λ once lost part.
-    let at : slice_get c.args.indexed.now.items c.args.number ≡ Some (Rule c.in-Some.rule.now) =
-    subst (λ (xs : List Item). slice_get xs c.args.number ≡ Some (Rule c.in-Some.rule.now)) c.sheet.ensures c.in-Some.ensures.some in
-    once_removed (λ (x : SelItem). x.selector) c.in-Some.rule.now.selectors c.args.sel lost (c.requires.once once c.in-Some.rule.now at) part
+can_lose_selector-requires-clause-once c = λ once.
+    c.requires.once once c.in-Some.rule.now (subst (λ (xs : List Item). slice_get xs c.args.number ≡ Some (Rule c.in-Some.rule.now)) c.sheet.ensures c.in-Some.ensures.some)
 
 pub returns : goal.returns
 returns c =

@@ -1,4 +1,8 @@
-use Rattle.next_step.proofs.Words.{Item, List, Rule, RuleParts, Some, slice_get, subst, ◌≡◌}
+use Rattle.std.proofs.Common.{◌≡◌, List, Some, subst}
+use Rattle.std.specs.Prelude.{slice_get}
+use Rattle.css_model.specs.declared.sheet.Item.{Item}
+use Rattle.css_model.specs.declared.sheet.Item.TheVariants.{Rule}
+use Rattle.css_model.specs.Sheets.RuleParts.{RuleParts}
 use Rattle.rule_tables.proofs.ForCallers.{none_then, some_then}
 use Rattle.next_step.proofs.Rules.{no_order_key, no_rule, the_rule}
 use Rattle.next_step.proofs.cuts.possible.rule_with.Goals as goal

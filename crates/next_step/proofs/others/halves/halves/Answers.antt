@@ -1,4 +1,5 @@
-use Rattle.next_step.proofs.Words.{arith, slice_index, ◌+◌, ◌<◌, ◌≤◌}
+use Rattle.std.proofs.Common.{◌+◌, ◌<◌, ◌≤◌, arith}
+use Rattle.std.specs.Prelude.{slice_index}
 use Rattle.next_step.proofs.Halves.{before_it, behind_it, found_at, from_it, up_to_it}
 use Rattle.next_step.proofs.others.halves.halves.Goals as goal
 

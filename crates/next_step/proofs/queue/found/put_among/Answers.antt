@@ -1,4 +1,5 @@
-use Rattle.next_step.proofs.Words.{Candidate, Some, ap, inl, inr}
+use Rattle.std.proofs.Common.{Some, ap, inl, inr}
+use Rattle.step_queue.specs.declared.candidate.Candidate.{Candidate}
 use Rattle.next_step.proofs.queue.found.put_among.Goals as goal
 
 pub returns-clause-stay : goal.returns-clause-stay

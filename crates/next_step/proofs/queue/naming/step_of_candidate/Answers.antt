@@ -1,3 +1,4 @@
+use Rattle.std.proofs.lemmas.Result.{IfOk-weaker}
 use Rattle.next_step.proofs.NamedSteps.{names_none, tested_none}
 use Rattle.rule_tables.proofs.ForCallers.{none_then}
 use Rattle.next_step.proofs.queue.naming.step_of_candidate.Goals as goal
@@ -7,4 +8,4 @@ returns-in_default-clause-none c = names_none c.parts_are_few.ensures c.args.sou
 
 pub returns-clause-none : goal.returns-clause-none
 returns-clause-none c =
-    none_then c.tested.result (tested_none c.parts_are_few.ensures c.args.source.now c.args.indexed.now c.args.candidate.now c.requires.plannable c.in-Some.step c.in-Some.ensures.one) c.tested.ensures.none
+    IfOk-weaker c.tested.result _ _ (λ found. none_then found (tested_none c.parts_are_few.ensures c.args.source.now c.args.indexed.now c.args.candidate.now c.requires.plannable c.in-Some.step c.in-Some.ensures.one)) c.tested.ensures.none

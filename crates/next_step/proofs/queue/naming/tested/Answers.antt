@@ -1,4 +1,6 @@
-use Rattle.next_step.proofs.Words.{IsSaving, Item, List, subst, sym, true, ◌≡◌}
+use Rattle.std.proofs.Common.{◌≡◌, List, true, sym, subst}
+use Rattle.css_model.specs.declared.sheet.Item.{Item}
+use Rattle.saved_bytes.specs.Savings.{IsSaving}
 use Rattle.step_savings.specs.Apart.{StepApart}
 use Rattle.next_step.proofs.NamedSteps.{not_so_much}
 use Rattle.next_step.proofs.queue.naming.tested.Goals as goal

@@ -1,5 +1,6 @@
-use Rattle.next_step.proofs.Words.{order_keys_of, sym}
+use Rattle.std.proofs.Common.{sym}
 use Rattle.next_step.proofs.StepParts.{first_there, item_there, priority_is}
+use Rattle.indexed_sheet.specs.MarkList.{order_keys_of}
 use Rattle.next_step.proofs.queue.order.candidate_of.Goals as goal
 
 pub order_key_of-requires : goal.order_key_of-requires

@@ -1,4 +1,5 @@
-use Rattle.next_step.proofs.Words.{arith, candidate_told, ◌≡◌}
+use Rattle.std.proofs.Common.{◌≡◌, arith}
+use Rattle.step_queue.specs.Told.{candidate_told}
 use Rattle.next_step.proofs.Ranks.{ranked}
 use Rattle.next_step.proofs.queue.order.is_sooner.Goals as goal
 

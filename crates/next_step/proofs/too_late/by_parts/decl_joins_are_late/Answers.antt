@@ -1,6 +1,11 @@
-use Rattle.next_step.proofs.Words.{FoundParts, JoinDeclDown, JoinDeclUp, ap, inl, inr, order_keys_of, priority_of, refl, slice_index}
+use Rattle.std.proofs.Common.{ap, inl, inr, refl}
+use Rattle.std.specs.Prelude.{slice_index}
+use Rattle.indexed_sheet.specs.MarkList.{order_keys_of}
+use Rattle.step_laws.specs.declared.step.Step.TheVariants.{JoinDeclDown, JoinDeclUp}
+use Rattle.next_step.specs.Looking.{FoundParts}
 use Rattle.next_step.proofs.Later.{found_late}
 use Rattle.next_step.proofs.Weights.{decls_down, decls_up}
+use Rattle.plan_laws.specs.Barrier.Hindering.{priority_of}
 use Rattle.next_step.proofs.too_late.by_parts.decl_joins_are_late.Goals as goal
 
 pub returns-then-decls_fit-clause-up : goal.returns-then-decls_fit-clause-up

@@ -1,4 +1,11 @@
-use Rattle.next_step.proofs.Words.{DeclItem, Item, List, Rule, Some, max_bytes, printed_declaration, rules, slice_get, subst, weight, ◌≡◌, ◌≤◌}
+use Rattle.std.proofs.Common.{◌≡◌, ◌≤◌, List, Some, rules, subst}
+use Rattle.std.specs.Prelude.{slice_get}
+use Rattle.css_model.specs.declared.sheet.DeclItem.{DeclItem}
+use Rattle.css_model.specs.declared.sheet.Item.{Item}
+use Rattle.css_model.specs.declared.sheet.Item.TheVariants.{Rule}
+use Rattle.css_model.specs.Sheets.Limits.{max_bytes}
+use Rattle.css_model.specs.Sheets.Printed.{printed_declaration}
+use Rattle.step_laws.specs.Sizes.{weight}
 use Rattle.next_step.proofs.Weights.{light_decls}
 use Rattle.next_step.proofs.too_late.by_parts.decls_fit.Goals as goal
 

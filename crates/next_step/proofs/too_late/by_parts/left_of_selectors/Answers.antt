@@ -1,4 +1,11 @@
-use Rattle.next_step.proofs.Words.{Item, List, Rule, SelItem, Some, max_bytes, printed_selector, rules, slice_get, subst, weight, ◌≡◌, ◌≤◌}
+use Rattle.std.proofs.Common.{◌≡◌, ◌≤◌, List, Some, rules, subst}
+use Rattle.std.specs.Prelude.{slice_get}
+use Rattle.css_model.specs.declared.sheet.Item.{Item}
+use Rattle.css_model.specs.declared.sheet.Item.TheVariants.{Rule}
+use Rattle.css_model.specs.declared.sheet.SelItem.{SelItem}
+use Rattle.css_model.specs.Sheets.Limits.{max_bytes}
+use Rattle.css_model.specs.Sheets.Printed.{printed_selector}
+use Rattle.step_laws.specs.Sizes.{weight}
 use Rattle.next_step.proofs.Weights.{light_selectors}
 use Rattle.next_step.proofs.too_late.by_parts.left_of_selectors.Goals as goal
 

@@ -1,6 +1,11 @@
-use Rattle.next_step.proofs.Words.{FoundParts, JoinSelDown, JoinSelUp, ap, inl, inr, order_keys_of, priority_of, refl, slice_index}
+use Rattle.std.proofs.Common.{ap, inl, inr, refl}
+use Rattle.std.specs.Prelude.{slice_index}
+use Rattle.indexed_sheet.specs.MarkList.{order_keys_of}
+use Rattle.step_laws.specs.declared.step.Step.TheVariants.{JoinSelDown, JoinSelUp}
+use Rattle.next_step.specs.Looking.{FoundParts}
 use Rattle.next_step.proofs.Later.{found_late}
 use Rattle.next_step.proofs.Weights.{selectors_down, selectors_up}
+use Rattle.plan_laws.specs.Barrier.Hindering.{priority_of}
 use Rattle.next_step.proofs.too_late.by_parts.selector_joins_are_late.Goals as goal
 
 pub returns-then-selectors_fit-clause-up : goal.returns-then-selectors_fit-clause-up

@@ -1,5 +1,6 @@
-use Rattle.next_step.proofs.Words.{CommonWeighsAtMost, IfSome, None, Option, Some, ℕ}
-use Rattle.next_step.specs.Late.{LeavesOfSelectors}
+use Rattle.std.proofs.Common.{ℕ, Option, Some, None}
+use Rattle.std.specs.Prelude.{IfSome}
+use Rattle.next_step.specs.Late.{CommonWeighsAtMost, LeavesOfSelectors}
 use Rattle.next_step.proofs.Weights.{all_weigh, apart_weigh}
 use Rattle.next_step.proofs.too_late.by_parts.without_common.Goals as goal
 

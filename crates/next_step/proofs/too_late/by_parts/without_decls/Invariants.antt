@@ -1,5 +1,9 @@
-use Rattle.next_step.proofs.Words.{AllByRecursion, length, max_bytes, printed_declaration, weight, ◌+◌, ◌≡◌, ◌≤◌}
+use Rattle.std.proofs.Common.{◌≡◌, ◌+◌, ◌≤◌, length}
+use Rattle.std.specs.List.{AllByRecursion}
+use Rattle.css_model.specs.Sheets.Limits.{max_bytes}
+use Rattle.css_model.specs.Sheets.Printed.{printed_declaration}
 use Rattle.css_model.specs.Sheets.Sound.{IsSoundDeclaration}
+use Rattle.step_laws.specs.Sizes.{weight}
 use Rattle.next_step.proofs.too_late.by_parts.without_decls.Given as goal
 
 -- what is left of the number, and of the parts

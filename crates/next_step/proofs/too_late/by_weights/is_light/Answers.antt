@@ -1,8 +1,10 @@
-use Rattle.next_step.proofs.Words.{FoundParts, ap, priority_of, rules, true, ◌≡◌}
+use Rattle.std.proofs.Common.{◌≡◌, true, ap, rules}
 use Rattle.std.proofs.lemmas.Bool.{leb-true}
+use Rattle.next_step.specs.Looking.{FoundParts}
 use Rattle.next_step.proofs.Later.{found_late}
 use Rattle.next_step.proofs.LightRules.{light_late}
 use Rattle.next_step.proofs.too_late.by_weights.is_light.Goals as goal
+use Rattle.plan_laws.specs.Barrier.Hindering.{priority_of}
 
 pub returns-in-Some : goal.returns-in-Some
 returns-in-Some c = λ known.

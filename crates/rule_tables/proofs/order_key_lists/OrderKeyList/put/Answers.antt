@@ -1,9 +1,9 @@
-use Rattle.std.proofs.Common.{ℕ, List, [], ◌∷◌, sym, subst}
+use Rattle.std.proofs.Common.{[], ◌∷◌, sym, subst}
 use Rattle.rule_tables.specs.Entries.{Puts}
 use Rattle.rule_tables.proofs.Ascending.{puts_inserted}
+use Rattle.rule_tables.proofs.EntrySets.{then_ok}
 use Rattle.rule_tables.proofs.order_key_lists.OrderKeyList.put.Goals as goal
 
-pub returns-in_ok-insert-in-Err-clause-ok : goal.returns-in_ok-insert-in-Err-clause-ok
-returns-in_ok-insert-in-Err-clause-ok c =
-    subst (λ (old : List ℕ). Puts old (c.args.order_key ∷ []) c.insert.new.self.items) c.self.view_is
-    (subst (Puts c.self.inside.order_keys.items (c.args.order_key ∷ [])) (sym c.in_ok-insert-in-Err.ensures.ok) (puts_inserted c.self.inside.order_keys.items c.args.order_key c.in-Err.place))
+pub returns-in-Err-clause-ok : goal.returns-in-Err-clause-ok
+returns-in-Err-clause-ok c =
+    then_ok c.put_at.result (λ is. subst (Puts c.args.self.now (c.args.order_key ∷ [])) (sym is) (puts_inserted c.args.self.now c.args.order_key c.in-Err.place)) c.put_at.ensures.ok

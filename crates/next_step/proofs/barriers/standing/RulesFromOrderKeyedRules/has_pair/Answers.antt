@@ -1,4 +1,5 @@
-use Rattle.next_step.proofs.Words.{arith, rules_of, sym, true≢false}
+use Rattle.std.proofs.Common.{sym, true≢false, arith}
+use Rattle.next_step.specs.Marked.{rules_of}
 use Rattle.next_step.proofs.FromOrderKey.{has_from, not_before}
 use Rattle.next_step.proofs.barriers.standing.RulesFromOrderKeyedRules.has_pair.Goals as goal
 

@@ -1,4 +1,6 @@
-use Rattle.next_step.proofs.Words.{Candidate, FoundParts, IsAmong, Keeps, inl, subst, ◌≡◌, ◌⊎◌}
+use Rattle.std.proofs.Common.{◌≡◌, ◌⊎◌, subst, inl}
+use Rattle.step_queue.specs.declared.candidate.Candidate.{Candidate}
+use Rattle.next_step.specs.Looking.{FoundParts, IsAmong, Keeps}
 use Rattle.next_step.proofs.Finding.{found_of, found_keeps, found_only, last_only, none_goes, one_goes}
 use Rattle.next_step.proofs.queue.found.Found.put.Goals as goal
 

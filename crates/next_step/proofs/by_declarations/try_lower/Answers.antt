@@ -1,0 +1,8 @@
+use Rattle.std.proofs.Common.{inr, refl}
+use Rattle.next_step.proofs.by_declarations.try_lower.Goals as goal
+
+pub is_poor-requires-clause-both : goal.is_poor-requires-clause-both
+is_poor-requires-clause-both c = inr (refl, refl)
+
+pub returns-then-is_poor-clause-covers : goal.returns-then-is_poor-clause-covers
+returns-then-is_poor-clause-covers c = c.is_poor.ensures c.if-is_poor.true
