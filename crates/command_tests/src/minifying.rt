@@ -149,6 +149,21 @@ const BOUNDED: &[Row] = &[
         ".a{top:0}.b{top:1px}.a{top:2px}",
         "items 3 3\nbytes 31 31\nsteps 0\nwork spent\n",
     ),
+    // The first step needs four answers.
+    (
+        "cssmin min --work 3 --report",
+        b"#a,#b{top:0}#c,#d{top:1px}#a,#b{top:2px}",
+        Status::Done,
+        "#a,#b{top:0}#c,#d{top:1px}#a,#b{top:2px}",
+        "items 3 3\nbytes 40 40\nsteps 0\nwork spent\n",
+    ),
+    (
+        "cssmin min --work 4 --report",
+        b"#a,#b{top:0}#c,#d{top:1px}#a,#b{top:2px}",
+        Status::Done,
+        "#a,#b{top:0;top:2px}#c,#d{top:1px}",
+        "items 3 2\nbytes 40 34\nsteps 1\nwork spent\n",
+    ),
     // Nothing is left to do.
     (
         "cssmin min --work 3 --report",

@@ -3,27 +3,26 @@
 use crate::sheets::{DOWN, UP, sheet};
 use item_masks::item_masks;
 use merge_steps::{Step, is_step};
-use obstacles::{Obstacle, Obstacles, Other, PairPlace};
+use obstacles::{Obstacle, Obstacles, Other, PairPlace, Stopped};
 use overlap::Pairs;
 use std::alloc::Global;
 use std::process::Abort;
 use step_obstacles::PairObstacles;
 
-/// What blocks a step of the sheet of a source.
+/// What blocks a step of the sheet of a source, or why it is not known.
 fn obstacle(
     rt: &impl Abort,
     alloc: Global,
     obstacles: &mut PairObstacles,
     source: &str,
     step: &Step,
-) -> Option<Obstacle> {
+    most_answers: Option<usize>,
+) -> Result<Option<Obstacle>, Stopped> {
     let sheet = sheet(rt, alloc, source.as_bytes());
     let is_step = is_step(alloc, &sheet, step).expect(rt, "memory");
     assert!(rt; is_step, "{source}");
     let masks = item_masks(alloc, &sheet.items).expect(rt, "memory");
-    obstacles
-        .obstacle(&sheet, &masks, step)
-        .expect(rt, "memory")
+    obstacles.obstacle(&sheet, &masks, step, most_answers)
 }
 
 /// The first pair of a sheet.
@@ -107,10 +106,30 @@ fn steps_are_blocked(rt: HostRuntime) {
     let alloc = rt.alloc();
     let mut obstacles = PairObstacles::new(alloc, Pairs::new(alloc, 0));
     for (source, step, want) in &ROWS {
-        let found = match obstacle(&rt, alloc, &mut obstacles, source, step) {
+        let found = obstacle(&rt, alloc, &mut obstacles, source, step, None);
+        let found = match found.expect(&rt, "memory") {
             Some(Obstacle { moved, other }) => Some((moved, other)),
             None => None,
         };
         assert!(rt; found == *want, "{source}");
     }
+}
+
+#[test]
+fn no_more_answers_are_held_than_allowed(rt: HostRuntime) {
+    let alloc = rt.alloc();
+    let mut obstacles = PairObstacles::new(alloc, Pairs::new(alloc, 0));
+    // `#a` and `#b` are compared with `#c` and `#d`
+    let source = "#a,#b{top:0}#c,#d{top:1px}#a,#b{top:2px}";
+    for most in 0..4 {
+        let found = obstacle(&rt, alloc, &mut obstacles, source, &UP, Some(most));
+        assert!(rt; found == Err(Stopped::Work));
+        assert!(rt; obstacles.held() == most);
+    }
+    let found = obstacle(&rt, alloc, &mut obstacles, source, &UP, Some(4));
+    assert!(rt; found == Ok(None));
+    assert!(rt; obstacles.held() == 4);
+    // what is held is no new answer
+    let found = obstacle(&rt, alloc, &mut obstacles, source, &UP, Some(0));
+    assert!(rt; found == Ok(None));
 }

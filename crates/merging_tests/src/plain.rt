@@ -46,7 +46,7 @@ fn is_free(
     requires plannable { (source : List ℕ) × IsPlannable source sheet.now.items }
 {
     obstacles
-        .obstacle(sheet, masks, step)
+        .obstacle(sheet, masks, step, None)
         .expect(rt, "memory")
         .is_none()
 }

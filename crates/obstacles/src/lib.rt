@@ -3,6 +3,8 @@
 
 mod obstacle;
 mod obstacles;
+mod stopped;
 
 pub use obstacle::{Obstacle, Other, PairPlace};
 pub use obstacles::Obstacles;
+pub use stopped::Stopped;

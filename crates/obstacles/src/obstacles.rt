@@ -1,7 +1,9 @@
 //! What is asked of a step while a sheet is planned.
 
-ghost use Rattle.std.specs.Prelude.{◌≡◌, ℕ, List, IfNone, IfOk, IfSome, length, map};
+ghost use Rattle.std.specs.Prelude.{◌≡◌, ℕ, List, IfErr, IfNone, IfOk, IfSome, length, map};
 ghost use Rattle.obstacles.specs.Blocking.{IsBlockedBy};
+ghost use Rattle.obstacles.specs.Bounds.{AreWithin, IsReached};
+ghost use Rattle.obstacles.specs.declared.stopped.Stopped.TheVariants.{Work};
 ghost use Rattle.item_masks.specs.Masks.{item_mask};
 ghost use Rattle.order_laws.specs.Edits.{Edit};
 ghost use Rattle.plan_laws.specs.Plannable.{IsPlannable};
@@ -9,9 +11,9 @@ ghost use Rattle.step_laws.specs.Free.{Answered, AreAmong, AreTrue, IsFree};
 ghost use Rattle.step_laws.specs.Steps.{HasStep, IsStep};
 
 use crate::obstacle::Obstacle;
+use crate::stopped::Stopped;
 use css_model::Sheet;
 use item_masks::ItemMask;
-use std::alloc::AllocError;
 use step_laws::Step;
 
 /// What blocks the steps of a sheet, by answers for pairs of selectors. The answers become more and more.
@@ -30,19 +32,25 @@ pub trait Obstacles {
     fn held(&self) -> usize
         ensures { result ≡ length (answers self.now) };
 
-    /// What blocks a step of a sheet, and `None` exactly where it is free. `masks` are those of its items. All that was
-    /// answered stays, and the budget. `AllocError` where memory runs out; all that was answered stays then too.
+    /// What blocks a step of a sheet, and `None` exactly where it is free. `masks` are those of its items. No answer is
+    /// asked for where `most_answers` are held, if there is such a bound. All that was answered stays, and the budget.
+    ///
+    /// - `Stopped::Memory` where memory runs out.
+    /// - `Stopped::Work` only where `most_answers` or more are held, and one more is needed.
     fn obstacle(
         &mut self,
         sheet: &Sheet,
         masks: &[ItemMask],
         step: &Step,
-    ) -> Result<Option<Obstacle>, AllocError>
+        most_answers: Option<usize>,
+    ) -> Result<Option<Obstacle>, Stopped>
         requires is_step { HasStep sheet.now.items step.now }
         requires masks { masks.now ≡ map item_mask sheet.now.items }
         requires plannable { (source : List ℕ) × IsPlannable source sheet.now.items }
         ensures asked { AreAmong (answers self.old) (answers self.new) }
         ensures same_budget { budget self.new ≡ budget self.old }
+        ensures within { AreWithin most_answers (length (answers self.old)) (length (answers self.new)) }
+        ensures stopped { IfErr result (λ e. e ≡ Work → IsReached most_answers (length (answers self.new))) }
         ensures free { IfOk result (λ found. IfNone found ((e : Edit) → IsStep sheet.now.items step.now e → IsFree (answers self.new) sheet.now.items e)) }
         ensures blocked { IfOk result (λ found. IfSome found (λ o. IsBlockedBy (answers self.new) sheet.now.items step.now o)) };
 }

@@ -1,5 +1,5 @@
 -- What is said of a plan that ended.
-use Rattle.std.proofs.Common.{◌≡◌, ◌⊎◌, ◌+◌, ◌<◌, ◌≤◌, ℕ, Bool, true, false, List, Option, Some, None, inl, inr, refl, sym, subst, arith}
+use Rattle.std.proofs.Common.{◌≡◌, ◌+◌, ◌≤◌, ℕ, Bool, true, false, List, Option, Some, None, inl, inr, refl, sym, subst, arith}
 use Rattle.css_model.specs.declared.sheet.Item.{Item}
 use Rattle.planner.specs.declared.merging.Merged.{Merged}
 use Rattle.planner.specs.Working.{HasEnded, IsWithin, MayEnd, MayGoOn, spent_of}

@@ -12,7 +12,7 @@ use crate::trying::try_candidate;
 use crate::working::{Next, may_end, steps_left};
 use css_model::Sheet;
 use merge_laws::read_keeps_the_limits;
-use obstacles::Obstacles;
+use obstacles::{Obstacles, Stopped};
 use pending_laws::no_candidate_is_done;
 use planner_state::Plan;
 use repeat_runs::cut_repeats;
@@ -54,8 +54,11 @@ fn next_step<O: Obstacles>(
         if may_end(obstacles, plan.indexed.sheet(), work, taken) {
             return Ok(Next::Spent);
         }
-        if let Some(step) = try_candidate(alloc, obstacles, source, plan, &candidate)? {
-            return Ok(Next::Take(step));
+        match try_candidate(alloc, obstacles, source, plan, &candidate, work, taken) {
+            Ok(Some(step)) => return Ok(Next::Take(step)),
+            Ok(None) => {}
+            Err(Stopped::Work) => return Ok(Next::Spent),
+            Err(Stopped::Memory) => return Err(AllocError),
         }
     }
     Ok(Next::Done)

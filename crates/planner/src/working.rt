@@ -1,6 +1,7 @@
 //! Whether a plan ends because its work was spent.
 
 ghost use Rattle.std.specs.Prelude.{◌≡◌, ◌+◌, ◌-◌, ◌<◌, ◌≤◌, ℕ, Some, false, length, true};
+ghost use Rattle.std.specs.Option.{option_map};
 ghost use Rattle.css_model.specs.Sheets.ComesFrom.{pair_count};
 ghost use Rattle.css_model.specs.Sheets.Limits.{max_pairs};
 ghost use Rattle.planner.specs.Working.{MayEnd, MayGoOn};
@@ -32,6 +33,16 @@ fn is_spent<O: Obstacles>(obstacles: &O, work: Option<u32>, taken: u32) -> bool
     }
 }
 
+/// Returns how many answers may be held after so many steps before the work is spent, if there is a bound.
+pub(crate) fn answers_left(work: Option<u32>, taken: u32) -> Option<usize>
+    ensures { result ≡ option_map (λ n. n - taken) work }
+{
+    match work {
+        Some(work) => Some(work.saturating_sub(taken) as usize),
+        None => None,
+    }
+}
+
 /// Returns how many steps may be taken before the first one that the bound does not allow, if there is a bound.
 pub(crate) fn steps_left<O: Obstacles>(obstacles: &O, work: Option<u32>) -> u32
     ensures bound { (n : ℕ) → work ≡ Some n → result ≡ n - length (O.answers obstacles.now) }
@@ -43,7 +54,7 @@ pub(crate) fn steps_left<O: Obstacles>(obstacles: &O, work: Option<u32>) -> u32
 }
 
 /// Returns `true` exactly if items have no more pairs of a selector and a declaration than a sheet may have that is read.
-fn has_few_pairs(items: &[Item]) -> bool
+pub(crate) fn has_few_pairs(items: &[Item]) -> bool
     ensures few { result ≡ true → pair_count items.now ≤ max_pairs }
     ensures many { result ≡ false → max_pairs < pair_count items.now }
 {

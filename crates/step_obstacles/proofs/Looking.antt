@@ -5,9 +5,9 @@ use Rattle.std.specs.List.{Contains}
 use Rattle.cascade_laws.proofs.ForCallers.{some-same}
 use Rattle.list_facts.proofs.Members.{Contains-here, Contains-there, Contains-nil, Contains-cons_cases}
 use Rattle.obstacles.specs.declared.obstacle.Obstacle.{Obstacle}
-use Rattle.overlap.specs.PairsParts.{Answered, PairsParts}
-use Rattle.sheet_order.specs.Allowing.{Stays}
+use Rattle.overlap.specs.PairsParts.{Answered}
 use Rattle.step_obstacles.specs.Among.{Among}
+use Rattle.step_obstacles.specs.Asking.{AskedParts, Stays}
 use Rattle.step_obstacles.specs.Blocked.{AllPass, IsFound, IsTold, IsToldOf}
 use Rattle.plan_laws.specs.Barrier.Hindering.{Hindrance, OfPair, OfKept}
 use Rattle.window_order.specs.declared.window.Window.{Window}
@@ -62,7 +62,7 @@ taken_all {X} (y ∷ xs) (suc i) less = ap (λ ys. y ∷ ys) (taken_all xs i (om
 
 -- ---- What is told stays
 
-pub told_stays : (old new : PairsParts) (w : Window) (by : Hindrance) → Stays old new → IsTold old.answers w by false → IsTold new.answers w by false
+pub told_stays : (old new : AskedParts) (w : Window) (by : Hindrance) → Stays old new → IsTold old.answers w by false → IsTold new.answers w by false
 told_stays old new w (OfPair p q) stays told crosses = let h = told crosses in (h.0, stays.held p.selector q.selector h.0 h.1, h.2)
 told_stays old new w (OfKept p number) stays told crosses = told crosses
 
@@ -76,7 +76,7 @@ module _ {X : Type 0} (w : Window) (xs : List X) (Of : X → Hindrance → Type 
       none [] = refl
       none (y ∷ ys) = refl
 
-  pub one_more : (old new : PairsParts) (i : ℕ) → Stays old new → AllPass old.answers w (Among (take i xs) Of) →
+  pub one_more : (old new : AskedParts) (i : ℕ) → Stays old new → AllPass old.answers w (Among (take i xs) Of) →
       ((x : X) → slice_get xs i ≡ Some x → AllPass new.answers w (Of x)) → AllPass new.answers w (Among (take (i + 1) xs) Of)
   one_more old new i stays pass next by (x, inside, of) = which (taken_more xs i x inside)
     where
@@ -94,7 +94,7 @@ module _ {X : Type 0} (w : Window) (xs : List X) (Of : X → Hindrance → Type 
       record { by = f.by; of = (at.0, at.2, f.of); names = f.names; told = f.told }
 
   -- by what is found of the next one
-  pub one_more_none : (old new : PairsParts) (i : ℕ) (found : Option Obstacle) → found ≡ None → Stays old new → AllPass old.answers w (Among (take i xs) Of) →
+  pub one_more_none : (old new : AskedParts) (i : ℕ) (found : Option Obstacle) → found ≡ None → Stays old new → AllPass old.answers w (Among (take i xs) Of) →
       ((x : X) → slice_get xs i ≡ Some x → IsToldOf new.answers w (Of x) found) → AllPass new.answers w (Among (take (i + 1) xs) Of)
   one_more_none old new i found e stays pass next = one_more old new i stays pass (λ x at. subst (λ (f : Option Obstacle). IsToldOf new.answers w (Of x) f) e (next x at))
 
@@ -102,7 +102,7 @@ module _ {X : Type 0} (w : Window) (xs : List X) (Of : X → Hindrance → Type 
   found_some answers i found o e less next = found_here answers i o less (λ x at. subst (λ (f : Option Obstacle). IsToldOf answers w (Of x) f) e (next x at))
 
   -- the same of the one that a loop has at hand
-  pub one_more_got : (old new : PairsParts) (i : ℕ) (d : X) (found : Option Obstacle) → found ≡ None → i < length xs → Stays old new → AllPass old.answers w (Among (take i xs) Of) →
+  pub one_more_got : (old new : AskedParts) (i : ℕ) (d : X) (found : Option Obstacle) → found ≡ None → i < length xs → Stays old new → AllPass old.answers w (Among (take i xs) Of) →
       IsToldOf new.answers w (Of (get_or xs i d)) found → AllPass new.answers w (Among (take (i + 1) xs) Of)
   one_more_got old new i d found e less stays pass told =
       one_more_none old new i found e stays pass (λ x at. subst (λ (y : X). IsToldOf new.answers w (Of y) found) (some-same (sym (get_at xs i d less) ∙ at)) told)

@@ -2,9 +2,9 @@
 use Rattle.std.proofs.Common.{◌≡◌, ◌⊎◌, ℕ, zero, suc, ◌+◌, ◌-◌, ◌<◌, ◌≤◌, Bool, true, false, List, Some, None, refl, sym, subst, inl, inr, arith}
 use Rattle.std.specs.Prelude.{Option}
 use Rattle.obstacles.specs.declared.obstacle.Obstacle.{Obstacle}
-use Rattle.overlap.specs.PairsParts.{Answered, PairsParts}
-use Rattle.sheet_order.specs.Allowing.{Stays}
+use Rattle.overlap.specs.PairsParts.{Answered}
 use Rattle.step_obstacles.proofs.Looking.{told_stays}
+use Rattle.step_obstacles.specs.Asking.{AskedParts, Stays}
 use Rattle.step_obstacles.specs.Blocked.{AllPass, IsFound, IsTold, IsToldOf}
 use Rattle.step_obstacles.specs.declared.facing.Source.{Source}
 use Rattle.step_obstacles.specs.declared.window_search.Span.{Span}
@@ -37,7 +37,7 @@ turn_within w s upwards turn number within is less =
     (omega (arith, low, above, is), omega (arith, high, below, is))
 
 module _ (w : Window) (s : Span) (sources : List Source) (upwards : Bool) where
-  pub turn_more : (old new : PairsParts) (turn number : ℕ) (found : Option Obstacle) → found ≡ None → number ≡ number_of s upwards turn → Stays old new → AllPass old.answers w (OfTurns w s upwards turn sources) →
+  pub turn_more : (old new : AskedParts) (turn number : ℕ) (found : Option Obstacle) → found ≡ None → number ≡ number_of s upwards turn → Stays old new → AllPass old.answers w (OfTurns w s upwards turn sources) →
       IsToldOf new.answers w (OfNumber w.items.now sources number) found → AllPass new.answers w (OfTurns w s upwards (turn + 1) sources)
   turn_more old new turn number found e is stays pass told by (n, less, of) = which (less_or_same n turn less)
     where

@@ -1,5 +1,6 @@
 pub mod Known
 pub mod Among
+pub mod Asking
 pub mod Blocked
 pub mod Hinted
 pub mod Spans

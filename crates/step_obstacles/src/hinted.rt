@@ -3,23 +3,22 @@
 ghost use Rattle.std.specs.Prelude.{◌≡◌, ◌≤◌, ◌∷◌, [], true, IfOk, IfSome, IsTrue, Some, slice_get};
 ghost use Rattle.css_model.specs.Documents.Specificity.{specificity_of};
 ghost use Rattle.css_model.specs.Selectors.Profile.{IsInProfile};
-ghost use Rattle.sheet_order.specs.Allowing.{Stays};
+ghost use Rattle.step_obstacles.specs.Asking.{Stays};
 ghost use Rattle.step_obstacles.specs.Blocked.{IsFound};
 ghost use Rattle.step_obstacles.specs.declared.facing.Facing.TheVariants as variants;
 ghost use Rattle.step_obstacles.specs.Hinted.{FacesWithin, IsDeclOf};
 ghost use Rattle.step_obstacles.specs.Turns as turns;
 
 use crate::answering::blocks;
+use crate::bounded_pairs::BoundedPairs;
 use crate::decl_masks::is_common;
 use crate::facing::{DeclAt, Facing, Source};
 use crate::hints::{Hint, places_by};
 use crate::searching::named;
 use crate::specificities::specificity_in_profile;
 use css_model::{DeclItem, Item, Rule, SelItem};
-use obstacles::{Obstacle, Other, PairPlace};
-use overlap::Pairs;
+use obstacles::{Obstacle, Other, PairPlace, Stopped};
 use related_props::decl_mask;
-use std::alloc::AllocError;
 use window_order::{Window, decls_weigh, pair_of, unknown_pair, weighs_kept};
 
 /// The rule of this number, if there is one.
@@ -185,13 +184,13 @@ fn faced<'a>(window: &Window<'a>, moved: &DeclAt<'_>, other: &Other) -> Option<F
 /// What blocks of a selector of the declaration's rule with what it faces.
 #[tactic(auto, using(crate::proofs::Hinting::unasked, crate::proofs::Hinting::unasked_pair, crate::proofs::HeldAnswers::stays_itself))]
 fn with_facing(
-    pairs: &mut Pairs,
+    pairs: &mut BoundedPairs,
     window: &Window<'_>,
     moved: &DeclAt<'_>,
     selector: &SelItem,
     number: u32,
     facing: &Facing<'_>,
-) -> Result<Option<Obstacle>, AllocError>
+) -> Result<Option<Obstacle>, Stopped>
     requires askable { turns.IsAskable window.now.items.now }
     requires moved { turns.IsDeclAt window.now.items.now moved.now }
     requires faces { turns.Faces window.now moved.now.decl.now facing.now }
@@ -216,13 +215,13 @@ fn with_facing(
 /// What blocks of a moved declaration and the selector of this number with what is at a place.
 #[tactic(auto, using(crate::proofs::Hinting::decl_stands, crate::proofs::HeldAnswers::stays_itself))]
 fn with_other(
-    pairs: &mut Pairs,
+    pairs: &mut BoundedPairs,
     window: &Window<'_>,
     source: &Source<'_>,
     moved: &DeclAt<'_>,
     number: u32,
     other: &Other,
-) -> Result<Option<Obstacle>, AllocError>
+) -> Result<Option<Obstacle>, Stopped>
     requires askable { turns.IsAskable window.now.items.now }
     requires source { turns.IsRuleAt window.now.items.now source.now.item source.now.rule.now }
     requires moved { IsDeclOf source.now.rule.now source.now.item moved.now.number moved.now }
@@ -244,13 +243,13 @@ fn with_other(
 /// counts.
 #[tactic(auto, using(crate::proofs::HeldAnswers::stays_itself))]
 fn by_decl(
-    pairs: &mut Pairs,
+    pairs: &mut BoundedPairs,
     window: &Window<'_>,
     source: &Source<'_>,
     moved: &DeclAt<'_>,
     number: u32,
     other: &Other,
-) -> Result<Option<Obstacle>, AllocError>
+) -> Result<Option<Obstacle>, Stopped>
     requires askable { turns.IsAskable window.now.items.now }
     requires source { turns.IsRuleAt window.now.items.now source.now.item source.now.rule.now }
     requires moved { IsDeclOf source.now.rule.now source.now.item moved.now.number moved.now }
@@ -267,11 +266,11 @@ fn by_decl(
 /// What blocks of a rule's pair at a place with what is at another place.
 #[tactic(auto, using(crate::proofs::HeldAnswers::stays_itself))]
 fn by_places(
-    pairs: &mut Pairs,
+    pairs: &mut BoundedPairs,
     window: &Window<'_>,
     source: &Source<'_>,
     places: &Obstacle,
-) -> Result<Option<Obstacle>, AllocError>
+) -> Result<Option<Obstacle>, Stopped>
     requires askable { turns.IsAskable window.now.items.now }
     requires source { turns.IsRuleAt window.now.items.now source.now.item source.now.rule.now }
     ensures stays { Stays pairs.old pairs.new }
@@ -293,11 +292,11 @@ fn by_places(
 /// What blocks of a rule with what blocked it before, if that is known, at its place now.
 #[tactic(auto, using(crate::proofs::HeldAnswers::stays_itself))]
 pub(crate) fn by_hint(
-    pairs: &mut Pairs,
+    pairs: &mut BoundedPairs,
     window: &Window<'_>,
     source: &Source<'_>,
     hint: Option<Hint>,
-) -> Result<Option<Obstacle>, AllocError>
+) -> Result<Option<Obstacle>, Stopped>
     requires askable { turns.IsAskable window.now.items.now }
     requires source { turns.IsRuleAt window.now.items.now source.now.item source.now.rule.now }
     ensures stays { Stays pairs.old pairs.new }

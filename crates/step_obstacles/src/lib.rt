@@ -3,6 +3,7 @@
 
 mod answering;
 mod behind;
+mod bounded_pairs;
 mod decl_masks;
 mod facing;
 mod held;

@@ -2,14 +2,15 @@
 
 ghost use Rattle.std.specs.Prelude.{◌≡◌};
 
-use crate::held::{answers_are_true, count_answers};
+use crate::bounded_pairs::BoundedPairs;
+use crate::held::{answers_are_true, count_answers, reason};
 use crate::hints::{Hints, no_hints};
 use crate::step_search::step_obstacle;
 use css_model::Sheet;
 use item_masks::ItemMask;
-use obstacles::{Obstacle, Obstacles};
+use obstacles::{Obstacle, Obstacles, Stopped};
 use overlap::Pairs;
-use std::alloc::{AllocError, Global};
+use std::alloc::Global;
 use std::marker::Model;
 use step_laws::Step;
 
@@ -18,7 +19,7 @@ use step_laws::Step;
 #[derive(Debug, Drop)]
 pub struct PairObstacles {
     alloc: Global,
-    pairs: Pairs,
+    bounded: BoundedPairs,
     hints: Hints,
 }
 
@@ -27,7 +28,7 @@ impl Model for PairObstacles {
 
     ghost Value = { PairsParts };
 
-    ghost view = { λ obstacles. obstacles.pairs };
+    ghost view = { λ obstacles. record { budget = obstacles.bounded.budget; answers = obstacles.bounded.answers } };
 }
 
 impl PairObstacles {
@@ -37,7 +38,7 @@ impl PairObstacles {
     {
         PairObstacles {
             alloc,
-            pairs,
+            bounded: BoundedPairs { pairs, most: None },
             hints: no_hints(alloc),
         }
     }
@@ -46,7 +47,7 @@ impl PairObstacles {
     pub fn into_pairs(self) -> Pairs
         ensures { result ≡ self }
     {
-        self.pairs
+        self.bounded.pairs
     }
 }
 
@@ -59,11 +60,11 @@ impl Obstacles for PairObstacles {
     ghost budget = { λ obstacles. obstacles.budget };
 
     fn answers_are_true(&self) {
-        answers_are_true(&self.pairs);
+        answers_are_true(&self.bounded.pairs);
     }
 
     fn held(&self) -> usize {
-        count_answers(&self.pairs)
+        count_answers(&self.bounded.pairs)
     }
 
     fn obstacle(
@@ -71,14 +72,19 @@ impl Obstacles for PairObstacles {
         sheet: &Sheet,
         masks: &[ItemMask],
         step: &Step,
-    ) -> Result<Option<Obstacle>, AllocError> {
-        step_obstacle(
+        most_answers: Option<usize>,
+    ) -> Result<Option<Obstacle>, Stopped> {
+        self.bounded.most = most_answers;
+        match step_obstacle(
             self.alloc,
-            &mut self.pairs,
+            &mut self.bounded,
             &mut self.hints,
             sheet,
             masks,
             step,
-        )
+        ) {
+            Ok(found) => Ok(found),
+            Err(stopped) => Err(reason(&self.bounded, stopped)),
+        }
     }
 }

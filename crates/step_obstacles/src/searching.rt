@@ -4,7 +4,7 @@ ghost use Rattle.std.specs.Prelude.{◌≡◌, ◌≢◌, ◌↔◌, ℕ, IfOk, 
 ghost use Rattle.css_model.specs.declared.sheet.DeclItem as declared_decl;
 ghost use Rattle.css_model.specs.declared.sheet.SelItem as declared_selector;
 ghost use Rattle.related_props.specs.Masks.{decl_mask, item_mask};
-ghost use Rattle.sheet_order.specs.Allowing.{Stays};
+ghost use Rattle.step_obstacles.specs.Asking.{Stays};
 ghost use Rattle.step_obstacles.specs.Blocked.{IsToldOf};
 ghost use Rattle.step_obstacles.specs.Among.{Among};
 ghost use Rattle.step_obstacles.specs.Known.{FacedStands, IsKnown, IsNoted};
@@ -13,6 +13,7 @@ ghost use Rattle.plan_laws.specs.Barrier.Hindering.{OfPair};
 ghost use Rattle.window_order.specs.Weighing.{DeclsWeigh};
 
 use crate::answering::blocks;
+use crate::bounded_pairs::BoundedPairs;
 use crate::decl_masks::{mask_at, masks_in};
 use crate::facing::{DeclAt, Facing, Met, MetRule, MovedDecl, Source};
 use crate::known::{Known, note, noted};
@@ -21,8 +22,7 @@ use crate::selector_masks::selector_mask;
 use crate::specificities::{is_among, item_may_weigh, specificity_at, specificity_in_profile};
 use css_model::{Decl, Item, Rule};
 use item_masks::ItemMask;
-use obstacles::{Obstacle, PairPlace};
-use overlap::Pairs;
+use obstacles::{Obstacle, PairPlace, Stopped};
 use related_props::{related, related_is_reflexive};
 use rule_parts::is_same_decl;
 use std::alloc::{AllocError, Global};
@@ -85,14 +85,14 @@ fn noted_selector(known: &Known, window: &Window<'_>, moved: &DeclAt<'_>, number
 /// What blocks of the selector of this number. It is passed over where its specificity is not that of what it faces.
 fn of_selector(
     alloc: Global,
-    pairs: &mut Pairs,
+    pairs: &mut BoundedPairs,
     known: &mut Known,
     window: &Window<'_>,
     moved: &MovedDecl<'_>,
     facing: &Facing<'_>,
     of_facing: &mut KnownPair,
     number: u32,
-) -> Result<Option<Obstacle>, AllocError>
+) -> Result<Option<Obstacle>, Stopped>
     requires askable { turns.IsAskable window.now.items.now }
     requires moved { turns.IsMovedDecl window.now.items.now moved.now }
     requires faces { turns.Faces window.now moved.now.at.decl.now facing.now }
@@ -129,13 +129,13 @@ fn of_selector(
 /// What blocks of all selectors of the declaration's rule.
 fn of_selectors(
     alloc: Global,
-    pairs: &mut Pairs,
+    pairs: &mut BoundedPairs,
     known: &mut Known,
     window: &Window<'_>,
     moved: &MovedDecl<'_>,
     facing: &Facing<'_>,
     of_facing: &mut KnownPair,
-) -> Result<Option<Obstacle>, AllocError>
+) -> Result<Option<Obstacle>, Stopped>
     requires askable { turns.IsAskable window.now.items.now }
     requires moved { turns.IsMovedDecl window.now.items.now moved.now }
     requires faces { turns.Faces window.now moved.now.at.decl.now facing.now }
@@ -162,13 +162,13 @@ fn of_selectors(
 /// selector of the moved rule has its specificity.
 fn with_selector(
     alloc: Global,
-    pairs: &mut Pairs,
+    pairs: &mut BoundedPairs,
     known: &mut Known,
     window: &Window<'_>,
     moved: &MovedDecl<'_>,
     other: &DeclAt<'_>,
     number: u32,
-) -> Result<Option<Obstacle>, AllocError>
+) -> Result<Option<Obstacle>, Stopped>
     requires askable { turns.IsAskable window.now.items.now }
     requires moved { turns.IsMovedDecl window.now.items.now moved.now }
     requires other { turns.IsDeclAt window.now.items.now other.now }
@@ -209,12 +209,12 @@ fn with_selector(
 /// What blocks with the pairs of another declaration, which weighs.
 fn with_decl(
     alloc: Global,
-    pairs: &mut Pairs,
+    pairs: &mut BoundedPairs,
     known: &mut Known,
     window: &Window<'_>,
     moved: &MovedDecl<'_>,
     other: &DeclAt<'_>,
-) -> Result<Option<Obstacle>, AllocError>
+) -> Result<Option<Obstacle>, Stopped>
     requires askable { turns.IsAskable window.now.items.now }
     requires moved { turns.IsMovedDecl window.now.items.now moved.now }
     requires other { turns.IsDeclAt window.now.items.now other.now }
@@ -272,12 +272,12 @@ fn weigh(moved: &DeclAt<'_>, other: &DeclAt<'_>) -> bool
 /// What blocks with the pairs of another declaration, if it weighs.
 fn with_other(
     alloc: Global,
-    pairs: &mut Pairs,
+    pairs: &mut BoundedPairs,
     known: &mut Known,
     window: &Window<'_>,
     moved: &MovedDecl<'_>,
     other: &DeclAt<'_>,
-) -> Result<Option<Obstacle>, AllocError>
+) -> Result<Option<Obstacle>, Stopped>
     requires askable { turns.IsAskable window.now.items.now }
     requires moved { turns.IsMovedDecl window.now.items.now moved.now }
     requires other { turns.IsDeclAt window.now.items.now other.now }
@@ -297,13 +297,13 @@ fn with_other(
 /// What blocks with the pairs of the declaration of this number of a rule.
 fn with_number(
     alloc: Global,
-    pairs: &mut Pairs,
+    pairs: &mut BoundedPairs,
     known: &mut Known,
     window: &Window<'_>,
     moved: &MovedDecl<'_>,
     met: &MetRule<'_>,
     number: u32,
-) -> Result<Option<Obstacle>, AllocError>
+) -> Result<Option<Obstacle>, Stopped>
     requires askable { turns.IsAskable window.now.items.now }
     requires moved { turns.IsMovedDecl window.now.items.now moved.now }
     requires met { turns.IsMetRule window.now.items.now met.now }
@@ -327,12 +327,12 @@ fn with_number(
 /// What blocks with the pairs of a rule.
 fn with_rule(
     alloc: Global,
-    pairs: &mut Pairs,
+    pairs: &mut BoundedPairs,
     known: &mut Known,
     window: &Window<'_>,
     moved: &MovedDecl<'_>,
     met: &MetRule<'_>,
-) -> Result<Option<Obstacle>, AllocError>
+) -> Result<Option<Obstacle>, Stopped>
     requires askable { turns.IsAskable window.now.items.now }
     requires moved { turns.IsMovedDecl window.now.items.now moved.now }
     requires met { turns.IsMetRule window.now.items.now met.now }
@@ -354,13 +354,13 @@ fn with_rule(
 /// What blocks with a kept item, if it weighs.
 fn with_kept(
     alloc: Global,
-    pairs: &mut Pairs,
+    pairs: &mut BoundedPairs,
     known: &mut Known,
     window: &Window<'_>,
     moved: &MovedDecl<'_>,
     item: &Item,
     number: u32,
-) -> Result<Option<Obstacle>, AllocError>
+) -> Result<Option<Obstacle>, Stopped>
     requires askable { turns.IsAskable window.now.items.now }
     requires moved { turns.IsMovedDecl window.now.items.now moved.now }
     requires item { turns.IsKeptHere window.now number item.now }
@@ -388,12 +388,12 @@ fn with_kept(
 /// What blocks with an item.
 fn with_item(
     alloc: Global,
-    pairs: &mut Pairs,
+    pairs: &mut BoundedPairs,
     known: &mut Known,
     window: &Window<'_>,
     moved: &MovedDecl<'_>,
     met: &Met<'_>,
-) -> Result<Option<Obstacle>, AllocError>
+) -> Result<Option<Obstacle>, Stopped>
     requires askable { turns.IsAskable window.now.items.now }
     requires moved { turns.IsMovedDecl window.now.items.now moved.now }
     requires met { turns.IsMet window.now met.now }
@@ -431,13 +431,13 @@ fn own_mask(source: &Source<'_>, part: u32) -> u64
 #[tactic(auto, using(crate::proofs::Masked::decl_passed, crate::proofs::HeldAnswers::stays_itself))]
 fn of_decl(
     alloc: Global,
-    pairs: &mut Pairs,
+    pairs: &mut BoundedPairs,
     known: &mut Known,
     window: &Window<'_>,
     source: &Source<'_>,
     met: &Met<'_>,
     part: u32,
-) -> Result<Option<Obstacle>, AllocError>
+) -> Result<Option<Obstacle>, Stopped>
     requires askable { turns.IsAskable window.now.items.now }
     requires source { turns.IsRuleAt window.now.items.now source.now.item source.now.rule.now }
     requires masked { turns.IsMasked source.now }
@@ -471,12 +471,12 @@ fn of_decl(
 /// What blocks of each declaration of a rule with an item.
 fn of_each(
     alloc: Global,
-    pairs: &mut Pairs,
+    pairs: &mut BoundedPairs,
     known: &mut Known,
     window: &Window<'_>,
     source: &Source<'_>,
     met: &Met<'_>,
-) -> Result<Option<Obstacle>, AllocError>
+) -> Result<Option<Obstacle>, Stopped>
     requires askable { turns.IsAskable window.now.items.now }
     requires source { turns.IsRuleAt window.now.items.now source.now.item source.now.rule.now }
     requires masked { turns.IsMasked source.now }
@@ -500,14 +500,14 @@ fn of_each(
 #[tactic(auto, using(crate::proofs::HeldAnswers::stays_itself))]
 pub(crate) fn of_source(
     alloc: Global,
-    pairs: &mut Pairs,
+    pairs: &mut BoundedPairs,
     known: &mut Known,
     window: &Window<'_>,
     source: &Source<'_>,
     item: &Item,
     number: u32,
     mask: u64,
-) -> Result<Option<Obstacle>, AllocError>
+) -> Result<Option<Obstacle>, Stopped>
     requires askable { turns.IsAskable window.now.items.now }
     requires source { turns.IsRuleAt window.now.items.now source.now.item source.now.rule.now }
     requires masked { turns.IsMasked source.now }

@@ -7,7 +7,7 @@ ghost use Rattle.item_masks.specs.declared.mask.ItemMask as declared;
 ghost use Rattle.item_masks.specs.Masks.{item_mask};
 ghost use Rattle.obstacles.specs.Blocking.{IsBlockedBy};
 ghost use Rattle.order_laws.specs.Edits.{Edit};
-ghost use Rattle.sheet_order.specs.Allowing.{Stays};
+ghost use Rattle.step_obstacles.specs.Asking.{Stays};
 ghost use Rattle.sheet_order.specs.Laws.{answer_seen};
 ghost use Rattle.sheet_order.specs.declared.places.Moved.TheVariants as moved;
 ghost use Rattle.sheet_order.specs.Narrow.{CanBePlanned};
@@ -22,6 +22,7 @@ ghost use Rattle.plan_laws.specs.Window.Beside as beside;
 ghost use Rattle.plan_laws.specs.Window.StepWindows as windows;
 
 use crate::behind::{rule_is_behind, takes_rule};
+use crate::bounded_pairs::BoundedPairs;
 use crate::decl_masks::{bits_of, masks_of};
 use crate::facing::Source;
 use crate::hinted::by_hint;
@@ -32,8 +33,7 @@ use crate::specificities::specificities_of;
 use crate::window_search::{Span, in_window};
 use css_model::{Rule, Sheet};
 use item_masks::ItemMask;
-use obstacles::Obstacle;
-use overlap::Pairs;
+use obstacles::{Obstacle, Stopped};
 use plan_laws::{reversed_stand_beside, steps_have_windows, windows_tell_kept, windows_tell_pairs};
 use print_laws::selectors_are_in_the_profile;
 use sheet_order::Moved;
@@ -198,13 +198,13 @@ fn is_from_below(way: Move) -> bool {
 #[tactic(auto, using(crate::proofs::Sources::told_whole))]
 fn by_whole(
     alloc: Global,
-    pairs: &mut Pairs,
+    pairs: &mut BoundedPairs,
     window: &Window<'_>,
     span: Span,
     sheet: &Sheet,
     item: u32,
     upwards: bool,
-) -> Result<Option<Obstacle>, AllocError>
+) -> Result<Option<Obstacle>, Stopped>
     requires askable { turns.IsAskable sheet.now.items }
     requires items { window.now.items.now ≡ sheet.now.items }
     requires within { IsWithin window.now span }
@@ -223,14 +223,14 @@ fn by_whole(
 /// What blocks of the common pairs of the rules of these numbers.
 fn by_common(
     alloc: Global,
-    pairs: &mut Pairs,
+    pairs: &mut BoundedPairs,
     window: &Window<'_>,
     span: Span,
     sheet: &Sheet,
     upper: u32,
     lower: u32,
     upwards: bool,
-) -> Result<Option<Obstacle>, AllocError>
+) -> Result<Option<Obstacle>, Stopped>
     requires askable { turns.IsAskable sheet.now.items }
     requires items { window.now.items.now ≡ sheet.now.items }
     requires within { IsWithin window.now span }
@@ -248,13 +248,13 @@ fn by_common(
 /// What blocks of the pairs that are moved, looked for among the items of the window.
 fn by_search(
     alloc: Global,
-    pairs: &mut Pairs,
+    pairs: &mut BoundedPairs,
     window: &Window<'_>,
     span: Span,
     sheet: &Sheet,
     moved: &Moved,
     upwards: bool,
-) -> Result<Option<Obstacle>, AllocError>
+) -> Result<Option<Obstacle>, Stopped>
     requires askable { turns.IsAskable sheet.now.items }
     requires items { window.now.items.now ≡ sheet.now.items }
     requires within { IsWithin window.now span }
@@ -304,14 +304,14 @@ fn first_moved<'a>(alloc: Global, sheet: &'a Sheet, moved: &Moved) -> Source<'a>
 #[tactic(auto, using(crate::proofs::HeldAnswers::stays_on, crate::proofs::Hinting::first_there, crate::proofs::Hinting::told_first))]
 fn by_moved(
     alloc: Global,
-    pairs: &mut Pairs,
+    pairs: &mut BoundedPairs,
     hints: &mut Hints,
     window: &Window<'_>,
     span: Span,
     sheet: &Sheet,
     moved: &Moved,
     way: Move,
-) -> Result<Option<Obstacle>, AllocError>
+) -> Result<Option<Obstacle>, Stopped>
     requires askable { turns.IsAskable sheet.now.items }
     requires items { window.now.items.now ≡ sheet.now.items }
     requires within { IsWithin window.now span }
@@ -340,12 +340,12 @@ fn by_moved(
 ///   copied.
 pub(crate) fn step_obstacle(
     alloc: Global,
-    pairs: &mut Pairs,
+    pairs: &mut BoundedPairs,
     hints: &mut Hints,
     sheet: &Sheet,
     masks: &[ItemMask],
     step: &Step,
-) -> Result<Option<Obstacle>, AllocError>
+) -> Result<Option<Obstacle>, Stopped>
     requires is_step { HasStep sheet.now.items step.now }
     requires masks { masks.now ≡ map item_mask sheet.now.items }
     requires planned { CanBePlanned sheet.now.items }

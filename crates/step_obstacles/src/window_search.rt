@@ -3,32 +3,32 @@
 ghost use Rattle.std.specs.Prelude.{◌≡◌, ◌≤◌, ◌<◌, ◌+◌, ◌-◌, IfOk, Some, length, slice_get};
 ghost use Rattle.css_model.specs.declared.sheet.Item as declared;
 ghost use Rattle.related_props.specs.Masks.{item_mask};
-ghost use Rattle.sheet_order.specs.Allowing.{Stays};
+ghost use Rattle.step_obstacles.specs.Asking.{Stays};
 ghost use Rattle.step_obstacles.specs.Blocked.{IsToldOf};
 ghost use Rattle.step_obstacles.specs.Known.{IsKnown};
 ghost use Rattle.step_obstacles.specs.Spans.{IsEnough, IsWithin};
 ghost use Rattle.step_obstacles.specs.Turns as turns;
 
+use crate::bounded_pairs::BoundedPairs;
 use crate::facing::Source;
 use crate::known::{Known, nothing_known};
 use crate::searching::of_source;
 use css_model::Item;
-use obstacles::Obstacle;
-use overlap::Pairs;
-use std::alloc::{AllocError, Global};
+use obstacles::{Obstacle, Stopped};
+use std::alloc::Global;
 use window_order::Window;
 
 /// What blocks of some rules with an item of this mask.
 fn of_sources(
     alloc: Global,
-    pairs: &mut Pairs,
+    pairs: &mut BoundedPairs,
     known: &mut Known,
     window: &Window<'_>,
     sources: &[Source<'_>],
     item: &Item,
     number: u32,
     mask: u64,
-) -> Result<Option<Obstacle>, AllocError>
+) -> Result<Option<Obstacle>, Stopped>
     requires askable { turns.IsAskable window.now.items.now }
     requires sources { turns.AreSources window.now.items.now sources.now }
     requires masked { turns.AreMasked sources.now }
@@ -59,12 +59,12 @@ fn mask_of(window: &Window<'_>, number: usize) -> u64
 /// What blocks of some rules with the item of this number.
 fn of_number(
     alloc: Global,
-    pairs: &mut Pairs,
+    pairs: &mut BoundedPairs,
     known: &mut Known,
     window: &Window<'_>,
     sources: &[Source<'_>],
     number: usize,
-) -> Result<Option<Obstacle>, AllocError>
+) -> Result<Option<Obstacle>, Stopped>
     requires askable { turns.IsAskable window.now.items.now }
     requires sources { turns.AreSources window.now.items.now sources.now }
     requires masked { turns.AreMasked sources.now }
@@ -122,12 +122,12 @@ fn number_of(span: Span, upwards: bool, turn: usize) -> usize
 /// enough.
 pub(crate) fn in_window(
     alloc: Global,
-    pairs: &mut Pairs,
+    pairs: &mut BoundedPairs,
     window: &Window<'_>,
     span: Span,
     sources: &[Source<'_>],
     upwards: bool,
-) -> Result<Option<Obstacle>, AllocError>
+) -> Result<Option<Obstacle>, Stopped>
     requires askable { turns.IsAskable window.now.items.now }
     requires within { IsWithin window.now span }
     requires enough { IsEnough window.now span sources.now }

@@ -1,5 +1,5 @@
 use Rattle.std.proofs.Common.{take}
-use Rattle.sheet_order.specs.Allowing.{Stays}
+use Rattle.step_obstacles.specs.Asking.{Stays}
 use Rattle.step_obstacles.proofs.searching.with_rule.Given as goal
 use Rattle.step_obstacles.specs.Among.{Among}
 use Rattle.step_obstacles.specs.Blocked.{AllPass}

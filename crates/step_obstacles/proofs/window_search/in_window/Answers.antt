@@ -3,6 +3,9 @@ use Rattle.step_obstacles.proofs.HeldAnswers.{stays_on}
 use Rattle.step_obstacles.proofs.Turning.{turn_found, turn_more, turns_done}
 use Rattle.step_obstacles.proofs.window_search.in_window.Goals as goal
 
+pub returns-in_err-found-clause-stays : goal.returns-in_err-found-clause-stays
+returns-in_err-found-clause-stays c = stays_on c.args.pairs.now c.loop-turn.pairs c.of_number.new.pairs c.loop-turn.invariant.stays c.of_number.ensures.stays
+
 pub returns-in-Some-clause-stays : goal.returns-in-Some-clause-stays
 returns-in-Some-clause-stays c = stays_on c.args.pairs.now c.loop-turn.pairs c.of_number.new.pairs c.loop-turn.invariant.stays c.of_number.ensures.stays
 

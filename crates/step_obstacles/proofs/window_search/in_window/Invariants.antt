@@ -1,4 +1,4 @@
-use Rattle.sheet_order.specs.Allowing.{Stays}
+use Rattle.step_obstacles.specs.Asking.{Stays}
 use Rattle.step_obstacles.proofs.window_search.in_window.Given as goal
 use Rattle.step_obstacles.specs.Blocked.{AllPass}
 use Rattle.step_obstacles.specs.Known.{IsKnown}

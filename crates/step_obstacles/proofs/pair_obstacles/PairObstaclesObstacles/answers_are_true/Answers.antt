@@ -6,5 +6,5 @@ use Rattle.step_obstacles.proofs.pair_obstacles.PairObstaclesObstacles.answers_a
 
 pub returns : goal.returns
 returns c =
-    let view : c.args.self.now.answers ≡ c.self.inside.pairs.answers = search rules in
+    let view : c.args.self.now.answers ≡ c.self-inside.inside.0.1.0.pairs.answers = search rules in
     subst (λ (answers : List Answered). steps.AreTrue (map answer_seen answers)) (sym view) c.answers_are_true.ensures

@@ -7,6 +7,6 @@ use Rattle.step_obstacles.proofs.pair_obstacles.PairObstaclesObstacles.obstacle.
 
 pub returns-clause-asked : goal.returns-clause-asked
 returns-clause-asked c =
-    let view : c.args.self.now.answers ≡ c.self.inside.pairs.answers = search rules in
+    let view : c.args.self.now.answers ≡ c.self-inside.inside.0.1.0.pairs.answers = search rules in
     subst (λ (answers : List Answered). steps.AreAmong (map answer_seen answers) (map answer_seen c.step_obstacle.new.pairs.answers)) (sym view)
-    (stays_among c.self.inside.pairs c.step_obstacle.new.pairs c.step_obstacle.ensures.stays)
+    (stays_among _ c.step_obstacle.new.pairs c.step_obstacle.ensures.stays)
