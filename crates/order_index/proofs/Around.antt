@@ -33,7 +33,7 @@ abbrev item_of : PlacedPair → ℕ
 item_of q = q.place.item
 
 -- a pair that stands last somewhere stands there
-member_at : {X : Type 0} (xs : List X) (i : ℕ) (x : X) → slice_get xs i ≡ Some x → Contains xs x
+pub member_at : {X : Type 0} (xs : List X) (i : ℕ) (x : X) → slice_get xs i ≡ Some x → Contains xs x
 member_at xs i x at = (i, slice_get_within xs i x at, get_or_from_slice_get xs i x x at)
 
 pub last_at : (items : List Item) (q : PlacedPair) → StandsLast (λ n. true) items q → IsPairAt items q.pair (place_of q.place)
@@ -43,14 +43,14 @@ pub listed_stands : ListedStandsLast → (items : List Item) (q : PlacedPair) �
 listed_stands law items q h = (place_of q.place, last_at items q ((law (λ n. true) items q).0 h))
 
 -- the last pairs of a sheet are listed
-are_listed : ListedStandsLast → ReadSelectorsKeepTheLimits → (items : List Item) → CanBePlanned items → AllByRecursion (IsListed items) (last_pairs items)
+pub are_listed : ListedStandsLast → ReadSelectorsKeepTheLimits → (items : List Item) → CanBePlanned items → AllByRecursion (IsListed items) (last_pairs items)
 are_listed law limits items planned =
     all_members (IsListed items) (last_pairs items) (λ q h.
     record { limited = member (λ x. KeepsLimits x.pair.selector) (last_pairs items) q (last_limited law (λ n. true) items (planned_limited limits items planned)) h; stands = listed_stands law items q h })
 
 module _ (law : ListedStandsLast) (have : StepsHaveWindows) (tell : WindowsTellPairs) (weighing : WeighingIsDecided) (order : OrderIsDecided) (items : List Item) (k : Step) (is : IsStep items k (edit_at items k)) where
   -- what a step reverses stands last in its window
-  not_above : (p : Pair) (q : PlacedPair) → moves items k p ≡ true → Contains (last_pairs items) q → is_reversed items (after items k) p q.pair ≡ true → q.place.item < window_start k → ⊥
+  pub not_above : (p : Pair) (q : PlacedPair) → moves items k p ≡ true → Contains (last_pairs items) q → is_reversed items (after items k) p q.pair ≡ true → q.place.item < window_start k → ⊥
   not_above p q moved inside h low =
       let stands : StandsLast (λ n. true) items q = (law (λ n. true) items q).0 inside in
       let r = reversed_within have tell weighing order items k is p q.pair moved (listed_stands law items q inside) h in
@@ -59,7 +59,7 @@ module _ (law : ListedStandsLast) (have : StepsHaveWindows) (tell : WindowsTellP
       stands.last (record { item = there.0; position = there.1 })
       (record { rule = there.2; decl = there.3; rule_at = there.6; selector_in = there.7; decl_at = there.8; decl_is = there.9 }) refl (inl (omega (arith, start, low)))
 
-  not_behind : (p : Pair) (q : PlacedPair) → moves items k p ≡ true → Contains (last_pairs items) q → is_reversed items (after items k) p q.pair ≡ true → last_item k < q.place.item → ⊥
+  pub not_behind : (p : Pair) (q : PlacedPair) → moves items k p ≡ true → Contains (last_pairs items) q → is_reversed items (after items k) p q.pair ≡ true → last_item k < q.place.item → ⊥
   not_behind p q moved inside h high =
       let stands : StandsLast (λ n. true) items q = (law (λ n. true) items q).0 inside in
       let r = reversed_within have tell weighing order items k is p q.pair moved (listed_stands law items q inside) h in

@@ -8,10 +8,10 @@ use Rattle.list_facts.proofs.Members.{Contains-here, Contains-there}
 one_more : (n : ℕ) → 1 + n ≡ suc n
 one_more n = omega arith
 
-drop_one : {X : Type 0} (n : ℕ) (x : X) (xs : List X) → drop (1 + n) (x ∷ xs) ≡ drop n xs
+pub drop_one : {X : Type 0} (n : ℕ) (x : X) (xs : List X) → drop (1 + n) (x ∷ xs) ≡ drop n xs
 drop_one n x xs = ap (λ (m : ℕ). drop m (x ∷ xs)) (one_more n)
 
-take_one : {X : Type 0} (n : ℕ) (x : X) (xs : List X) → take (1 + n) (x ∷ xs) ≡ x ∷ take n xs
+pub take_one : {X : Type 0} (n : ℕ) (x : X) (xs : List X) → take (1 + n) (x ∷ xs) ≡ x ∷ take n xs
 take_one n x xs = ap (λ (m : ℕ). take m (x ∷ xs)) (one_more n)
 
 -- what is left out in front does not pass

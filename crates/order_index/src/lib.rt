@@ -4,7 +4,10 @@
 mod entries;
 mod index;
 mod marked;
+mod moving;
+mod places;
 mod step_window;
 mod turning;
+mod walking;
 
 pub use index::Index;

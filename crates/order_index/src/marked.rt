@@ -121,6 +121,13 @@ impl<'a> Marked<'a> {
         }
     }
 
+    /// The number of its item.
+    pub(crate) fn item_number(&self) -> usize
+        ensures { result ≡ self.now.place.item }
+    {
+        self.pair.item
+    }
+
     /// Whether two pairs weigh. Most that do not are known by their masks.
     #[tactic(auto, using(crate::proofs::Masked::weigh_shows))]
     pub(crate) fn weighs(&self, q: &Marked<'_>) -> bool
