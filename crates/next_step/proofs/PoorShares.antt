@@ -23,6 +23,7 @@ use Rattle.step_laws.specs.declared.step.Step.TheVariants.{JoinDeclUp, Share}
 use Rattle.step_laws.specs.Sizes.{Saves, size, weight}
 use Rattle.step_laws.specs.Steps.{AreDeclsAmong, HasStep, HaveSameDecls, IsStep, first_item, last_item}
 use Rattle.step_queue.specs.RuleWeights.{ArePlain, told_length}
+use Rattle.step_savings.proofs.ForCallers.{first_rule, last_rule}
 use Rattle.step_savings.specs.Apart.{AreApart, RulesApart}
 use Rattle.next_step.specs.Common.{AreFocusAnd, AreInCommon, IsPlain, KeepsAtLeast, SavesAtMost}
 use Rattle.next_step.specs.Kinds.{IsByDecls}
@@ -172,6 +173,16 @@ module _ (source : List ℕ) (items : List Item) (sound : IsSound source items) 
         omega (arith, law, less, new, one, other, among, fits)
 
 -- ---- As the code tests it
+
+-- the partner of the focus in a step is a rule
+pub rule_beside : (items : List Item) (o : Focus) (other : ℕ) (p : Partners) (k : Step) (e : Edit) → AreFocusAnd o other p → first_item k ≡ p.upper → last_item k ≡ p.lower → IsStep items k e →
+    (r : RuleParts) × (slice_get items other ≡ Some (Rule r))
+rule_beside items o other p k e (inl (upper, lower)) first last is =
+    let rule : (r : RuleParts) × (slice_get items (first_item k) ≡ Some (Rule r)) = first_rule items k (e, is) in
+    (rule.0, ap (slice_get items) (sym upper ∙ sym first) ∙ rule.1)
+rule_beside items o other p k e (inr (upper, lower)) first last is =
+    let rule : (r : RuleParts) × (slice_get items (last_item k) ≡ Some (Rule r)) = last_rule items k (e, is) in
+    (rule.0, ap (slice_get items) (sym lower ∙ sym last) ∙ rule.1)
 
 module _ (v : View) (plannable : IsPlannable v.source.now v.indexed.now.items) (found : FoundParts) where
   covered : (x y count a b most w : ℕ) (u l : RuleParts) → slice_get v.indexed.now.items x ≡ Some (Rule u) → slice_get v.indexed.now.items y ≡ Some (Rule l) → RulesApart v.indexed.now.items x y →

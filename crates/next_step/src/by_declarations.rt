@@ -11,13 +11,12 @@ ghost use Rattle.step_kinds.specs.declared.kind.Kind.TheVariants as candidate_ki
 ghost use Rattle.step_laws.specs.declared.step.Step as declared;
 ghost use Rattle.step_laws.specs.Steps.{first_item, last_item};
 ghost use Rattle.step_savings.specs.Apart.{RulesApart};
-ghost use Rattle.next_step.specs.Common.{AreInCommon, AreInCommonAt, TellCommon};
+ghost use Rattle.next_step.specs.Common.{AreFocusAnd, AreInCommon, AreInCommonAt, TellCommon};
 ghost use Rattle.next_step.specs.Kinds.{IsByDecls};
 ghost use Rattle.next_step.specs.Late.{ByDeclsSaveAtMost};
 ghost use Rattle.next_step.specs.LaterOrderKeys.{AreLateFrom};
 ghost use Rattle.next_step.specs.Looking.{IsWith};
-ghost use Rattle.next_step.specs.Once.{DeclsStandOnce};
-ghost use Rattle.next_step.specs.Viewed.{CoversIn, Grows, IsFocus, IsView};
+ghost use Rattle.next_step.specs.Viewed.{ArePartners, CoversIn, Grows, IsFocus, IsView};
 
 pub(crate) mod joins;
 pub(crate) mod shares;
@@ -92,8 +91,8 @@ fn are_late_from(found: &Found, most: Option<u64>, once: bool, at: u64, order_ke
     true
 }
 
-/// Whether the focus and the rule of another number are known to have no selector in common.
-fn are_known_apart(view: &View<'_>, focus: &Focus<'_>, other: u32) -> bool
+/// Whether it is noted that the focus and the rule of another number have no selector in common.
+fn are_noted_apart(view: &View<'_>, focus: &Focus<'_>, other: u32) -> bool
     requires view { IsView view.now }
     requires focus { IsFocus view.now focus.now }
     requires other { other < length view.now.indexed.now.items }
@@ -105,19 +104,54 @@ fn are_known_apart(view: &View<'_>, focus: &Focus<'_>, other: u32) -> bool
         return true;
     }
     let theirs = view.indexed.facts(other);
-    if theirs.own_selectors {
+    theirs.own_selectors
+}
+
+/// Whether the focus and the rule of another number are known to have no selector in common.
+fn are_known_apart(view: &View<'_>, focus: &Focus<'_>, other: u32) -> bool
+    requires view { IsView view.now }
+    requires focus { IsFocus view.now focus.now }
+    requires other { other < length view.now.indexed.now.items }
+    requires differ { other ≢ focus.now.number }
+    ensures forth { result ≡ true → RulesApart view.now.indexed.now.items focus.now.number other }
+    ensures back { result ≡ true → RulesApart view.now.indexed.now.items other focus.now.number }
+{
+    if are_noted_apart(view, focus, other) {
         return true;
     }
     are_apart(view, focus, other)
 }
 
+/// Whether the steps by declarations of the focus and the rule of another number are known not to come before the first of the
+/// others, by what the rules weigh alone.
+fn is_passed(
+    view: &View<'_>,
+    focus: &Focus<'_>,
+    other: u32,
+    partners: &Partners,
+    common: Common,
+    found: &Found,
+) -> bool
+    requires view { IsView view.now }
+    requires focus { IsFocus view.now focus.now }
+    requires other { other < length view.now.indexed.now.items }
+    requires partners { ArePartners view.now.indexed.now partners.now }
+    requires both { AreFocusAnd focus.now other partners.now }
+    requires common { (r : RuleParts) → slice_get view.now.indexed.now.items other ≡ Some (item.Rule r) → AreInCommon view.now.source.now focus.now.rule.now r common }
+    ensures { result ≡ true → (k : declared.Step) → IsByDecls k → first_item k ≡ partners.now.upper → last_item k ≡ partners.now.lower
+        → CoversIn view.now found.now k }
+{
+    if is_poor(view, focus, other, partners, common, found) {
+        return true;
+    }
+    is_light(view, partners, found)
+}
+
 /// Puts the priorities of the steps by declarations of the focus and an item below it.
-/// `once` says that each declaration of the one below is known to be in it once.
 fn try_lower(
     view: &View<'_>,
     focus: &Focus<'_>,
     other: u32,
-    once: bool,
     common: Common,
     found: &mut Found,
 ) -> Result<(), AllocError>
@@ -125,16 +159,23 @@ fn try_lower(
     requires focus { IsFocus view.now focus.now }
     requires other { other < length view.now.indexed.now.items }
     requires in_order { focus.now.number < other }
-    requires once { once ≡ true → DeclsStandOnce view.now.indexed.now.items other }
     requires common { (r : RuleParts) → slice_get view.now.indexed.now.items other ≡ Some (item.Rule r) → AreInCommon view.now.source.now focus.now.rule.now r common }
     ensures grows { OnOk result (Grows view.now found.old found.new) }
     ensures covers { OnOk result ((k : declared.Step) → IsByDecls k → first_item k ≡ focus.now.number → last_item k ≡ other → CoversIn view.now found.new k) }
 {
-    let partners = Partners {
+    let noted = Partners {
         upper: focus.number,
         lower: other,
+        apart: are_noted_apart(view, focus, other),
+        lower_once: false,
+    };
+    if is_passed(view, focus, other, &noted, common, found) {
+        return Ok(());
+    }
+    let partners = Partners {
         apart: are_known_apart(view, focus, other),
-        lower_once: once,
+        lower_once: is_known_once(view, other),
+        ..noted
     };
     if is_poor(view, focus, other, &partners, common, found) {
         return Ok(());
@@ -157,11 +198,18 @@ fn try_upper(
     ensures grows { OnOk result (Grows view.now found.old found.new) }
     ensures covers { OnOk result ((k : declared.Step) → IsByDecls k → first_item k ≡ other → last_item k ≡ focus.now.number → CoversIn view.now found.new k) }
 {
-    let partners = Partners {
+    let noted = Partners {
         upper: other,
         lower: focus.number,
-        apart: are_known_apart(view, focus, other),
+        apart: are_noted_apart(view, focus, other),
         lower_once: focus.once,
+    };
+    if is_passed(view, focus, other, &noted, common, found) {
+        return Ok(());
+    }
+    let partners = Partners {
+        apart: are_known_apart(view, focus, other),
+        ..noted
     };
     if is_poor(view, focus, other, &partners, common, found) {
         return Ok(());
@@ -190,29 +238,10 @@ fn try_partner(
         return Ok(());
     };
     if other < number {
-        let partners = Partners {
-            upper: other,
-            lower: number,
-            apart: focus.own_selectors,
-            lower_once: focus.once,
-        };
-        if is_light(view, &partners, found) {
-            return Ok(());
-        }
         return try_upper(view, focus, other, met.common, found);
     }
     if number < other {
-        let partners = Partners {
-            upper: number,
-            lower: other,
-            apart: focus.own_selectors,
-            lower_once: false,
-        };
-        if is_light(view, &partners, found) {
-            return Ok(());
-        }
-        let once = is_known_once(view, other);
-        return try_lower(view, focus, other, once, met.common, found);
+        return try_lower(view, focus, other, met.common, found);
     }
     Ok(())
 }

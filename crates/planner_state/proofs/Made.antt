@@ -40,6 +40,8 @@ module _ (source : List ℕ) (u l : RuleParts) (a b : RuleWeight) (above : Weigh
       record {
         selectors = less;
         decls = le-min sum can.small_decls;
+        least = omega arith;
+        count = omega arith;
         once = λ e. absurd (false≢true e);
         plain = λ e. both_plain source u.decls l.decls (above.plain (and_parts a.plain b.plain e).0) (below.plain (and_parts a.plain b.plain e).1);
       }
@@ -56,6 +58,8 @@ module _ (source : List ℕ) (u l : RuleParts) (a b : RuleWeight) (above : Weigh
       record {
         selectors = le-min sum can.small_selectors;
         decls = less;
+        least = omega arith;
+        count = omega arith;
         once = λ e. once (and_parts a.once b.once e).0 (and_parts a.once b.once e).1;
         plain = λ e. plain (and_parts a.plain b.plain e).0 (and_parts a.plain b.plain e).1;
       }

@@ -56,10 +56,10 @@ IsAtMost indexed weights n w = (source : List ℕ) (r : RuleParts) → AreWeighe
 
 -- what a join of two rules makes weighs no more than this, where the sums are no more than a sheet may weigh
 abbrev pub joined_by_selectors : (upper lower : RuleWeight) → RuleWeight
-joined_by_selectors upper lower = record { selectors = max upper.selectors lower.selectors; decls = min (upper.decls + lower.decls) max_bytes; once = false; plain = upper.plain && lower.plain }
+joined_by_selectors upper lower = record { selectors = max upper.selectors lower.selectors; decls = min (upper.decls + lower.decls) max_bytes; least = 0; count = 0; once = false; plain = upper.plain && lower.plain }
 
 abbrev pub joined_by_decls : (upper lower : RuleWeight) → RuleWeight
-joined_by_decls upper lower = record { selectors = min (upper.selectors + lower.selectors) max_bytes; decls = max upper.decls lower.decls; once = upper.once && lower.once; plain = upper.plain && lower.plain }
+joined_by_decls upper lower = record { selectors = min (upper.selectors + lower.selectors) max_bytes; decls = max upper.decls lower.decls; least = 0; count = 0; once = upper.once && lower.once; plain = upper.plain && lower.plain }
 
 -- no rule that an edit puts in weighs more, if it can be weighed
 abbrev pub BringsAtMost : List ℕ → RuleWeight → Edit → Type 0

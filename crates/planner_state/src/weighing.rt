@@ -4,7 +4,7 @@ ghost use Rattle.std.specs.Prelude.{◌≡◌, ◌+◌, ◌<◌, ◌≢◌, ◌�
 ghost use Rattle.std.specs.List.{AllByRecursion, Contains};
 ghost use Rattle.css_model.specs.declared.sheet.Item.TheVariants as kinds;
 ghost use Rattle.css_model.specs.Sheets.Limits.{max_bytes, max_items};
-ghost use Rattle.css_model.specs.Sheets.Printed.{printed_declaration};
+ghost use Rattle.css_model.specs.Sheets.Printed.{printed_declaration, printed_selector};
 ghost use Rattle.css_model.specs.Sheets.RuleParts.{RuleParts};
 ghost use Rattle.css_model.specs.Sheets.Sound.{IsSoundDeclaration};
 ghost use Rattle.queue_laws.specs.MarkNames.{IsMarked};
@@ -62,14 +62,35 @@ fn are_plain(source: &KnownLengths<'_>, decls: &[DeclItem]) -> bool
     true
 }
 
+/// How many selectors of a rule are weighed anew after a join.
+const FEW: usize = 8;
+
+/// Returns what the selectors of a rule weigh at least: the first of them.
+fn least_weight(source: &KnownLengths<'_>, rule: &Rule) -> u32
+    requires { IsWeighable source.now rule.now }
+    ensures { result ≤ weight (printed_selector source.now) rule.now.selectors }
+{
+    selectors_weight(source, &rule.selectors[..FEW.min(rule.selectors.len())]) as u32
+}
+
+/// Returns how many declarations a rule has, or 2^32 - 1 if they are more.
+fn count_of(rule: &Rule) -> u32
+    ensures { result ≤ length rule.now.decls }
+{
+    rule.decls.len().min(u32::MAX as usize) as u32
+}
+
 /// Returns what a rule weighs at most.
 fn weight_of(source: &KnownLengths<'_>, rule: &Rule) -> RuleWeight
     requires { IsWeighable source.now rule.now }
     ensures { WeighsAtMost source.now rule.now result }
 {
+    let selectors = selectors_weight(source, &rule.selectors) as u32;
     RuleWeight {
-        selectors: selectors_weight(source, &rule.selectors) as u32,
+        selectors,
         decls: decls_weight(source, &rule.decls) as u32,
+        least: selectors,
+        count: count_of(rule),
         once: has_each_once(rule),
         plain: are_plain(source, &rule.decls),
     }
@@ -90,6 +111,8 @@ fn joined_by_selectors(upper: RuleWeight, lower: RuleWeight) -> RuleWeight
     RuleWeight {
         selectors: upper.selectors.max(lower.selectors),
         decls: together(upper.decls, lower.decls),
+        least: 0,
+        count: 0,
         once: false,
         plain: upper.plain && lower.plain,
     }
@@ -102,6 +125,8 @@ fn joined_by_decls(upper: RuleWeight, lower: RuleWeight) -> RuleWeight
     RuleWeight {
         selectors: together(upper.selectors, lower.selectors),
         decls: upper.decls.max(lower.decls),
+        least: 0,
+        count: 0,
         once: upper.once && lower.once,
         plain: upper.plain && lower.plain,
     }
@@ -145,6 +170,8 @@ fn known_weight(source: &KnownLengths<'_>, known: Option<RuleWeight>, rule: &Rul
 {
     match known {
         Some(weight) => RuleWeight {
+            least: least_weight(source, rule),
+            count: count_of(rule),
             once: weight.once || has_each_once(rule),
             ..weight
         },

@@ -22,7 +22,7 @@ pub record WeightParts : Type 0 where
 
 -- more than any rule weighs; nothing is known of its declarations
 abbrev pub unknown : RuleWeight
-unknown = record { selectors = 2 ^ 32 - 1; decls = 2 ^ 32 - 1; once = false; plain = false }
+unknown = record { selectors = 2 ^ 32 - 1; decls = 2 ^ 32 - 1; least = 0; count = 0; once = false; plain = false }
 
 -- what the rule of an item id weighs at most
 abbrev pub weight_under : List RuleWeight → ℕ → RuleWeight
@@ -42,10 +42,13 @@ told_length d = length d.name + 1 + length d.value + (if d.important then 10 els
 abbrev pub ArePlain : List ℕ → List DeclItem → Type 0
 ArePlain source decls = (d : DeclItem) → Contains decls d → length (printed_declaration source d) ≡ told_length d.decl
 
--- A rule weighs no more than this, and it has each of its declarations once, if `once` says so.
+-- A rule weighs no more than this, its selectors weigh no less than `least`, and it has no fewer declarations than `count`. It has
+-- each of them once, if `once` says so, and each is plain, if `plain` says so.
 pub record WeighsAtMost (source : List ℕ) (r : RuleParts) (w : RuleWeight) : Type 0 where
   pub selectors : weight (printed_selector source) r.selectors ≤ w.selectors
   pub decls : weight (printed_declaration source) r.decls ≤ w.decls
+  pub least : w.least ≤ weight (printed_selector source) r.selectors
+  pub count : w.count ≤ length r.decls
   pub once : w.once ≡ true → StandOnce (λ x. x.decl) r.decls
   pub plain : w.plain ≡ true → ArePlain source r.decls
 

@@ -7,7 +7,7 @@ use crate::heaviest::Heaviest;
 use std::alloc::{AllocError, Global};
 use std::marker::Model;
 
-/// What a rule weighs at most, and whether it is known to have each of its declarations once.
+/// What a rule weighs at most, and what else is known of its parts.
 /// Its selectors weigh as much as their printed texts are long, each with the sign after it. So do its declarations.
 #[derive(Clone, Copy, Debug)]
 pub struct RuleWeight {
@@ -15,6 +15,10 @@ pub struct RuleWeight {
     pub selectors: u32,
     /// The declarations, in bytes.
     pub decls: u32,
+    /// The selectors weigh no less than this, in bytes.
+    pub least: u32,
+    /// It has no fewer declarations than this.
+    pub count: u32,
     /// The rule is known to have each of its declarations once.
     pub once: bool,
     /// Each of its declarations is known to be printed as long as its name, its value and its importance tell.
@@ -44,6 +48,8 @@ pub(crate) fn unknown() -> RuleWeight
     RuleWeight {
         selectors: u32::MAX,
         decls: u32::MAX,
+        least: 0,
+        count: 0,
         once: false,
         plain: false,
     }

@@ -1,9 +1,7 @@
 //! Whether the steps by declarations of the focus and another rule come too late, by the declarations that both may have.
 
-ghost use Rattle.std.specs.Prelude.{◌≡◌, ◌<◌, ◌≤◌, ℕ, IfSome, Some, length, slice_get, true};
+ghost use Rattle.std.specs.Prelude.{◌≡◌, ◌<◌, ◌≤◌, ◌^◌, ℕ, IfSome, List, Some, length, slice_get, true};
 ghost use Rattle.css_model.specs.declared.sheet.Item.TheVariants as item;
-ghost use Rattle.css_model.specs.Sheets.Limits.{max_bytes};
-ghost use Rattle.css_model.specs.Sheets.Printed.{printed_selector};
 ghost use Rattle.css_model.specs.Sheets.RuleParts.{RuleParts};
 ghost use Rattle.next_step.specs.Common.{AreFocusAnd, AreInCommon, IsPlain, KeepsAtLeast, SavesAtMost};
 ghost use Rattle.indexed_sheet.specs.MarkList.{order_keys_of};
@@ -13,44 +11,26 @@ ghost use Rattle.next_step.specs.Viewed.{ArePartners, CoversIn, IsFocus, IsView}
 ghost use Rattle.pending_laws.specs.Priorities.{named};
 ghost use Rattle.step_laws.specs.declared.step.Step as declared;
 ghost use Rattle.step_laws.specs.declared.step.Step.TheVariants as kinds;
-ghost use Rattle.step_laws.specs.Sizes as sizes;
 ghost use Rattle.step_laws.specs.Steps.{first_item, last_item};
-ghost use Rattle.step_savings.specs.Weighing.{IsWeighable};
+ghost use Rattle.step_queue.specs.RuleWeights.{WeighsAtMost};
 
-use crate::cuts::decl_count;
 use crate::queue::found::Found;
 use crate::too_late::by_parts::late_saving;
 use crate::too_late::by_weights::weight_at;
 use crate::view::{Focus, Partners, View};
-use css_model::Rule;
-use rule_parts::{find_rule, selectors_weight};
 use rule_tables::Common;
-use saved_bytes::KnownLengths;
 use step_kinds::Kind;
 use step_queue::RuleWeight;
 
-/// How many selectors of a rule are weighed.
-const FEW: usize = 8;
-
-/// What the selectors of a rule weigh at least: the first of them.
-fn least_weight(source: &KnownLengths<'_>, rule: &Rule) -> u64
-    requires { IsWeighable source.now rule.now }
-    ensures least { result ≤ sizes.weight (printed_selector source.now) rule.now.selectors }
-    ensures small { result ≤ max_bytes }
+/// What the selectors of a rule with this weight weigh at least, if it has more declarations than two rules may have in common.
+/// Else it is 0. A share that leaves a declaration of the rule writes them again.
+fn kept_at_least(weight: RuleWeight, common: Common) -> u64
+    ensures keeps { (source : List ℕ) (r : RuleParts) → WeighsAtMost source r weight → KeepsAtLeast source r common.count result }
+    ensures small { result < 2 ^ 32 }
 {
-    selectors_weight(source, &rule.selectors[..FEW.min(rule.selectors.len())])
-}
-
-/// What the selectors of a rule weigh at least, if it has more declarations than two rules may have in common. Else it is 0.
-/// A share that leaves a declaration of the rule writes them again.
-fn kept_at_least(source: &KnownLengths<'_>, rule: &Rule, common: Common) -> u64
-    requires { IsWeighable source.now rule.now }
-    ensures keeps { KeepsAtLeast source.now rule.now common.count result }
-    ensures small { result ≤ max_bytes }
-{
-    let count = decl_count(rule);
+    let count = weight.count as usize;
     if common.count < count {
-        least_weight(source, rule)
+        u64::from(weight.least)
     } else {
         0
     }
@@ -97,15 +77,13 @@ fn are_plain(view: &View<'_>, focus: &Focus<'_>, other: u32) -> bool
     weight_at(view, focus.number).plain
 }
 
-/// Whether a share of two rules, which have at most these declarations in common and no selector, is known to come too late.
+/// What a share of two rules with these weights, which have at most these declarations in common and no selector, saves at most.
 /// `Some` only if one of the rules keeps a declaration. Then they have no joins by declarations, and their share saves no more than
 /// these declarations weigh, without the selectors that it writes again.
-fn most_saved(source: &KnownLengths<'_>, ours: &Rule, theirs: &Rule, common: Common) -> Option<u64>
-    requires ours { IsWeighable source.now ours.now }
-    requires theirs { IsWeighable source.now theirs.now }
-    ensures { IfSome result (SavesAtMost source.now ours.now theirs.now common) }
+fn most_saved(ours: RuleWeight, theirs: RuleWeight, common: Common) -> Option<u64>
+    ensures { IfSome result (λ most. (source : List ℕ) (r q : RuleParts) → WeighsAtMost source r ours → WeighsAtMost source q theirs → SavesAtMost source r q common most) }
 {
-    let kept = kept_at_least(source, ours, common) + kept_at_least(source, theirs, common);
+    let kept = kept_at_least(ours, common) + kept_at_least(theirs, common);
     if kept == 0 {
         return None;
     }
@@ -137,10 +115,9 @@ pub(crate) fn is_poor(
     if !are_plain(view, focus, other) {
         return false;
     }
-    let Some(rule) = find_rule(view.indexed.sheet(), other) else {
-        return false;
-    };
-    match most_saved(view.source, focus.rule, rule, common) {
+    let ours = weight_at(view, focus.number);
+    let theirs = weight_at(view, other);
+    match most_saved(ours, theirs, common) {
         Some(most) => is_share_late(view, partners, found, most),
         None => false,
     }

@@ -2,10 +2,10 @@ use Rattle.std.proofs.Common.{◌<◌, length, arith, inl, inr, refl}
 use Rattle.next_step.proofs.too_late.by_common.kept_at_least.Goals as goal
 
 pub returns-then-common-count-clause-keeps : goal.returns-then-common-count-clause-keeps
-returns-then-common-count-clause-keeps c = inl (
-  (let less : c.args.common.count < length c.args.rule.now.decls = omega (arith, c.if-common-count.true, c.decl_count-count.ensures) in less),
-  c.least_weight.ensures.least,
+returns-then-common-count-clause-keeps c = λ source r weighs. inl (
+  (let few = weighs.count in let less : c.args.common.count < length r.decls = omega (arith, c.if-common-count.true, few) in less),
+  (let same = c.from.ensures in let light = weighs.least in omega (arith, same, light)),
 )
 
 pub returns-else-common-count-clause-keeps : goal.returns-else-common-count-clause-keeps
-returns-else-common-count-clause-keeps c = inr refl
+returns-else-common-count-clause-keeps c = λ source r weighs. inr refl
