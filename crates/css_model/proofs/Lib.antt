@@ -2,3 +2,4 @@ pub mod ForCallers
 mod Same
 mod SameExamples
 mod SameFeatures
+mod SelectorDigests

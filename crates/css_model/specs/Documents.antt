@@ -1,5 +1,6 @@
 -- Documents and which of their elements a selector matches.
 pub mod Attribute
+pub mod Digests
 pub mod Document
 pub mod FeatureParts
 pub mod Features

@@ -1,9 +1,12 @@
 //! Selectors, their parts, and their specificities.
 
-ghost use Rattle.std.specs.Prelude.{◌≡◌, List, ℕ, IfOk, IsTrue, ◌↔◌};
+ghost use Rattle.std.specs.Prelude.{◌≡◌, ◌++◌, List, ℕ, IfOk, IsTrue, ◌↔◌};
+ghost use Rattle.std.specs.Hash as fed;
+ghost use Rattle.css_model.specs.Documents.Digests as digests;
 
 use crate::position::AnB;
 use crate::text::Text;
+use mixing::Mixer;
 use smallvec::SmallVec;
 use std::alloc::AllocError;
 use std::hash::{Hash, Hasher};
@@ -246,7 +249,7 @@ pub enum Pseudo {
     After,
 }
 
-/// A selector: compounds with combinators between them, and perhaps a pseudo-element.
+/// A selector: compounds with combinators between them, and perhaps a pseudo-element. It keeps the digest of these parts.
 #[derive(Debug, Drop)]
 pub struct Selector {
     /// The compounds from right to left: the first one is that of the selected element.
@@ -255,6 +258,9 @@ pub struct Selector {
     pub links: Vec<Combinator>,
     /// The pseudo-element.
     pub pseudo: Option<Pseudo>,
+    digest: u32,
+    ghost digested: { digest ≡ digests.digest_of (fed.slice ⟦<Compound as Hash>⟧.hash_input chain.items
+        ++ (fed.slice ⟦<Combinator as Hash>⟧.hash_input links.items ++ ⟦<Option<Pseudo> as Hash>⟧.hash_input pseudo)) },
 }
 
 impl Model for Selector {
@@ -285,7 +291,9 @@ impl PartialEq for Selector {
         ensures eq { result ≡ ⟦<Selector as PartialEq>⟧.eq self.now other.now }
         ensures exact { IsTrue result ↔ (self.now ≡ other.now) }
     {
-        self.chain == other.chain && (self.links == other.links && self.pseudo == other.pseudo)
+        self.digest == other.digest
+            && (self.chain == other.chain
+                && (self.links == other.links && self.pseudo == other.pseudo))
     }
 }
 
@@ -324,7 +332,40 @@ impl Hash for Selector {
     }
 }
 
+/// The digest of the parts of a selector.
+#[tactic(auto, unfolding(crate::specs::Documents::Digests::digest_of))]
+fn digest_of(chain: &Vec<Compound>, links: &Vec<Combinator>, pseudo: Option<Pseudo>) -> u32
+    ensures { result ≡ digests.digest_of (fed.slice ⟦<Compound as Hash>⟧.hash_input chain.now.items
+        ++ (fed.slice ⟦<Combinator as Hash>⟧.hash_input links.now.items ++ ⟦<Option<Pseudo> as Hash>⟧.hash_input pseudo)) }
+{
+    let mut state = Mixer::new();
+    chain.hash(&mut state);
+    links.hash(&mut state);
+    pseudo.hash(&mut state);
+    state.digest()
+}
+
 impl Selector {
+    /// The selector of these parts, with compounds and combinators from right to left.
+    pub fn new(chain: Vec<Compound>, links: Vec<Combinator>, pseudo: Option<Pseudo>) -> Selector
+        ensures { result ≡ record { chain = chain.items; links = links.items; pseudo = pseudo } }
+    {
+        let digest = digest_of(&chain, &links, pseudo);
+        Selector {
+            chain,
+            links,
+            pseudo,
+            digest,
+        }
+    }
+
+    /// The digest of what the selector feeds to a hasher. Equal selectors have equal digests.
+    pub fn digest(&self) -> u32
+        ensures { result ≡ digests.digest_of (⟦<Selector as Hash>⟧.hash_input self.now) }
+    {
+        self.digest
+    }
+
     /// An equal selector, in the memory of the allocators of this one's lists. `AllocError` where memory runs out.
     pub fn copy(&self) -> Result<Selector, AllocError>
         ensures { IfOk result (λ s. s ≡ self.now) }
@@ -335,6 +376,7 @@ impl Selector {
             chain,
             links,
             pseudo: self.pseudo,
+            digest: self.digest,
         })
     }
 }

@@ -17,9 +17,5 @@ pub(crate) fn every(alloc: Global, pseudo: Option<Pseudo>) -> Result<Selector, A
         test: Test::Any,
     })?;
     let chain = vec![in alloc; Compound { simples }]?;
-    Ok(Selector {
-        chain,
-        links: Vec::new(alloc),
-        pseudo,
-    })
+    Ok(Selector::new(chain, Vec::new(alloc), pseudo))
 }

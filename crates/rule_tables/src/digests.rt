@@ -14,9 +14,7 @@ use std::hash::Hash;
 pub fn selector_digest(selector: &Selector) -> u32
     ensures { result ≡ spec.selector_digest selector.now }
 {
-    let mut state = Mixer::new();
-    selector.hash(&mut state);
-    state.digest()
+    selector.digest()
 }
 
 /// The digest of a declaration: of its property, its value and its importance. Equal declarations have equal digests.

@@ -29,11 +29,7 @@ fn finish(state: SoFar) -> Result<Selector, Refusal>
     chain.push(Compound { simples: compound })?;
     chain.reverse();
     links.reverse();
-    Ok(Selector {
-        chain,
-        links,
-        pseudo,
-    })
+    Ok(Selector::new(chain, links, pseudo))
 }
 
 /// The selector of tokens, or the reason against them that comes first.

@@ -96,7 +96,7 @@ fn reads_each_part(rt: HostRuntime) -> Result<(), Fail> {
          Compound { simples: [Simple { negated: false, test: Kind(Text { codes: ['a'] }) }, \
          Simple { negated: false, test: Attr(AttrTest { \
          name: Text { codes: ['b'] }, op: Dash, value: Text { codes: ['c'] } }) }] }], \
-         links: [Next, Child], pseudo: Some(After) }"
+         links: [Next, Child], pseudo: Some(After), digest: 2312787875 }"
     );
     Ok(())
 }
