@@ -13,7 +13,7 @@ use Rattle.window_order.specs.Places.{IsBelow, IsLastPlace, IsPlace, IsSomewhere
 
 -- ---- Lists
 
-first_rest : {X : Type 0} → (n : ℕ) (xs : List X) → xs ≡ take n xs ++ drop n xs
+pub first_rest : {X : Type 0} → (n : ℕ) (xs : List X) → xs ≡ take n xs ++ drop n xs
 first_rest {X} zero xs = refl
 first_rest {X} (suc n) [] = refl
 first_rest {X} (suc n) (x ∷ xs) = ap (λ (ys : List X). x ∷ ys) (first_rest n xs)

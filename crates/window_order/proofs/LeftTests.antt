@@ -1,6 +1,6 @@
 -- What is left of rules is tested by their parts.
 use Rattle.std.proofs.Common.{◌≡◌, ◌↔◌, ◌⊎◌, Bool, true, false, cond, not, ◌&&◌, ◌||◌, List, [], ◌∷◌, ◌++◌, refl, sym, ap, ap₂, ◌∙◌, subst, inl, inr}
-use Rattle.std.specs.Prelude.{if◌then◌else◌, Option, Some}
+use Rattle.std.specs.Prelude.{if◌then◌else◌, Option, None, Some}
 use Rattle.std.specs.Bool.{beq}
 use Rattle.std.specs.List.{filter}
 use Rattle.std.proofs.lemmas.Bool.{false≢true, or_cases, or_left, or_right}
@@ -257,6 +257,23 @@ any_order rule r p q order is told = (
   subst (λ (o : Option LeftRule). IsOrder (made_of o) p q order) (sym is) told,
   subst (λ (o : Option LeftRule). IsOrder (rest_of o) p q order) (sym is) (order_in_rest (rule_of r) p q order told),
 )
+
+-- of one rule alone
+module _ (made rest : Option LeftRule) (r : LeftRule) (has : made ≡ Some r) (none : rest ≡ None) where
+  pub in_made : (p : Pair) → HasPair (made_of made ++ rest_of rest) p → is_in_rule (rule_of r) p ≡ true
+  in_made p h = (any_has made r p (is_in_rule (rule_of r) p) has refl).0.1 (which ((has_append (made_of made) (rest_of rest) p).0 h))
+    where
+      which : HasPair (made_of made) p ⊎ HasPair (rest_of rest) p → HasPair (made_of made) p
+      which (inl g) = g
+      which (inr g) = absurd (nowhere p (subst (λ (o : Option LeftRule). HasPair (rest_of o) p) none g))
+
+module _ (made rest : Option LeftRule) (r : LeftRule) (none : made ≡ None) (has : rest ≡ Some r) where
+  pub in_left : (p : Pair) → HasPair (made_of made ++ rest_of rest) p → is_in_rule (rule_of r) p ≡ true
+  in_left p h = (any_has rest r p (is_in_rule (rule_of r) p) has refl).1.1 (which ((has_append (made_of made) (rest_of rest) p).0 h))
+    where
+      which : HasPair (made_of made) p ⊎ HasPair (rest_of rest) p → HasPair (rest_of rest) p
+      which (inl g) = absurd (nowhere p (subst (λ (o : Option LeftRule). HasPair (made_of o) p) none g))
+      which (inr g) = g
 
 -- of two pairs in a rule
 pub first_before : (r : RuleParts) (p q : Pair) (a before : Bool) → a ≡ is_in_rule r p → a ≡ true → before ≡ rule_before r p q → before ≡ true → IsOrder (Rule r ∷ []) p q Before

@@ -5,6 +5,7 @@ mod LastPlaces
 mod LeftTests
 mod MaskedTests
 mod PairOrders
+mod Passed
 mod Ranges
 mod StandingTests
 mod WindowTests

@@ -22,21 +22,22 @@ first_test : (a b : Bool) → (b ≡ true → a ≡ true) → (a && b) ≡ b
 first_test a true h = ap (λ (c : Bool). c && true) (h refl)
 first_test a false h = none_passes a
 
-one_is : (p : Pair) (item : Item) → is_in_masked (pair_mask p) p item (item_mask item) ≡ is_in_item p item
+pub one_is : (p : Pair) (item : Item) → is_in_masked (pair_mask p) p item (item_mask item) ≡ is_in_item p item
 one_is p item = first_test (meets (item_mask item) (pair_mask p)) (is_in_item p item) (λ h. stands_meets p item ((in_item_is p item).0 h))
 
-abbrev by_masks : Pair → Item × ItemMask → Bool
+abbrev pub by_masks : Pair → Item × ItemMask → Bool
 by_masks p x = is_in_masked (pair_mask p) p x.0 x.1
 
 all_are : (p : Pair) (items : List Item) → list_any (by_masks p) (zip items (map item_mask items)) ≡ stands items p
 all_are p [] = refl
 all_are p (item ∷ items) = ap (λ (b : Bool). b || list_any (by_masks p) (zip items (map item_mask items))) (one_is p item) ∙ ap (λ (b : Bool). is_in_item p item || b) (all_are p items)
 
-pub masked_is : (p : Pair) (items : List Item) (masks : List ItemMask) (b : Bool) → masks ≡ map item_mask items → b ≡ list_any (by_masks p) (zip items masks) → (b ≡ true) ↔ HasPair items p
-masked_is p items masks b masks_are is = (λ e. (stands_is items p).0 (sym same ∙ e), λ h. same ∙ (stands_is items p).1 h)
-  where
-    same : b ≡ stands items p
-    same = is ∙ ap (λ (list : List ItemMask). list_any (by_masks p) (zip items list)) masks_are ∙ all_are p items
+pub masked_stands : (p : Pair) (items : List Item) (masks : List ItemMask) → masks ≡ map item_mask items → list_any (by_masks p) (zip items masks) ≡ stands items p
+masked_stands p items masks masks_are = ap (λ (list : List ItemMask). list_any (by_masks p) (zip items list)) masks_are ∙ all_are p items
+
+-- the test that computes tells it in words
+pub told_is : (p : Pair) (items : List Item) (b : Bool) → b ≡ stands items p → (b ≡ true) ↔ HasPair items p
+told_is p items b same = (λ e. (stands_is items p).0 (sym same ∙ e), λ h. same ∙ (stands_is items p).1 h)
 
 -- in items that a mask covers a pair does not stand that it does not meet
 pub uncovered : (mask of_p : ItemMask) (items : List Item) (p p' : Pair) (b : Bool) → Covers mask items → p' ≡ p → of_p ≡ pair_mask p' → b ≡ meets mask of_p → b ≡ false → HasPair items p → ⊥

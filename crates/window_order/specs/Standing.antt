@@ -1,5 +1,5 @@
 -- Whether pairs stand in items, and which comes last before which in an item, as tests that compute (own).
-use Rattle.std.specs.Prelude.{Bool, false, not, ◌&&◌, if◌then◌else◌, List, [], ◌∷◌}
+use Rattle.std.specs.Prelude.{ℕ, Bool, false, not, ◌&&◌, if◌then◌else◌, List, [], ◌∷◌, bit_or}
 use Rattle.std.specs.List.{list_any}
 use Rattle.css_model.specs.Cascade.Order.{Pair}
 use Rattle.css_model.specs.declared.sheet.Decl.{Decl}
@@ -24,6 +24,11 @@ is_in_item p (KeptBlock piece) = false
 -- by masks of the pair and of the item
 abbrev pub is_in_masked : ItemMask → Pair → Item → ItemMask → Bool
 is_in_masked mask p item of_item = meets of_item mask && is_in_item p item
+
+-- some bits, with those of the selectors of masks
+abbrev pub with_bits : ℕ → List ItemMask → ℕ
+with_bits bits [] = bits
+with_bits bits (m ∷ ms) = with_bits (bit_or bits m.selectors) ms
 
 -- a pair stands in one of the items
 abbrev pub stands : List Item → Pair → Bool

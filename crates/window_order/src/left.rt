@@ -192,6 +192,19 @@ fn order_in_left(rule: &LeftRule<'_>, p: &PairRef<'_>, q: &PairRef<'_>) -> PairO
     }
 }
 
+/// How two pairs are ordered in a rule that has both.
+fn order_in_whole(rule: &LeftRule<'_>, p: &PairRef<'_>, q: &PairRef<'_>) -> PairOrder
+    requires first { standing.is_in_rule (left.rule_of rule.now) p.now ≡ true }
+    requires second { standing.is_in_rule (left.rule_of rule.now) q.now ≡ true }
+    ensures { orders.IsOrder (item.Rule (left.rule_of rule.now) ∷ []) p.now q.now result }
+{
+    if left_before(rule, p, q, true) {
+        PairOrder::Before
+    } else {
+        PairOrder::NotBefore
+    }
+}
+
 /// Whether a pair is in a rule that is there or not, made or left.
 fn is_in_any(rule: &Option<LeftRule<'_>>, p: &PairRef<'_>) -> bool
     ensures made { IsTrue result ↔ HasPair (left.made_of rule.now) p.now }
@@ -254,8 +267,21 @@ impl<'a> Left<'a> {
         self.order_of(p, q)
     }
 
-    /// How two pairs are ordered in what is left.
+    /// How two pairs are ordered in what is left, which has both. In one rule alone neither has to be looked for.
     fn order_of(&self, p: &PairRef<'_>, q: &PairRef<'_>) -> PairOrder
+        requires first { HasPair (left.items_of self.now) p.now }
+        requires second { HasPair (left.items_of self.now) q.now }
+        ensures { orders.IsOrder (left.items_of self.now) p.now q.now result }
+    {
+        match (&self.made, &self.rest) {
+            (Some(rule), None) => order_in_whole(rule, p, q),
+            (None, Some(rule)) => order_in_whole(rule, p, q),
+            _ => self.order_in_each(p, q),
+        }
+    }
+
+    /// How two pairs are ordered in what is left, looked for in both rules.
+    fn order_in_each(&self, p: &PairRef<'_>, q: &PairRef<'_>) -> PairOrder
         ensures { orders.IsOrder (left.items_of self.now) p.now q.now result }
     {
         let above = order_in_any(&self.made, p, q);

@@ -1,6 +1,6 @@
 //! Whether a pair is in items with masks, and how two pairs are ordered there.
 
-ghost use Rattle.std.specs.Prelude.{◌≡◌, ◌↔◌, IfSome, IsTrue, ◌≤◌, ◌∷◌, [], length, map, take, zip};
+ghost use Rattle.std.specs.Prelude.{◌≡◌, ◌↔◌, IfSome, IsTrue, ◌≤◌, ◌∷◌, [], bit_and, length, map, take, true, zip};
 ghost use Rattle.std.specs.List.{list_any};
 ghost use Rattle.css_model.specs.Cascade.Order.{HasPair};
 ghost use Rattle.item_masks.specs.Masks.{item_mask, pair_mask};
@@ -29,12 +29,68 @@ fn stands_masked(items: &[Item], masks: &[ItemMask], p: &PairRef<'_>) -> bool
     items.iter().zip(masks).any(|(item, of_item)| of_item.meets(p.mask) && is_in_item(item, p))
 }
 
+/// How many items are passed at once.
+const MANY: usize = 8;
+
+/// The bits of the selectors of some masks.
+#[inline]
+fn selector_bits(masks: &[ItemMask]) -> u64
+    ensures { result ≡ standing.with_bits 0 masks.now }
+{
+    let mut bits: u64 = 0;
+    let mut rest = masks;
+    'rest: while let Some((first, behind)) = rest.split_first() {
+        bits |= first.selectors;
+        rest = behind;
+    }
+    bits
+}
+
+/// Whether bits of selectors lack the bit of a pair's selector.
+#[inline]
+fn lack_bit_of(bits: u64, p: &PairRef<'_>) -> bool
+    ensures { result ≡ true → bit_and bits (pair_mask p.now).selectors ≡ 0 }
+{
+    bits & p.mask.selectors == 0
+}
+
+/// Whether a pair is in some items. They are passed at once where no selector of theirs has the bit of the pair's.
+#[inline]
+fn stands_in_few(items: &[Item], masks: &[ItemMask], p: &PairRef<'_>) -> bool
+    requires { masks.now ≡ map item_mask items.now }
+    ensures { result ≡ standing.stands items.now p.now }
+{
+    if lack_bit_of(selector_bits(masks), p) {
+        return false;
+    }
+    stands_masked(items, masks, p)
+}
+
+/// Whether a pair is in some items. Some of them are passed at once.
+fn stands_in_many(items: &[Item], masks: &[ItemMask], p: &PairRef<'_>) -> bool
+    requires { masks.now ≡ map item_mask items.now }
+    ensures { result ≡ standing.stands items.now p.now }
+{
+    let mut rest = items;
+    let mut of_rest = masks;
+    'rest: while MANY <= rest.len() && MANY <= of_rest.len() {
+        let (few, behind) = rest.split_at(MANY);
+        let (of_few, of_behind) = of_rest.split_at(MANY);
+        if stands_in_few(few, of_few, p) {
+            return true;
+        }
+        rest = behind;
+        of_rest = of_behind;
+    }
+    stands_in_few(rest, of_rest, p)
+}
+
 /// Whether a pair is in some items, by its mask and theirs.
 pub(crate) fn stands_by_masks(items: &[Item], masks: &[ItemMask], p: &PairRef<'_>) -> bool
     requires { masks.now ≡ map item_mask items.now }
     ensures { IsTrue result ↔ HasPair items.now p.now }
 {
-    stands_masked(items, masks, p)
+    stands_in_many(items, masks, p)
 }
 
 /// Whether a pair is in an item, by its mask and that of the item.
@@ -45,8 +101,8 @@ fn stands_in_masked(item: &Item, of_item: ItemMask, p: &PairRef<'_>) -> bool
     is_in_masked(item, of_item, p)
 }
 
-/// The number of the last of some items that has a pair, by its mask and theirs.
-pub(crate) fn last_by_masks(items: &[Item], masks: &[ItemMask], p: &PairRef<'_>) -> Option<usize>
+/// The number of the last of some items that has a pair, by its mask and theirs, one item after the other.
+fn last_of_few(items: &[Item], masks: &[ItemMask], p: &PairRef<'_>) -> Option<usize>
     requires { masks.now ≡ map item_mask items.now }
     ensures { places.IsPlace items.now p.now result }
 {
@@ -58,6 +114,26 @@ pub(crate) fn last_by_masks(items: &[Item], masks: &[ItemMask], p: &PairRef<'_>)
         rest = above;
     }
     None
+}
+
+/// The number of the last of some items that has a pair, by its mask and theirs. Some of them are passed at once.
+pub(crate) fn last_by_masks(items: &[Item], masks: &[ItemMask], p: &PairRef<'_>) -> Option<usize>
+    requires { masks.now ≡ map item_mask items.now }
+    ensures { places.IsPlace items.now p.now result }
+{
+    let mut rest = items;
+    let mut of_rest = masks;
+    'rest: while MANY <= rest.len() && rest.len() <= of_rest.len() {
+        let from = rest.len() - MANY;
+        let (above, few) = rest.split_at(from);
+        let (of_above, of_few) = of_rest.split_at(from);
+        if stands_in_few(few, of_few, p) {
+            return last_of_few(rest, of_rest, p);
+        }
+        rest = above;
+        of_rest = of_above;
+    }
+    last_of_few(rest, of_rest, p)
 }
 
 /// What an item with a mask, with these items above it, says of the order of two pairs.

@@ -12,3 +12,9 @@ returns-then-not-second c = subst (λ (order : PairOrder). IsOrder (items_of c.a
 
 pub returns-then-not-first : goal.returns-then-not-first
 returns-then-not-first c = (λ h. false≢true (sym c.if-not-first.true ∙ c.requires.first.1 h), c.requires.second.0 c.if-not-second.false)
+
+pub order_of-requires-clause-first : goal.order_of-requires-clause-first
+order_of-requires-clause-first c = c.requires.first.0 c.if-not-first.false
+
+pub order_of-requires-clause-second : goal.order_of-requires-clause-second
+order_of-requires-clause-second c = c.requires.second.0 c.if-not-second.false

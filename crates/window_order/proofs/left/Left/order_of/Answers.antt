@@ -1,10 +1,14 @@
-use Rattle.std.proofs.Common.{subst, sym}
-use Rattle.window_order.proofs.PairOrders.{joined_is}
+use Rattle.window_order.proofs.LeftTests.{in_left, in_made}
 use Rattle.window_order.proofs.left.Left.order_of.Goals as goal
-use Rattle.window_order.specs.Left.{items_of, made_of, rest_of}
-use Rattle.window_order.specs.Orders.{IsOrder}
-use Rattle.window_order.specs.declared.order.PairOrder.{PairOrder}
 
-pub returns : goal.returns
-returns c = subst (λ (order : PairOrder). IsOrder (items_of c.args.self.now) c.args.p.now c.args.q.now order) (sym c.joined.ensures)
-    (joined_is (made_of c.args.self.now.made) (rest_of c.args.self.now.rest) c.args.p.now c.args.q.now c.order_in_any-above.result c.order_in_any-below.result c.order_in_any-above.ensures.made c.order_in_any-below.ensures.rest)
+pub order_in_whole-requires-clause-first : goal.order_in_whole-requires-clause-first
+order_in_whole-requires-clause-first c = in_made c.args.self.now.made c.args.self.now.rest c.in-Some-None.rule c.in-Some-None.is-0 c.in-Some-None.is-1 c.args.p.now c.requires.first
+
+pub order_in_whole-requires-clause-second : goal.order_in_whole-requires-clause-second
+order_in_whole-requires-clause-second c = in_made c.args.self.now.made c.args.self.now.rest c.in-Some-None.rule c.in-Some-None.is-0 c.in-Some-None.is-1 c.args.q.now c.requires.second
+
+pub order_in_whole-requires-in-None-Some-clause-first : goal.order_in_whole-requires-in-None-Some-clause-first
+order_in_whole-requires-in-None-Some-clause-first c = in_left c.args.self.now.made c.args.self.now.rest c.in-None-Some.rule c.in-None-Some.is-0 c.in-None-Some.is-1 c.args.p.now c.requires.first
+
+pub order_in_whole-requires-in-None-Some-clause-second : goal.order_in_whole-requires-in-None-Some-clause-second
+order_in_whole-requires-in-None-Some-clause-second c = in_left c.args.self.now.made c.args.self.now.rest c.in-None-Some.rule c.in-None-Some.is-0 c.in-None-Some.is-1 c.args.q.now c.requires.second
