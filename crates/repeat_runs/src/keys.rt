@@ -1,8 +1,8 @@
-//! Declarations and selectors as keys of a map, without a copy of them.
+//! Declarations as keys of a map, without a copy of them.
 
 ghost use Rattle.std.specs.Prelude.{◌≡◌, ◌↔◌, IsTrue};
 
-use css_model::{Decl, Selector};
+use css_model::Decl;
 use std::hash::{Hash, Hasher};
 use std::marker::Model;
 
@@ -53,51 +53,5 @@ impl<'a> Hash for DeclKey<'a> {
         self.decl.name.hash(state);
         self.decl.value.bytes().hash(state);
         self.decl.important.hash(state);
-    }
-}
-
-/// A selector as a key. Contracts see it as the selector.
-#[derive(Drop)]
-pub(crate) struct SelectorKey<'a> {
-    /// The selector.
-    pub selector: &'a Selector,
-}
-
-impl<'a> Model for SelectorKey<'a> {
-    ghost use Rattle.css_model.specs.Documents.SelectorParts.{SelectorParts};
-
-    ghost Value = { SelectorParts };
-
-    ghost view = { λ k. k.selector.now };
-}
-
-impl<'a> PartialEq for SelectorKey<'a> {
-    ghost use Rattle.css_model.specs.contracts.selector.SelectorPartialEq.TheImpl.Laws.{laws-law};
-
-    ghost eq = { λ a b. ⟦<Selector as PartialEq>⟧.eq a b };
-
-    ghost laws = { laws-law };
-
-    fn eq(&self, other: &SelectorKey<'a>) -> bool {
-        *self.selector == *other.selector
-    }
-}
-
-impl<'a> Eq for SelectorKey<'a> {
-    ghost use Rattle.css_model.specs.contracts.selector.SelectorEq.TheImpl.Laws.{laws-law};
-
-    ghost laws = { laws-law };
-}
-
-impl<'a> Hash for SelectorKey<'a> {
-    ghost use Rattle.std.specs.Hash.{same_Alike};
-    ghost use Rattle.css_model.proofs.ForCallers.{selector_decides};
-
-    ghost hash_input = { λ s. ⟦<Selector as Hash>⟧.hash_input s };
-
-    ghost respects_eq = { (same_Alike _ selector_decides).fed };
-
-    fn hash<H: Hasher>(&self, state: &mut H) {
-        self.selector.hash(state);
     }
 }

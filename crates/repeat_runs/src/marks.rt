@@ -10,10 +10,10 @@ ghost use Rattle.run_laws.specs.Marks.{Descends};
 ghost use Rattle.run_laws.specs.Runs as runs;
 ghost use Rattle.step_laws.specs.Sizes.{rule_weight, weight};
 
-use crate::keys::{DeclKey, SelectorKey};
+use crate::keys::DeclKey;
 use crate::seen::{Seen, see};
 use css_model::{DeclItem, Rule, SelItem};
-use rule_parts::Lengths;
+use rule_parts::{Lengths, SelectorKey};
 use saved_bytes::KnownLengths;
 use std::alloc::{AllocError, Global};
 use std::collections::HashMap;

@@ -5,6 +5,7 @@ mod copies;
 mod finding;
 mod members;
 mod sameness;
+mod selector_keys;
 mod selector_sets;
 mod weights;
 
@@ -15,6 +16,7 @@ pub use copies::{
 pub use finding::find_rule;
 pub use members::{are_decls_among, has_decl, has_selector};
 pub use sameness::is_same_decl;
+pub use selector_keys::SelectorKey;
 pub use selector_sets::are_selectors_among;
 pub use weights::{
     Lengths, common_decls_weight, decls_among_weight, decls_weight, new_selectors_weight,

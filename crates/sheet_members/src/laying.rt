@@ -14,63 +14,14 @@ ghost use Rattle.sheet_members.specs.Occurrences as spec;
 
 use crate::layer::Layer;
 use crate::occurrence::{Occurrence, Part};
-use css_model::{Bytes, DeclItem, Item, Rule, SelItem, Selector};
+use css_model::{Bytes, DeclItem, Item, Rule, SelItem};
 use media_groups::{Reading, put_head, put_piece};
 use normal_text::{normal_kept, normal_value};
+use rule_parts::SelectorKey;
 use sheet_laws::read_is_sound;
 use std::alloc::{AllocError, Global};
 use std::collections::HashSet;
-use std::hash::{Hash, Hasher};
 use std::marker::Model;
-
-/// A selector as a key of a table.
-#[derive(Drop)]
-pub(crate) struct Subject<'a> {
-    selector: &'a Selector,
-}
-
-impl<'a> Model for Subject<'a> {
-    ghost use Rattle.css_model.specs.Documents.SelectorParts.{SelectorParts};
-
-    ghost Value = { SelectorParts };
-
-    ghost view = { λ s. s.selector.now };
-}
-
-impl<'a> PartialEq for Subject<'a> {
-    ghost use Rattle.std.specs.Cmp.{decided, partial_equiv_from_equiv};
-    ghost use Rattle.css_model.proofs.ForCallers.{selector_decides};
-    ghost use Rattle.order_laws.specs.Members.{same_selector};
-
-    ghost eq = { same_selector };
-
-    ghost laws = { partial_equiv_from_equiv (decided same_selector selector_decides) };
-
-    fn eq(&self, other: &Subject<'a>) -> bool {
-        *self.selector == *other.selector
-    }
-}
-
-impl<'a> Eq for Subject<'a> {
-    ghost use Rattle.std.specs.Cmp.{decided};
-    ghost use Rattle.css_model.proofs.ForCallers.{selector_decides};
-    ghost use Rattle.order_laws.specs.Members.{same_selector};
-
-    ghost laws = { decided same_selector selector_decides };
-}
-
-impl<'a> Hash for Subject<'a> {
-    ghost use Rattle.std.specs.Hash.{same_Alike};
-    ghost use Rattle.css_model.proofs.ForCallers.{selector_decides};
-
-    ghost hash_input = { ⟦<Selector as Hash>⟧.hash_input };
-
-    ghost respects_eq = { (same_Alike ⟦<Selector as Hash>⟧.hash_input selector_decides).fed };
-
-    fn hash<H: Hasher>(&self, state: &mut H) {
-        self.selector.hash(state);
-    }
-}
 
 /// A selector of a rule, and whether it comes in its rule before.
 #[derive(Drop)]
@@ -90,13 +41,16 @@ impl<'a> Model for RuleSelector<'a> {
 
 /// Puts a selector to those before. It says whether it was among them.
 #[tactic(auto, using(crate::proofs::Repeats::was_among, crate::proofs::Repeats::selectors_with))]
-fn put_subject<'a>(before: &mut HashSet<Subject<'a>>, s: &'a SelItem) -> Result<bool, AllocError>
+fn put_selector<'a>(
+    before: &mut HashSet<SelectorKey<'a>>,
+    s: &'a SelItem,
+) -> Result<bool, AllocError>
     ensures repeats { IfOk result (λ repeated. (earlier : List css.SelItem) → AreSelectors earlier before.old.keys
         → repeated ≡ has_selector earlier s.now.selector) }
     ensures kept { OnOk result ((earlier : List css.SelItem) → AreSelectors earlier before.old.keys
         → AreSelectors (earlier ++ s.now ∷ []) before.new.keys) }
 {
-    let new = before.insert(Subject {
+    let new = before.insert(SelectorKey {
         selector: &s.selector,
     })?;
     Ok(!new)
@@ -111,10 +65,10 @@ fn with_repeats<'a>(
     ensures { IfOk result (λ found. found.items ≡ spec.with_repeats [] selectors.now) }
 {
     let mut found = Vec::with_capacity(alloc, selectors.len())?;
-    let mut before: HashSet<Subject<'_>> = HashSet::new(alloc);
+    let mut before: HashSet<SelectorKey<'_>> = HashSet::new(alloc);
     for number in 0..selectors.len() {
         let item = &selectors[number];
-        let repeated = put_subject(&mut before, item)?;
+        let repeated = put_selector(&mut before, item)?;
         found.push(RuleSelector { item, repeated })?;
     }
     Ok(found)
