@@ -4,6 +4,7 @@ ghost use Rattle.std.specs.Prelude.{◌≡◌, ◌↔◌, ℕ, ◌≤◌, ◌<�
 ghost use Rattle.std.specs.List.{remove};
 ghost use Rattle.css_model.specs.Sheets.Limits.{max_items};
 ghost use Rattle.pending_laws.specs.declared.way.Way.{Way};
+ghost use Rattle.pending_laws.specs.Scopes.{IsDown, IsUp};
 ghost use Rattle.pending_laws.specs.Ways.{IsMove, mover};
 ghost use Rattle.item_masks.specs.Masks.{item_mask};
 ghost use Rattle.order_laws.specs.Edits.{Edit, edited};
@@ -45,14 +46,15 @@ impl Model for IndexedSheet {
     ghost invariant = { λ b. AreKnown b.marked b.facts.items };
 }
 
-/// Returns the way in which an item moves in a step. `Some` comes only if the step is a join.
-fn way_of(step: &Step) -> Option<Way>
-    ensures { IfSome result (λ way. IsMove way step.now) }
+/// Returns the way in which an item moves in a step, or `None` exactly if the step is no join.
+pub fn way_of_join(step: &Step) -> Option<Way>
+    ensures join { IfSome result (λ way. IsMove way step.now) }
+    ensures none { IfNone result ((IsUp step.now → ⊥) × (IsDown step.now → ⊥)) }
 {
     match step {
         Step::JoinSelUp { .. } | Step::JoinDeclUp { .. } => Some(Way::Up),
         Step::JoinSelDown { .. } | Step::JoinDeclDown { .. } => Some(Way::Down),
-        _ => None,
+        Step::CutDecl { .. } | Step::CutSel { .. } | Step::Share { .. } => None,
     }
 }
 
@@ -180,7 +182,7 @@ impl IndexedSheet {
         ensures { IfSome result (AreTrueOfBoth self.now.items step.now) }
     {
         let (first, last) = items_of(step);
-        match way_of(step) {
+        match way_of_join(step) {
             Some(_) => Some(by_both(self.facts(first), self.facts(last))),
             None => None,
         }

@@ -11,5 +11,5 @@ mod putting;
 mod taking;
 
 pub use facts::Facts;
-pub use indexed::IndexedSheet;
+pub use indexed::{IndexedSheet, way_of_join};
 pub use marks::Mark;

@@ -22,7 +22,7 @@ ghost use Rattle.next_step.specs.Marked.{rules_of};
 ghost use Rattle.plan_laws.specs.Barrier.Hindering.{Hindrance};
 
 use crate::watching::{decl_of, put_all, selector_of};
-use indexed_sheet::IndexedSheet;
+use indexed_sheet::{IndexedSheet, way_of_join};
 use next_step::stands_from;
 use obstacles::{Obstacle, Other, PairPlace};
 use pending_laws::Way;
@@ -32,7 +32,7 @@ use rule_tables::Tables;
 use std::alloc::AllocError;
 use step_laws::Step;
 use step_queue::Barriers;
-use step_savings::rule_at;
+use step_savings::{items_of, rule_at};
 
 /// Returns `false` only if no rule has the pair at a place whose order key is at least `from` and is not `own`.
 fn pair_stands_from(
@@ -92,12 +92,11 @@ struct Barrier {
 
 /// Returns the number of the item that moves in a join, and its way, or `None` of another step.
 fn mover_of(step: &Step) -> Option<(u32, Way)> {
-    match *step {
-        Step::JoinSelUp { lower, .. } | Step::JoinDeclUp { lower, .. } => Some((lower, Way::Up)),
-        Step::JoinSelDown { upper, .. } | Step::JoinDeclDown { upper, .. } => {
-            Some((upper, Way::Down))
-        }
-        Step::CutDecl { .. } | Step::CutSel { .. } | Step::Share { .. } => None,
+    let way = way_of_join(step)?;
+    let (first, last) = items_of(step);
+    match way {
+        Way::Up => Some((last, way)),
+        Way::Down => Some((first, way)),
     }
 }
 

@@ -20,7 +20,7 @@ use step_laws::{Step, steps_rearrange};
 use step_queue::{Candidate, Queue, WatchList};
 
 /// Queues a candidate again.
-fn queue_again(queue: &mut Queue, candidate: &Candidate) -> Result<(), AllocError>
+fn reactivate(queue: &mut Queue, candidate: &Candidate) -> Result<(), AllocError>
     ensures stay { OnOk result ((l : pending.Candidate) → Contains queue.old l → Contains queue.new l) }
     ensures active { OnOk result (Contains queue.new (candidate_told candidate.now)) }
 {
@@ -28,13 +28,13 @@ fn queue_again(queue: &mut Queue, candidate: &Candidate) -> Result<(), AllocErro
 }
 
 /// Queues candidates again.
-fn queue_all_again(queue: &mut Queue, candidates: &[Candidate]) -> Result<(), AllocError>
+fn reactivate_all(queue: &mut Queue, candidates: &[Candidate]) -> Result<(), AllocError>
     ensures stay { OnOk result ((l : pending.Candidate) → Contains queue.old l → Contains queue.new l) }
     ensures active { OnOk result ((l : declared.Candidate) → Contains candidates.now l → Contains queue.new (candidate_told l)) }
 {
     let mut rest = candidates;
     'rest: while let Some((first, behind)) = rest.split_first() {
-        queue_again(queue, first)?;
+        reactivate(queue, first)?;
         rest = behind;
     }
     Ok(())
@@ -66,7 +66,7 @@ fn reactivate_pair(
     ensures active { OnOk result (spec.IsActiveUnder watched.now queue.new selector decl) }
 {
     let candidates = candidates_of(alloc, watched, selector, decl)?;
-    queue_all_again(queue, &candidates)?;
+    reactivate_all(queue, &candidates)?;
     Ok(())
 }
 

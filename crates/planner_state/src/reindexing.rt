@@ -9,24 +9,13 @@ ghost use Rattle.planner_state.specs.Reindexing.{AreReindexed};
 ghost use Rattle.step_laws.specs.Steps.{HasStep, IsStep};
 
 use crate::leaving::uncover;
-use indexed_sheet::{IndexedSheet, Mark};
+use indexed_sheet::{IndexedSheet, Mark, way_of_join};
 use pending_laws::Way;
 use queue_laws::cover_follows_joins;
 use rule_tables::Tables;
 use std::alloc::AllocError;
 use step_laws::Step;
 use step_savings::{items_of, rule_at};
-
-/// Returns the way in which an item moves in a step. `Some` comes only if the step is a join.
-fn way_of_join(step: &Step) -> Option<Way>
-    ensures { IfSome result (λ way. IsMove way step.now) }
-{
-    match step {
-        Step::JoinSelUp { .. } | Step::JoinDeclUp { .. } => Some(Way::Up),
-        Step::JoinSelDown { .. } | Step::JoinDeclDown { .. } => Some(Way::Down),
-        Step::CutDecl { .. } | Step::CutSel { .. } | Step::Share { .. } => None,
-    }
-}
 
 /// Returns the number of the item that moves in a join, and that of the item that it moves into.
 fn moved_items(way: Way, step: &Step) -> (u32, u32)

@@ -1,4 +1,5 @@
-//! The steps of a sheet that save bytes, kept up to date while steps are taken.
+//! The steps of a sheet that save bytes, kept up to date while steps are taken: for reports and `blockers`.
+//! The plan looks for its steps by `next_step` instead.
 #![tactic(auto)]
 
 mod candidates;

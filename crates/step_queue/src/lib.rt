@@ -1,4 +1,5 @@
-//! The plan of merging by candidates. One candidate stands for all steps of an item, instead of a look at each step.
+//! What a plan is made of: the queue of candidates, the watch list, barriers, and weights of rules.
+//! One candidate stands for all steps of an item, instead of a look at each step.
 #![tactic(auto)]
 
 mod barriers;

@@ -39,7 +39,7 @@ impl Queue {
         }
     }
 
-    /// Queues one more priority. The candidates stay, also after `Err(AllocError)`.
+    /// Queues one more candidate. The others stay, also after `Err(AllocError)`.
     pub fn add(&mut self, candidate: Candidate) -> Result<(), AllocError>
         ensures stay { (l : pending.Candidate) → Contains self.old l → Contains self.new l }
         ensures added { OnOk result (Contains self.new (candidate_told candidate)) }

@@ -63,6 +63,7 @@ fn bound(selector: u32, decl: u64) -> Entry
 }
 
 /// Candidates that are on the watch list under the digests of the pairs that block their steps, each there once.
+/// Entries are never taken out: a candidate that is reactivated twice is only tried twice.
 #[derive(Debug, Drop)]
 pub struct WatchList {
     entries: BTreeSet<Entry>,

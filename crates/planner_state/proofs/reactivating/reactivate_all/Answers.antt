@@ -4,13 +4,13 @@ use Rattle.std.specs.List.{Contains}
 use Rattle.step_queue.specs.Told.{candidate_told}
 use Rattle.planner_state.specs.Reactivating as spec
 use Rattle.planner_state.proofs.Members.{one_more, all_done}
-use Rattle.planner_state.proofs.reactivating.queue_all_again.Goals as goal
+use Rattle.planner_state.proofs.reactivating.reactivate_all.Goals as goal
 
 pub rest-preserved : goal.rest-preserved
 rest-preserved c = record {
-  stay = λ h among. c.in_ok-queue_again.ensures.stay h (c.rest.invariant.stay h among);
-  active = one_more (λ l. Contains c.rest.queue (candidate_told l)) (λ l. Contains c.queue_again.new.queue (candidate_told l)) c.args.candidates.now c.rest.rest.now c.in-Some.behind.now c.in-Some.first.now (search rules)
-      (λ l among. c.in_ok-queue_again.ensures.stay (candidate_told l) among) c.in_ok-queue_again.ensures.active c.rest.invariant.active;
+  stay = λ h among. c.in_ok-reactivate.ensures.stay h (c.rest.invariant.stay h among);
+  active = one_more (λ l. Contains c.rest.queue (candidate_told l)) (λ l. Contains c.reactivate.new.queue (candidate_told l)) c.args.candidates.now c.rest.rest.now c.in-Some.behind.now c.in-Some.first.now (search rules)
+      (λ l among. c.in_ok-reactivate.ensures.stay (candidate_told l) among) c.in_ok-reactivate.ensures.active c.rest.invariant.active;
 }
 
 pub returns-clause-active : goal.returns-clause-active

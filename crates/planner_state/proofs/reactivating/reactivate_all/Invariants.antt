@@ -4,7 +4,7 @@ use Rattle.pending_laws.specs.Candidates as pending
 use Rattle.step_queue.specs.Told.{candidate_told}
 use Rattle.planner_state.specs.Reactivating as spec
 use Rattle.step_queue.specs.declared.candidate.Candidate.{Candidate}
-use Rattle.planner_state.proofs.reactivating.queue_all_again.Given as goal
+use Rattle.planner_state.proofs.reactivating.reactivate_all.Given as goal
 
 -- each candidate is active, or is still to come
 abbrev pub invariant-rest : goal.invariant-rest
