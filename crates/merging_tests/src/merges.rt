@@ -198,6 +198,30 @@ fn plans_list_the_steps_that_are_left(rt: HostRuntime) {
     }
 }
 
+/// Sheets in which many rules have a declaration that weighs less than their selectors, and some have one that weighs more.
+const LIGHT: [&str; 2] = [
+    "#first{top:0;color:rebeccapurple}#second{top:0;left:0}#third{top:0;left:1px}#fourth{top:0;color:rebeccapurple}#fifth{top:0;left:2px}\
+#sixth{top:0;left:3px}#seventh{top:0;color:rebeccapurple}#eighth{top:0;left:4px}#ninth{top:0;left:5px}#tenth{top:0;left:6px}\
+#eleventh{top:0;left:7px}#twelfth{top:0;color:rebeccapurple}#last{top:0;left:8px}",
+    "#a{top:0;left:0;margin:0}#b{top:0;right:1px}#c{top:0;left:0}#d{left:0;right:2px}#e{top:0;margin:0}#f{margin:0;left:0}#g{top:0;right:3px}\
+#h{top:0;left:0}#i{margin:0;right:4px}#j{top:0;right:5px}#k{top:0;left:0;right:6px}#l{left:0;right:7px}#m{top:0;margin:0;left:0}",
+];
+
+#[test]
+fn plans_with_light_declarations_are_those_of_the_plain_loop(rt: HostRuntime) {
+    let alloc = rt.alloc();
+    for source in &LIGHT {
+        let bytes = source.as_bytes();
+        let old = sheet(&rt, alloc, bytes);
+        let mut pairs = Pairs::new(alloc, NO_LIMIT);
+        let planned = plan(alloc, &mut pairs, bytes, &old).expect(&rt, "memory");
+        let (merged, steps) = merged(&rt, alloc, bytes, old);
+        assert!(rt; planned.sheet == merged, "{source}");
+        assert_eq!(rt; planned.taken, steps, "{source}");
+        assert!(rt; 0 < steps, "{source}");
+    }
+}
+
 #[test]
 fn plans_are_those_of_the_plain_loop(rt: HostRuntime) {
     let alloc = rt.alloc();

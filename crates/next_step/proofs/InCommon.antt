@@ -73,6 +73,15 @@ module _ (v : View) (number : ℕ) (P : Step → Type 0) where
         | inr r ↦ inr r
       ]
 
+  -- some order keys are ahead no more, and their steps are covered
+  pub fewer_ahead : (found : FoundParts) (all rest less : List Reached) → ((x : ℕ) (k : Step) → IsAhead rest x → IsWith v.indexed.now number x k → P k → CoversIn v found k ⊎ IsAhead less x) → AreCoveredAhead found all rest →
+      AreCoveredAhead found all less
+  fewer_ahead found all rest less leaves before x k among with_it p = which (before x k among with_it p)
+    where
+      which : CoversIn v found k ⊎ IsAhead rest x → CoversIn v found k ⊎ IsAhead less x
+      which (inl c) = inl c
+      which (inr h) = leaves x k h with_it p
+
   pub none_left : (found : FoundParts) (all rest : List Reached) → ((k : ℕ) → IsAhead rest k → ⊥) → AreCoveredAhead found all rest →
       (x : ℕ) (k : Step) → IsAhead all x → IsWith v.indexed.now number x k → P k → CoversIn v found k
   none_left found all rest none before x k among with_it p = which (before x k among with_it p)

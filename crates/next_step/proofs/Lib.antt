@@ -7,6 +7,7 @@ mod Finding
 mod Halves
 mod Later
 mod LaterOrderKeys
+mod LeftOut
 mod LightRules
 mod Looking
 mod Masked

@@ -2,6 +2,7 @@ pub mod Common
 pub mod Halves
 pub mod Kinds
 pub mod Late
+pub mod LeftOut
 pub mod LaterOrderKeys
 pub mod Looking
 pub mod Marked

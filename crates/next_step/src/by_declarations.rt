@@ -1,6 +1,7 @@
 //! Finds the priorities of steps by declarations of a rule and others: its joins by declarations, and its shares.
 //! It goes along the order keys of the others, above the rule and below it, and ends once all the rest comes too late.
 //! `joins` tries the steps of two rules, and `shares` says what their share saves.
+//! `left_out` leaves out the lists of declarations that are too light.
 
 ghost use Rattle.std.specs.Prelude.{◌≡◌, ◌≢◌, ℕ, ◌<◌, IfSome, OnOk, Some, length, slice_get, true};
 ghost use Rattle.css_model.specs.declared.sheet.Item.TheVariants as item;
@@ -19,10 +20,12 @@ ghost use Rattle.next_step.specs.Looking.{IsWith};
 ghost use Rattle.next_step.specs.Viewed.{ArePartners, CoversIn, Grows, IsFocus, IsView};
 
 pub(crate) mod joins;
+pub(crate) mod left_out;
 pub(crate) mod shares;
 
 use crate::apart::are_apart;
 use crate::by_declarations::joins::try_by_decls;
+use crate::by_declarations::left_out::{leave_out_light, met_beside, none_left_out};
 use crate::others::{other_number, owns_none_below};
 use crate::queue::found::Found;
 use crate::too_late::by_common::is_poor;
@@ -264,13 +267,18 @@ fn try_above(
     let _marks = view.indexed.marks();
     let most = most_above(view, focus);
     let mut last = 0;
-    'order_keys: while let Some(met) = order_keys.next() {
+    let mut left = none_left_out();
+    let mut spare = 0;
+    'order_keys: loop {
+        left = leave_out_light(view, focus, found, &mut order_keys, left, &mut spare);
+        let Some(met) = order_keys.next() else {
+            return Ok(());
+        };
         if are_late_from(found, most, focus.once, focus.order_key, met.order_key) {
             return Ok(());
         }
-        try_partner(view, focus, met, &mut last, found)?;
+        try_partner(view, focus, met_beside(met, left), &mut last, found)?;
     }
-    Ok(())
 }
 
 /// Puts the priorities of the steps by declarations of the focus and items below it with these order keys, which ascend.
@@ -291,7 +299,13 @@ fn try_below(
     let _marks = view.indexed.marks();
     let most = most_below(view, focus);
     let mut last = focus.number;
-    'order_keys: while let Some(met) = order_keys.next() {
+    let mut left = none_left_out();
+    let mut spare = 0;
+    'order_keys: loop {
+        left = leave_out_light(view, focus, found, &mut order_keys, left, &mut spare);
+        let Some(met) = order_keys.next() else {
+            return Ok(());
+        };
         if are_late_from(
             found,
             most,
@@ -301,9 +315,8 @@ fn try_below(
         ) {
             return Ok(());
         }
-        try_partner(view, focus, met, &mut last, found)?;
+        try_partner(view, focus, met_beside(met, left), &mut last, found)?;
     }
-    Ok(())
 }
 
 /// Puts the priorities of the steps by declarations of the focus and other items with these order keys.

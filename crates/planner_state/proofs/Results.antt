@@ -9,6 +9,6 @@ pub if_fine : {A E P Q : Type 0} (r : Result A E) → (P → Q) → OnOk r P →
 if_fine (Ok a) on h = on h
 if_fine (Err e) on h = h
 
-pub if_three : {A E P Q R S : Type 0} (r : Result A E) → (P → Q → R → S) → OnOk r P → OnOk r Q → OnOk r R → OnOk r S
-if_three (Ok a) on p q r = on p q r
-if_three (Err e) on p q r = p
+pub if_four : {A E P Q R S T : Type 0} (r : Result A E) → (P → Q → R → S → T) → OnOk r P → OnOk r Q → OnOk r R → OnOk r S → OnOk r T
+if_four (Ok a) on p q r s = on p q r s
+if_four (Err e) on p q r s = p

@@ -30,7 +30,7 @@ item_id_at marks n m at = slice_get-map (λ (o : Mark). o.item_id) marks n ∙ a
 
 -- ---- What is put down
 
-module _ (old new : WeightParts) (w : RuleWeight) (heaviest : new.heaviest ≡ record { selectors = max old.heaviest.selectors w.selectors; decls = max old.heaviest.decls w.decls }) (once : new.once ≡ (old.once && w.once)) where
+module _ (old new : WeightParts) (w : RuleWeight) (heaviest : new.heaviest ≡ record { selectors = max old.heaviest.selectors w.selectors; decls = max old.heaviest.decls w.decls }) (once : new.once ≡ (old.once && w.once)) (plain : new.plain ≡ (old.plain && w.plain)) where
   selectors_are : new.heaviest.selectors ≡ max old.heaviest.selectors w.selectors
   selectors_are = ap (λ (h : Heaviest). h.selectors) heaviest
 
@@ -45,6 +45,7 @@ module _ (old new : WeightParts) (w : RuleWeight) (heaviest : new.heaviest ≡ r
       (let a = most.decls in let b = le-max_right old.heaviest.decls w.decls in let e = decls_are in omega (arith, a, b, e)),
     );
     once = λ told. most.once (and_parts old.once w.once (sym once ∙ told)).1;
+    plain = λ told. most.plain (and_parts old.plain w.plain (sym plain ∙ told)).1;
   }
 
   pub put_stays : (item_id : ℕ) → ((b : ℕ) → b ≢ item_id → weight_under new.each b ≡ weight_under old.each b) → Stay (λ b. b ≢ item_id) old new
@@ -53,12 +54,13 @@ module _ (old new : WeightParts) (w : RuleWeight) (heaviest : new.heaviest ≡ r
     selectors = (let b = le-max_left old.heaviest.selectors w.selectors in let e = selectors_are in omega (arith, b, e));
     decls = (let b = le-max_left old.heaviest.decls w.decls in let e = decls_are in omega (arith, b, e));
     once = λ told. (and_parts old.once w.once (sym once ∙ told)).0;
+    plain = λ told. (and_parts old.plain w.plain (sym plain ∙ told)).0;
   }
 
 -- ---- What stays
 
 pub all_stays : (Kept : ℕ → Type 0) (w : WeightParts) → Stay Kept w w
-all_stays Kept w = record { kept = λ b k. refl; selectors = omega arith; decls = omega arith; once = λ told. told }
+all_stays Kept w = record { kept = λ b k. refl; selectors = omega arith; decls = omega arith; once = λ told. told; plain = λ told. told }
 
 pub stays_on : (Kept : ℕ → Type 0) (a b c : WeightParts) → Stay Kept a b → Stay Kept b c → Stay Kept a c
 stays_on Kept a b c s t = record {
@@ -66,6 +68,7 @@ stays_on Kept a b c s t = record {
   selectors = (let x = s.selectors in let y = t.selectors in omega (arith, x, y));
   decls = (let x = s.decls in let y = t.decls in omega (arith, x, y));
   once = λ told. s.once (t.once told);
+  plain = λ told. s.plain (t.plain told);
 }
 
 pub still_weighed : (source : List ℕ) (Kept : ℕ → Type 0) (old new : WeightParts) (item_id : ℕ) (r : RuleParts) → Kept item_id → Stay Kept old new → IsWeighed source old item_id r → IsWeighed source new item_id r
@@ -76,6 +79,7 @@ still_weighed source Kept old new item_id r is s h = record {
     (let a = h.all.1 in let b = s.decls in omega (arith, a, b)),
   );
   once = λ told. h.once (s.once told);
+  plain = λ told. h.plain (s.plain told);
 }
 
 -- ---- One item
@@ -126,6 +130,7 @@ are_weighed source indexed weights marked weighed = record {
       subst (λ (k : ℕ). WeighsAtMost source r (weight_under weights.each k)) w.2 (weighed n w.0 r w.1 item_at (omega arith)).own);
   all = λ n r item_at. (one n r item_at).1.all;
   once = λ told n r item_at. (one n r item_at).1.once told;
+  plain = λ told n r item_at. (one n r item_at).1.plain told;
 }
   where
     one : (n : ℕ) (r : RuleParts) → slice_get indexed.items n ≡ Some (Rule r) → (item_id : ℕ) × IsWeighed source weights item_id r

@@ -64,4 +64,4 @@ module _ (source : List ℕ) (old new : IndexedParts) (e : Edit) (marked : IsMar
               let item_id : slice_get (item_ids_of old.marks) left.number ≡ Some m.item_id = item_id_at old.marks left.number m left.mark_at in
               let past : m.item_id < old.next = subst (λ (o : Mark). o.item_id < old.next) (get_or_from_slice_get old.marks left.number m m left.mark_at) (marked.0.past left.number m inside) in
               still_weighed source (λ b. b < old.next) w w' m.item_id r past stays
-              (record { own = weighed.each left.number m.item_id r was item_id; all = weighed.all left.number r was; once = λ told. weighed.once told left.number r was })
+              (record { own = weighed.each left.number m.item_id r was item_id; all = weighed.all left.number r was; once = λ told. weighed.once told left.number r was; plain = λ told. weighed.plain told left.number r was })

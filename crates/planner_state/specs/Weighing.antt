@@ -9,7 +9,7 @@ use Rattle.css_model.specs.Sheets.RuleParts.{RuleParts}
 use Rattle.step_queue.specs.declared.heaviest.Heaviest.{Heaviest}
 use Rattle.step_queue.specs.declared.rule_weights.RuleWeight.{RuleWeight}
 use Rattle.step_queue.specs.Once.{StandOnce}
-use Rattle.step_queue.specs.RuleWeights.{AreWeighed, WeighsAtMost, WeightParts, weight_under}
+use Rattle.step_queue.specs.RuleWeights.{ArePlain, AreWeighed, WeighsAtMost, WeightParts, weight_under}
 use Rattle.order_laws.specs.Edits.{Edit}
 use Rattle.indexed_sheet.specs.IndexedParts.{IndexedParts}
 use Rattle.indexed_sheet.specs.declared.marks.Mark.{Mark}
@@ -30,23 +30,25 @@ IsNotHeavier source h r = (weight (printed_selector source) r.selectors ≤ h.se
 -- ---- What is put down
 
 -- The weight under the item id of a rule is a bound for the rule. The heaviest weights are bounds for it too.
--- If `once` is true, it has each declaration once.
+-- If `once` is true, it has each declaration once. If `plain` is true, each of them is plain.
 pub record IsWeighed (source : List ℕ) (weights : WeightParts) (item_id : ℕ) (r : RuleParts) : Type 0 where
   pub own : WeighsAtMost source r (weight_under weights.each item_id)
   pub all : IsNotHeavier source weights.heaviest r
   pub once : weights.once ≡ true → StandOnce (λ x. x.decl) r.decls
+  pub plain : weights.plain ≡ true → ArePlain source r.decls
 
 -- so it is with the item of a number, if it is a rule that was created at `next` or later
 abbrev pub IsWeighedAt : List ℕ → ℕ → IndexedParts → WeightParts → ℕ → Type 0
 IsWeighedAt source next indexed weights n = (m : Mark) (r : RuleParts) → slice_get indexed.marks n ≡ Some m → slice_get indexed.items n ≡ Some (Rule r) → next ≤ m.item_id → IsWeighed source weights m.item_id r
 
--- The weights under some item ids stay the same. The bounds for all rules do not get smaller. If `once` is true, it was true
--- before.
+-- The weights under some item ids stay the same. The bounds for all rules do not get smaller. If `once` or `plain` is true, it was
+-- true before.
 pub record Stay (Kept : ℕ → Type 0) (old new : WeightParts) : Type 0 where
   pub kept : (b : ℕ) → Kept b → weight_under new.each b ≡ weight_under old.each b
   pub selectors : old.heaviest.selectors ≤ new.heaviest.selectors
   pub decls : old.heaviest.decls ≤ new.heaviest.decls
   pub once : new.once ≡ true → old.once ≡ true
+  pub plain : new.plain ≡ true → old.plain ≡ true
 
 -- ---- What is known before
 

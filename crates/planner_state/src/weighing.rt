@@ -29,7 +29,7 @@ use step_queue::{RuleWeight, RuleWeights, are_decls_different};
 use step_savings::items_of;
 
 /// If a rule has more declarations than this, it is not known whether it has each once.
-const MANY: usize = 64;
+const MANY: usize = 256;
 
 /// Returns `true` only if a rule has each of its declarations once.
 fn has_each_once(rule: &Rule) -> bool

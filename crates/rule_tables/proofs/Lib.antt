@@ -4,6 +4,7 @@ mod EntrySets
 mod FreePlaces
 mod OrderKeyedPairs
 mod InCommon
+mod LeftOut
 mod ListedEntries
 mod ListsUnder
 mod Numbers

@@ -50,6 +50,21 @@ AreAllAt lists order_key common = Reaches common.count (total_at (λ c. c.count)
 abbrev pub SaysTheSame : (ℕ → Type 0) → List Reached → List Reached → Type 0
 SaysTheSame Of old new = (f : Common → ℕ) (k : ℕ) → Of k → total_at f new k ≡ total_at f old k
 
+-- ---- Lists that are left out
+
+-- some declarations are no more than others, and weigh no more
+abbrev pub AreWithin : Common → Common → Type 0
+AreWithin left most = (left.count ≤ most.count) × (left.weight ≤ most.weight)
+
+-- Some lists are left out, and their declarations come to those that were left out before. An order key stays ahead, or all its
+-- declarations are left out. What the lists say of an order key no more is left out.
+pub record LeavesOut (old : List Reached) (left : Common) (new : List Reached) (now : Common) : Type 0 where
+  pub ahead : (k : ℕ) → IsAhead new k → IsAhead old k
+  pub stays : (k : ℕ) → IsAhead new k ⊎ ((total_at (λ c. c.count) new k ≡ 0) × (total_at (λ c. c.weight) new k ≡ 0))
+  pub count : (k : ℕ) → total_at (λ c. c.count) old k + left.count ≤ total_at (λ c. c.count) new k + now.count
+  pub weight : (k : ℕ) → total_at (λ c. c.weight) old k + left.weight ≤ total_at (λ c. c.weight) new k + now.weight
+  pub ascend : AllAscend old → AllAscend new
+
 -- ---- Changes
 
 -- the new lists are the old ones and another one, but for an empty one

@@ -1,6 +1,6 @@
 //! Order keys of several lists, taken one after the other as they ascend.
 
-ghost use Rattle.std.specs.Prelude.{◌≡◌, ◌≢◌, ◌↔◌, ◌+◌, ◌<◌, [], ℕ, IfNone, IfOk, IfSome, OnOk, map};
+ghost use Rattle.std.specs.Prelude.{◌≡◌, ◌≢◌, ◌↔◌, ◌+◌, ◌<◌, ◌≤◌, [], ℕ, IfNone, IfOk, IfSome, OnOk, map, true};
 ghost use Rattle.std.specs.List.Sorted.{IsStrictlyIncreasing};
 ghost use Rattle.rule_tables.specs.Ahead as spec;
 
@@ -49,14 +49,16 @@ pub(crate) fn capped_sum(one: u64, other: u64) -> u64
     one.saturating_add(other)
 }
 
-/// The declarations of both, or the greatest numbers if they are more.
-fn with(one: Common, other: Common) -> Common
-    ensures count { spec.Reaches result.count (one.count + other.count) }
-    ensures weight { spec.Reaches result.weight (one.weight + other.weight) }
-{
-    Common {
-        count: one.count.saturating_add(other.count),
-        weight: capped_sum(one.weight, other.weight),
+impl Common {
+    /// The declarations of both, or the greatest numbers if they are more.
+    pub fn with(self, other: Common) -> Common
+        ensures count { spec.Reaches result.count (self.count + other.count) }
+        ensures weight { spec.Reaches result.weight (self.weight + other.weight) }
+    {
+        Common {
+            count: self.count.saturating_add(other.count),
+            weight: capped_sum(self.weight, other.weight),
+        }
     }
 }
 
@@ -106,7 +108,7 @@ fn with_first(common: Common, listed: &Listed<'_>, order_key: u64) -> Common
     ensures { spec.GoesWith common (spec.reached listed.now) order_key result }
 {
     if starts_with(listed.order_keys, order_key) {
-        return with(common, listed.common);
+        return common.with(listed.common);
     }
     common
 }
@@ -149,6 +151,75 @@ fn pass_each(lists: &mut Vec<Listed<'_>>, order_key: u64)
     }
 }
 
+/// Whether some declarations with some more are no more than these, and weigh no more.
+fn fit_in(most: Common, left: Common, more: Common) -> bool
+    ensures { result ≡ true → spec.AreWithin (record { count = left.count + more.count; weight = left.weight + more.weight }) most }
+{
+    left.count <= most.count
+        && left.weight <= most.weight
+        && more.count <= most.count - left.count
+        && more.weight <= most.weight - left.weight
+}
+
+/// The number of the longest of the lists whose declarations may be left out too. If there is none, it is any number.
+fn longest_of(lists: &Vec<Listed<'_>>, left: Common, most: Common) -> usize {
+    let mut longest = 0;
+    let mut found = 0;
+    for number in 0..lists.len() {
+        let listed = &lists[number];
+        if longest < listed.order_keys.len() && fit_in(most, left, listed.common) {
+            longest = listed.order_keys.len();
+            found = number;
+        }
+    }
+    found
+}
+
+/// Leaves out the list of this number, if its declarations may be left out too. Returns what is left out then.
+fn leave_list(
+    lists: &mut Vec<Listed<'_>>,
+    number: usize,
+    left: Common,
+    most: Common,
+) -> Option<Common>
+    ensures leaves { IfSome result (λ now. spec.LeavesOut (map spec.reached lists.old.items) left (map spec.reached lists.new.items) now) }
+    ensures within { IfSome result (λ now. spec.AreWithin now most) }
+    ensures fewer { IfSome result (λ now. spec.count_left (map spec.reached lists.new.items) < spec.count_left (map spec.reached lists.old.items)) }
+    ensures none { IfNone result (map spec.reached lists.new.items ≡ map spec.reached lists.old.items) }
+{
+    if lists.len() <= number {
+        return None;
+    }
+    let listed = lists[number];
+    if listed.order_keys.is_empty() || !fit_in(most, left, listed.common) {
+        return None;
+    }
+    lists[number] = Listed {
+        order_keys: &[],
+        common: listed.common,
+    };
+    Some(Common {
+        count: left.count + listed.common.count,
+        weight: left.weight + listed.common.weight,
+    })
+}
+
+/// Leaves out lists, the longest first, as long as their declarations may be left out. Returns what is left out then.
+fn leave_lists(lists: &mut Vec<Listed<'_>>, left: Common, most: Common) -> Common
+    ensures leaves { spec.LeavesOut (map spec.reached lists.old.items) left (map spec.reached lists.new.items) result }
+    ensures within { spec.AreWithin left most → spec.AreWithin result most }
+    ensures no_more { spec.count_left (map spec.reached lists.new.items) ≤ spec.count_left (map spec.reached lists.old.items) }
+{
+    let mut now = left;
+    'lists: loop {
+        let number = longest_of(lists, now, most);
+        match leave_list(lists, number, now, most) {
+            Some(more) => now = more,
+            None => return now,
+        }
+    }
+}
+
 /// Order keys of several lists. Each of the lists ascends. An order key that is in two of them is taken once.
 #[derive(Debug, Drop)]
 pub struct Ahead<'a> {
@@ -186,6 +257,16 @@ impl<'a> Ahead<'a> {
         }
         self.lists.push(Listed { order_keys, common })?;
         Ok(())
+    }
+
+    /// Leaves out lists, the longest first, as long as the declarations that are left out are no more than `most`, and weigh no
+    /// more. Returns these declarations. Those of `left` were left out before.
+    pub fn leave_out(&mut self, left: Common, most: Common) -> Common
+        ensures leaves { spec.LeavesOut self.old left self.new result }
+        ensures within { spec.AreWithin left most → spec.AreWithin result most }
+        ensures no_more { spec.count_left self.new ≤ spec.count_left self.old }
+    {
+        leave_lists(&mut self.lists, left, most)
     }
 
     /// Takes out the first of the order keys that are left, or returns `None` if none is left.

@@ -13,12 +13,13 @@ use Rattle.step_queue.specs.Heaviest.{AreNotHeavier}
 use Rattle.step_queue.specs.Once.{DeclsStandOnce, StandOnce}
 use Rattle.step_laws.specs.Sizes.{weight}
 
--- Under the item id of each rule what it weighs at most, and what all of them weigh at most; and whether each rule has each
--- of its declarations once.
+-- Under the item id of each rule what it weighs at most, and what all of them weigh at most; whether each rule has each
+-- of its declarations once; and whether each declaration is plain.
 pub record WeightParts : Type 0 where
   pub each : List RuleWeight
   pub heaviest : Heaviest
   pub once : Bool
+  pub plain : Bool
 
 -- more than any rule weighs; nothing is known of its declarations
 abbrev pub unknown : RuleWeight
@@ -33,6 +34,7 @@ pub record TellsTheSame (old new : WeightParts) : Type 0 where
   pub each : (b : ℕ) → weight_under new.each b ≡ weight_under old.each b
   pub heaviest : new.heaviest ≡ old.heaviest
   pub once : new.once ≡ old.once
+  pub plain : new.plain ≡ old.plain
 
 -- how long a declaration is printed, if its property is written as it is told
 abbrev pub told_length : Decl → ℕ
@@ -57,3 +59,4 @@ pub record AreWeighed (source : List ℕ) (items : List Item) (item_ids : List �
   pub each : (n b : ℕ) (r : RuleParts) → slice_get items n ≡ Some (Rule r) → slice_get item_ids n ≡ Some b → WeighsAtMost source r (weight_under weights.each b)
   pub all : AreNotHeavier source items weights.heaviest
   pub once : weights.once ≡ true → (n : ℕ) → DeclsStandOnce items n
+  pub plain : weights.plain ≡ true → (n : ℕ) (r : RuleParts) → slice_get items n ≡ Some (Rule r) → ArePlain source r.decls

@@ -31,6 +31,7 @@ pub struct RuleWeights {
     each: Vec<RuleWeight>,
     heaviest: Heaviest,
     once: bool,
+    plain: bool,
 }
 
 impl Model for RuleWeights {
@@ -38,7 +39,7 @@ impl Model for RuleWeights {
 
     ghost Value = { WeightParts };
 
-    ghost view = { λ w. record { each = w.each.items; heaviest = w.heaviest; once = w.once } };
+    ghost view = { λ w. record { each = w.each.items; heaviest = w.heaviest; once = w.once; plain = w.plain } };
 }
 
 /// Returns the weight of a rule of which nothing is known: 2^32 - 1 bytes for each part.
@@ -96,6 +97,7 @@ impl RuleWeights {
         ensures each { result.each ≡ [] }
         ensures heaviest { result.heaviest ≡ record { selectors = 0; decls = 0 } }
         ensures once { result.once ≡ true }
+        ensures plain { result.plain ≡ true }
     {
         RuleWeights {
             each: Vec::new(alloc),
@@ -104,6 +106,7 @@ impl RuleWeights {
                 decls: 0,
             },
             once: true,
+            plain: true,
         }
     }
 
@@ -121,6 +124,13 @@ impl RuleWeights {
         self.once
     }
 
+    /// Whether `plain` was true of all weights that were put.
+    pub fn plain(&self) -> bool
+        ensures { result ≡ self.now.plain }
+    {
+        self.plain
+    }
+
     /// Returns the weight under an item id. If none is known, it is 2^32 - 1 bytes for each part, and `once` is false.
     pub fn under(&self, item_id: u32) -> RuleWeight
         ensures { result ≡ spec.weight_under self.now.each item_id }
@@ -134,6 +144,7 @@ impl RuleWeights {
         ensures own { OnOk result (spec.weight_under self.new.each item_id ≡ weight) }
         ensures others { OnOk result ((b : ℕ) → b ≢ item_id → spec.weight_under self.new.each b ≡ spec.weight_under self.old.each b) }
         ensures once { OnOk result (self.new.once ≡ self.old.once && weight.once) }
+        ensures plain { OnOk result (self.new.plain ≡ self.old.plain && weight.plain) }
         ensures heaviest { OnOk result (self.new.heaviest ≡ record { selectors = max self.old.heaviest.selectors weight.selectors; decls = max self.old.heaviest.decls weight.decls }) }
         ensures none { OnErr result (spec.TellsTheSame self.old self.new) }
     {
@@ -142,6 +153,7 @@ impl RuleWeights {
             .heaviest
             .with(u64::from(weight.selectors), u64::from(weight.decls));
         self.once = self.once && weight.once;
+        self.plain = self.plain && weight.plain;
         Ok(())
     }
 }
