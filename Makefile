@@ -39,6 +39,7 @@ bench: cssmin
 	cd crates/bench_counts && $(RT) run -- pairs </dev/null
 	python3 bench/min.py ./cssmin $(SHEETS)
 	python3 bench/slow.py ./cssmin
+	python3 bench/sites.py ./cssmin
 	python3 bench/tokens.py crates/bench_counts/out/bench_counts
 	python3 bench/pairs.py crates/bench_counts/out/bench_counts $(SHEETS)
 
