@@ -92,7 +92,7 @@ fn look_at(
 /// The next priorities in the scope of the view's candidate, and what was seen of the item whose steps they are.
 ///
 /// Each priority comes later than that of the candidate, and is that of a step in its scope that saves something. The list has
-/// at most `room` of them, and `others` may have one more. Take a step in the scope that saves something, goes past no barrier
+/// at most as many as `after` has room for, and never more than `room`. `others` may have one more. Take a step in the scope that saves something, goes past no barrier
 /// and has a later priority. Its priority is in the list, or does not come before that of `others`.
 ///
 /// `at` is the order key of the item with the item id `after.owner`. If no item has that item id, there is no priority. For each way,
@@ -108,7 +108,7 @@ pub fn next_candidates(alloc: Global, view: &View<'_>, at: u64) -> Result<Looked
     ensures few { IfOk result (λ l. length l.found.candidates ≤ room) }
     ensures seen { IfOk result (λ l. IfSome l.seen (λ s. AreTrueOf view.now.indexed.now.items s.number s.facts)) }
 {
-    let mut found = Found::new(alloc);
+    let mut found = Found::new(alloc, view.after.room);
     let _marks = view.indexed.marks();
     let Some(number) = view.indexed.number_of(at) else {
         return Ok(Looked { found, seen: None });

@@ -71,6 +71,7 @@ fn queue_alone(queue: &mut Queue, candidate: &Candidate) -> Result<(), AllocErro
 {
     queue.add(Candidate {
         scope: Scope::Alone,
+        room: 0,
         ..*candidate
     })
 }

@@ -24,7 +24,7 @@ use planner_state::Plan;
 use rule_tables::{decl_digest, selector_digest};
 use std::alloc::AllocError;
 use std::cmp::Reverse;
-use step_queue::{Candidate, Kind, Scope, WatchList};
+use step_queue::{Candidate, FIRST_ROOM, Kind, Scope, WatchList};
 use step_savings::rule_at;
 
 /// Returns the selector of this number in a rule, from 0.
@@ -119,6 +119,7 @@ fn alone(candidate: &Candidate) -> Candidate
 {
     Candidate {
         scope: Scope::Alone,
+        room: 0,
         ..*candidate
     }
 }
@@ -164,6 +165,7 @@ fn candidate_of_moves(way: Way, owner: u32) -> Candidate
         second: 0,
         owner,
         scope: scope_of(way),
+        room: FIRST_ROOM,
     }
 }
 

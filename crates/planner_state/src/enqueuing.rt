@@ -16,7 +16,7 @@ use rule_tables::Tables;
 use smallvec::SmallVec;
 use std::alloc::AllocError;
 use std::cmp::Reverse;
-use step_queue::{Candidate, Kind, Queue, Scope};
+use step_queue::{Candidate, FIRST_ROOM, Kind, Queue, Scope};
 
 /// Returns the priority that comes before all steps of the item of this item id.
 fn first_candidate(owner: u32) -> Candidate
@@ -29,6 +29,7 @@ fn first_candidate(owner: u32) -> Candidate
         second: 0,
         owner,
         scope: Scope::Owned,
+        room: FIRST_ROOM,
     }
 }
 

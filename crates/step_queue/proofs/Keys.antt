@@ -78,27 +78,27 @@ one_on x y o xs ys less over = which (exceeding x y xs ys over)
 
 -- a candidate does not come before a smaller one
 pub not_before : (a b : Candidate) → candidate_cmp a b ≡ Less → IsSooner (candidate_told b).priority (candidate_told a).priority → ⊥
-not_before a b less (inl more) = let e : Greater ≡ Less = sym (ap (λ z. ordering_then z (ordering_then (kind_cmp a.kind b.kind) (ordering_then (nat_cmp a.first b.first) (ordering_then (nat_cmp a.second b.second) (ordering_then (nat_cmp a.owner b.owner) (scope_cmp a.scope b.scope)))))) (above b.saving.0 a.saving.0 more)) ∙ less in absurd (cc)
+not_before a b less (inl more) = let e : Greater ≡ Less = sym (ap (λ z. ordering_then z (ordering_then (kind_cmp a.kind b.kind) (ordering_then (nat_cmp a.first b.first) (ordering_then (nat_cmp a.second b.second) (ordering_then (nat_cmp a.owner b.owner) (ordering_then (scope_cmp a.scope b.scope) (nat_cmp a.room b.room))))))) (above b.saving.0 a.saving.0 more)) ∙ less in absurd (cc)
 not_before a b less (inr (equal, over)) = false≢true last.1
   where
-    by_kind : ordering_then (kind_cmp a.kind b.kind) (ordering_then (nat_cmp a.first b.first) (ordering_then (nat_cmp a.second b.second) (ordering_then (nat_cmp a.owner b.owner) (scope_cmp a.scope b.scope)))) ≡ Less
-    by_kind = sym (ap (λ z. ordering_then z (ordering_then (kind_cmp a.kind b.kind) (ordering_then (nat_cmp a.first b.first) (ordering_then (nat_cmp a.second b.second) (ordering_then (nat_cmp a.owner b.owner) (scope_cmp a.scope b.scope)))))) (same b.saving.0 a.saving.0 equal)) ∙ less
+    by_kind : ordering_then (kind_cmp a.kind b.kind) (ordering_then (nat_cmp a.first b.first) (ordering_then (nat_cmp a.second b.second) (ordering_then (nat_cmp a.owner b.owner) (ordering_then (scope_cmp a.scope b.scope) (nat_cmp a.room b.room))))) ≡ Less
+    by_kind = sym (ap (λ z. ordering_then z (ordering_then (kind_cmp a.kind b.kind) (ordering_then (nat_cmp a.first b.first) (ordering_then (nat_cmp a.second b.second) (ordering_then (nat_cmp a.owner b.owner) (ordering_then (scope_cmp a.scope b.scope) (nat_cmp a.room b.room))))))) (same b.saving.0 a.saving.0 equal)) ∙ less
 
-    by_number : ordering_then (nat_cmp (kind_number a.kind) (kind_number b.kind)) (ordering_then (nat_cmp a.first b.first) (ordering_then (nat_cmp a.second b.second) (ordering_then (nat_cmp a.owner b.owner) (scope_cmp a.scope b.scope)))) ≡ Less
-    by_number = subst (λ (z : Ordering). ordering_then z (ordering_then (nat_cmp a.first b.first) (ordering_then (nat_cmp a.second b.second) (ordering_then (nat_cmp a.owner b.owner) (scope_cmp a.scope b.scope)))) ≡ Less) (kinds_compare a.kind b.kind) by_kind
+    by_number : ordering_then (nat_cmp (kind_number a.kind) (kind_number b.kind)) (ordering_then (nat_cmp a.first b.first) (ordering_then (nat_cmp a.second b.second) (ordering_then (nat_cmp a.owner b.owner) (ordering_then (scope_cmp a.scope b.scope) (nat_cmp a.room b.room))))) ≡ Less
+    by_number = subst (λ (z : Ordering). ordering_then z (ordering_then (nat_cmp a.first b.first) (ordering_then (nat_cmp a.second b.second) (ordering_then (nat_cmp a.owner b.owner) (ordering_then (scope_cmp a.scope b.scope) (nat_cmp a.room b.room))))) ≡ Less) (kinds_compare a.kind b.kind) by_kind
 
     ranks : exceeds (kind_number a.kind ∷ a.first ∷ a.second ∷ []) (kind_number b.kind ∷ b.first ∷ b.second ∷ []) ≡ true
     ranks = subst (λ (xs : List ℕ). exceeds xs (kind_number b.kind ∷ b.first ∷ b.second ∷ []) ≡ true) (rank_of a.kind a.first a.second)
         (subst (λ (ys : List ℕ). exceeds (rank (step_of_kind a.kind a.first a.second)) ys ≡ true) (rank_of b.kind b.first b.second) over)
 
-    firsts : (ordering_then (nat_cmp a.first b.first) (ordering_then (nat_cmp a.second b.second) (ordering_then (nat_cmp a.owner b.owner) (scope_cmp a.scope b.scope))) ≡ Less) × (exceeds (a.first ∷ a.second ∷ []) (b.first ∷ b.second ∷ []) ≡ true)
-    firsts = one_on (kind_number a.kind) (kind_number b.kind) (ordering_then (nat_cmp a.first b.first) (ordering_then (nat_cmp a.second b.second) (ordering_then (nat_cmp a.owner b.owner) (scope_cmp a.scope b.scope)))) (a.first ∷ a.second ∷ []) (b.first ∷ b.second ∷ []) by_number ranks
+    firsts : (ordering_then (nat_cmp a.first b.first) (ordering_then (nat_cmp a.second b.second) (ordering_then (nat_cmp a.owner b.owner) (ordering_then (scope_cmp a.scope b.scope) (nat_cmp a.room b.room)))) ≡ Less) × (exceeds (a.first ∷ a.second ∷ []) (b.first ∷ b.second ∷ []) ≡ true)
+    firsts = one_on (kind_number a.kind) (kind_number b.kind) (ordering_then (nat_cmp a.first b.first) (ordering_then (nat_cmp a.second b.second) (ordering_then (nat_cmp a.owner b.owner) (ordering_then (scope_cmp a.scope b.scope) (nat_cmp a.room b.room))))) (a.first ∷ a.second ∷ []) (b.first ∷ b.second ∷ []) by_number ranks
 
-    next : (ordering_then (nat_cmp a.second b.second) (ordering_then (nat_cmp a.owner b.owner) (scope_cmp a.scope b.scope)) ≡ Less) × (exceeds (a.second ∷ []) (b.second ∷ []) ≡ true)
-    next = one_on a.first b.first (ordering_then (nat_cmp a.second b.second) (ordering_then (nat_cmp a.owner b.owner) (scope_cmp a.scope b.scope))) (a.second ∷ []) (b.second ∷ []) firsts.0 firsts.1
+    next : (ordering_then (nat_cmp a.second b.second) (ordering_then (nat_cmp a.owner b.owner) (ordering_then (scope_cmp a.scope b.scope) (nat_cmp a.room b.room))) ≡ Less) × (exceeds (a.second ∷ []) (b.second ∷ []) ≡ true)
+    next = one_on a.first b.first (ordering_then (nat_cmp a.second b.second) (ordering_then (nat_cmp a.owner b.owner) (ordering_then (scope_cmp a.scope b.scope) (nat_cmp a.room b.room)))) (a.second ∷ []) (b.second ∷ []) firsts.0 firsts.1
 
-    last : (ordering_then (nat_cmp a.owner b.owner) (scope_cmp a.scope b.scope) ≡ Less) × (exceeds [] [] ≡ true)
-    last = one_on a.second b.second (ordering_then (nat_cmp a.owner b.owner) (scope_cmp a.scope b.scope)) [] [] next.0 next.1
+    last : (ordering_then (nat_cmp a.owner b.owner) (ordering_then (scope_cmp a.scope b.scope) (nat_cmp a.room b.room)) ≡ Less) × (exceeds [] [] ≡ true)
+    last = one_on a.second b.second (ordering_then (nat_cmp a.owner b.owner) (ordering_then (scope_cmp a.scope b.scope) (nat_cmp a.room b.room))) [] [] next.0 next.1
 
 -- ---- Candidates that are told apart
 
@@ -109,25 +109,27 @@ then_equal Greater p e = absurd (cc)
 
 pub same_candidate : (a b : Candidate) → candidate_cmp a b ≡ Equal → a ≡ b
 same_candidate a b e =
-    let s = then_equal (nat_cmp b.saving.0 a.saving.0) (ordering_then (kind_cmp a.kind b.kind) (ordering_then (nat_cmp a.first b.first) (ordering_then (nat_cmp a.second b.second) (ordering_then (nat_cmp a.owner b.owner) (scope_cmp a.scope b.scope))))) e in
-    let k = then_equal (kind_cmp a.kind b.kind) (ordering_then (nat_cmp a.first b.first) (ordering_then (nat_cmp a.second b.second) (ordering_then (nat_cmp a.owner b.owner) (scope_cmp a.scope b.scope)))) s.1 in
-    let f = then_equal (nat_cmp a.first b.first) (ordering_then (nat_cmp a.second b.second) (ordering_then (nat_cmp a.owner b.owner) (scope_cmp a.scope b.scope))) k.1 in
-    let g = then_equal (nat_cmp a.second b.second) (ordering_then (nat_cmp a.owner b.owner) (scope_cmp a.scope b.scope)) f.1 in
-    let o = then_equal (nat_cmp a.owner b.owner) (scope_cmp a.scope b.scope) g.1 in
+    let s = then_equal (nat_cmp b.saving.0 a.saving.0) (ordering_then (kind_cmp a.kind b.kind) (ordering_then (nat_cmp a.first b.first) (ordering_then (nat_cmp a.second b.second) (ordering_then (nat_cmp a.owner b.owner) (ordering_then (scope_cmp a.scope b.scope) (nat_cmp a.room b.room)))))) e in
+    let k = then_equal (kind_cmp a.kind b.kind) (ordering_then (nat_cmp a.first b.first) (ordering_then (nat_cmp a.second b.second) (ordering_then (nat_cmp a.owner b.owner) (ordering_then (scope_cmp a.scope b.scope) (nat_cmp a.room b.room))))) s.1 in
+    let f = then_equal (nat_cmp a.first b.first) (ordering_then (nat_cmp a.second b.second) (ordering_then (nat_cmp a.owner b.owner) (ordering_then (scope_cmp a.scope b.scope) (nat_cmp a.room b.room)))) k.1 in
+    let g = then_equal (nat_cmp a.second b.second) (ordering_then (nat_cmp a.owner b.owner) (ordering_then (scope_cmp a.scope b.scope) (nat_cmp a.room b.room))) f.1 in
+    let o = then_equal (nat_cmp a.owner b.owner) (ordering_then (scope_cmp a.scope b.scope) (nat_cmp a.room b.room)) g.1 in
+    let r = then_equal (scope_cmp a.scope b.scope) (nat_cmp a.room b.room) o.1 in
     let saving : a.saving.0 ≡ b.saving.0 = sym (is_same b.saving.0 a.saving.0 s.0) in
     let kind : a.kind ≡ b.kind = same_kind a.kind b.kind (is_same (kind_number a.kind) (kind_number b.kind) (sym (kinds_compare a.kind b.kind) ∙ k.0)) in
     let first : a.first ≡ b.first = is_same a.first b.first f.0 in
     let second : a.second ≡ b.second = is_same a.second b.second g.0 in
     let owner : a.owner ≡ b.owner = is_same a.owner b.owner o.0 in
-    let scope : a.scope ≡ b.scope = same_scope a.scope b.scope (is_same (scope_number a.scope) (scope_number b.scope) (sym (scopes a.scope b.scope) ∙ o.1)) in
-    made saving kind first second owner scope
+    let scope : a.scope ≡ b.scope = same_scope a.scope b.scope (is_same (scope_number a.scope) (scope_number b.scope) (sym (scopes a.scope b.scope) ∙ r.0)) in
+    let room : a.room ≡ b.room = is_same a.room b.room r.1 in
+    made saving kind first second owner scope room
   where
-    make : ℕ → Kind → (first second owner : ℕ) → Scope → Candidate
-    make saving kind first second owner scope = record { saving = record { 0 = saving }; kind = kind; first = first; second = second; owner = owner; scope = scope }
+    make : ℕ → Kind → (first second owner : ℕ) → Scope → ℕ → Candidate
+    make saving kind first second owner scope room = record { saving = record { 0 = saving }; kind = kind; first = first; second = second; owner = owner; scope = scope; room = room }
 
-    made : {s s' f f' g g' o o' : ℕ} {k k' : Kind} {b b' : Scope} → s ≡ s' → k ≡ k' → f ≡ f' → g ≡ g' → o ≡ o' → b ≡ b' → make s k f g o b ≡ make s' k' f' g' o' b'
-    made {s = s} {s' = s'} {f = f} {f' = f'} {g = g} {g' = g'} {o = o} {o' = o'} {k = k} {k' = k'} {b = b} {b' = b'} hs hk hf hg ho hb =
-        ap₂ (λ x y. make x y f g o b) hs hk ∙ ap₂ (λ x y. make s' k' x y o b) hf hg ∙ ap₂ (make s' k' f' g') ho hb
+    made : {s s' f f' g g' o o' r r' : ℕ} {k k' : Kind} {b b' : Scope} → s ≡ s' → k ≡ k' → f ≡ f' → g ≡ g' → o ≡ o' → b ≡ b' → r ≡ r' → make s k f g o b r ≡ make s' k' f' g' o' b' r'
+    made {s = s} {s' = s'} {f = f} {f' = f'} {g = g} {g' = g'} {o = o} {o' = o'} {r = r} {r' = r'} {k = k} {k' = k'} {b = b} {b' = b'} hs hk hf hg ho hb hr =
+        ap₂ (λ x y. make x y f g o b r) hs hk ∙ ap₂ (λ x y. make s' k' x y o b r) hf hg ∙ ap₂ (λ x y. make s' k' f' g' x y r) ho hb ∙ ap (make s' k' f' g' o' b') hr
 
 pub same_told : (a b : Candidate) → candidate_cmp a b ≡ Equal → candidate_told a ≡ candidate_told b
 same_told a b e = ap candidate_told (same_candidate a b e)

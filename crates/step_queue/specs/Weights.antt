@@ -11,7 +11,7 @@ weight_of saving numbers = 0
 
 -- how many candidates may stand alone instead of one that is passed, beside the next one that stands for others
 abbrev pub room : ℕ
-room = 8
+room = 512
 
 -- whether a candidate stands for its own step alone
 abbrev pub is_alone : Scope → Bool

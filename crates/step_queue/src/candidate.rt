@@ -1,6 +1,6 @@
 //! Candidates.
 
-ghost use Rattle.std.specs.Prelude.{◌≡◌, ◌+◌, ◌<◌, ◌^◌, false};
+ghost use Rattle.std.specs.Prelude.{◌≡◌, ◌+◌, ◌*◌, ◌<◌, ◌≤◌, ◌^◌, false};
 ghost use Rattle.step_queue.specs.Told.{candidate_told};
 ghost use Rattle.step_queue.specs.Weights as weights;
 ghost use Rattle.step_queue.specs.Weights.{is_alone, room, weight};
@@ -23,7 +23,10 @@ pub enum Scope {
 }
 
 /// How many candidates are queued alone, at most, instead of one that is passed.
-pub const ROOM: usize = 8;
+pub const ROOM: u16 = 512;
+
+/// How many candidates are queued alone, at most, instead of the first one of an item that is passed.
+pub const FIRST_ROOM: u16 = 8;
 
 /// A candidate: a priority, and whose steps it stands for. Candidates are ordered as their priorities come.
 #[derive(Clone, Copy, Debug, PartialEq, Eq, PartialOrd, Ord, Drop)]
@@ -40,9 +43,24 @@ pub struct Candidate {
     pub owner: u32,
     /// Which of them it stands for.
     pub scope: Scope,
+    /// How many candidates may be queued alone instead of it, if it stands for others.
+    pub room: u16,
 }
 
 impl Candidate {
+    /// Returns how many candidates may be queued alone instead of the next one of the same item: twice as many as instead of this
+    /// one, up to `ROOM`.
+    pub fn next_room(&self) -> u16
+        ensures twice { self.now.room < room → result ≡ 2 * self.now.room }
+        ensures same { room ≤ self.now.room → result ≡ self.now.room }
+    {
+        if self.room < ROOM {
+            self.room * 2
+        } else {
+            self.room
+        }
+    }
+
     /// Whether it stands for its own step alone.
     pub fn is_alone(&self) -> bool
         ensures { result ≡ weights.is_alone (candidate_told self.now).scope }

@@ -11,7 +11,7 @@ mod rule_weights;
 mod watch_list;
 
 pub use barriers::Barriers;
-pub use candidate::{Candidate, ROOM, Scope, later_weighs_less};
+pub use candidate::{Candidate, FIRST_ROOM, ROOM, Scope, later_weighs_less};
 pub use doubles::are_decls_different;
 pub use heaviest::Heaviest;
 pub use queue::Queue;

@@ -54,6 +54,7 @@ fn bound(selector: u32, decl: u64) -> Entry
         second: 0,
         owner: 0,
         scope: Scope::Owned,
+        room: 0,
     };
     Entry {
         selector,

@@ -20,6 +20,8 @@ pub struct Found {
     pub candidates: Vec<Candidate>,
     /// If more were found, one of these. None of the priorities that were left out comes before it.
     pub others: Option<Candidate>,
+    /// How many of them there may be, while more are found.
+    most: u16,
 }
 
 impl Model for Found {
@@ -104,11 +106,12 @@ fn put_sooner(candidates: &mut Vec<Candidate>, candidate: Candidate) -> Candidat
     }
 }
 
-/// Puts a candidate among others. If there is no room, it returns one of them all that goes.
+/// Puts a candidate among at most so many others, and no more than `ROOM`. If there is no room, it returns one of them all that goes.
 /// `Err(AllocError)` if memory is short.
 fn put_among(
     candidates: &mut Vec<Candidate>,
     candidate: Candidate,
+    most: u16,
 ) -> Result<Option<Candidate>, AllocError>
     ensures few { length candidates.old.items ≤ room → length candidates.new.items ≤ room }
     ensures stay { IfOk result (λ late. (l : declared.Candidate) → Contains candidates.old.items l → Contains candidates.new.items l ⊎ (late ≡ Some l)) }
@@ -116,21 +119,26 @@ fn put_among(
     ensures only { OnOk result ((l : declared.Candidate) → Contains candidates.new.items l → Contains candidates.old.items l ⊎ (l ≡ candidate)) }
     ensures was { IfOk result (λ late. IfSome late (λ l. Contains candidates.old.items l ⊎ (l ≡ candidate))) }
 {
-    if candidates.len() < ROOM {
+    let count = candidates.len();
+    if count < usize::from(most) && count < usize::from(ROOM) {
         candidates.push(candidate)?;
         return Ok(None);
+    }
+    if count == 0 {
+        return Ok(Some(candidate));
     }
     Ok(Some(put_sooner(candidates, candidate)))
 }
 
 impl Found {
-    /// Returns priorities of which none was found.
-    pub(crate) fn new(alloc: Global) -> Found
+    /// Returns priorities of which none was found. Of those that are found it keeps so many at most, and no more than `ROOM`.
+    pub(crate) fn new(alloc: Global, most: u16) -> Found
         ensures { result ≡ record { candidates = []; others = None } }
     {
         Found {
             candidates: Vec::new(alloc),
             others: None,
+            most,
         }
     }
 
@@ -145,7 +153,7 @@ impl Found {
         if is_behind(&self.others, &candidate) {
             return Ok(());
         }
-        if let Some(late) = put_among(&mut self.candidates, candidate)? {
+        if let Some(late) = put_among(&mut self.candidates, candidate, self.most)? {
             self.others = sooner_of(self.others, late);
         }
         Ok(())

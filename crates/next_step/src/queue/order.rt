@@ -80,5 +80,6 @@ pub(crate) fn candidate_of(view: &View<'_>, step: &Step, saving: u32) -> Candida
         second: last_name(view.indexed, kind, second),
         owner: view.after.owner,
         scope: view.after.scope,
+        room: view.after.next_room(),
     }
 }

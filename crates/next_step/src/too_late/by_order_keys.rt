@@ -36,6 +36,7 @@ pub(crate) fn most_behind(
         second,
         owner: other.owner,
         scope: other.scope,
+        room: other.room,
     };
     if !is_sooner(&soonest, other) {
         return Some(u64::from(saving));
