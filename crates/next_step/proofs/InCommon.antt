@@ -1,12 +1,9 @@
 -- Declarations that two rules have in common, as the tables tell them.
-use Rattle.std.proofs.Common.{◌≡◌, ◌⊎◌, ℕ, suc, ◌+◌, ◌<◌, ◌≤◌, List, [], ◌∷◌, Some, length, map, subst, inl, inr, arith}
-use Rattle.std.specs.Prelude.{slice_get}
+use Rattle.std.proofs.Common.{◌≡◌, ◌⊎◌, ℕ, suc, ◌+◌, ◌<◌, ◌≤◌, List, [], ◌∷◌, length, map, subst, inl, inr, arith}
 use Rattle.std.specs.List.{Contains}
 use Rattle.std.proofs.lemmas.Bool.{cases_lt}
-use Rattle.css_model.specs.declared.sheet.Item.TheVariants.{Rule}
 use Rattle.css_model.specs.Sheets.Limits.{max_bytes}
 use Rattle.css_model.specs.Sheets.Printed.{printed_declaration}
-use Rattle.css_model.specs.Sheets.RuleParts.{RuleParts}
 use Rattle.indexed_sheet.specs.MarkList.{AreMarks}
 use Rattle.order_laws.specs.Members.{has_decl}
 use Rattle.rule_tables.proofs.ForCallers.{passes_few, passes_light, reaches_through}

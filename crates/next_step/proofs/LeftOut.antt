@@ -1,5 +1,5 @@
 -- Declarations that are left out while partners are looked for.
-use Rattle.std.proofs.Common.{◌≡◌, ◌≢◌, ◌⊎◌, ℕ, ◌+◌, ◌<◌, ◌≤◌, ◌^◌, List, Some, length, refl, sym, subst, inl, inr, arith, true}
+use Rattle.std.proofs.Common.{◌≡◌, ◌⊎◌, ℕ, ◌+◌, ◌<◌, ◌≤◌, ◌^◌, List, Some, refl, subst, inl, inr, arith, true}
 use Rattle.std.specs.Prelude.{slice_get, slice_index}
 use Rattle.std.proofs.lemmas.Bool.{cases_lt}
 use Rattle.css_model.specs.declared.sheet.Item.TheVariants.{Rule}
@@ -12,7 +12,6 @@ use Rattle.rule_tables.specs.declared.ahead.Common.{Common}
 use Rattle.step_laws.specs.declared.step.Step.{Step}
 use Rattle.step_laws.specs.declared.step.Step.TheVariants.{Share}
 use Rattle.step_laws.specs.Steps.{first_item, last_item}
-use Rattle.step_savings.specs.Apart.{RulesApart}
 use Rattle.next_step.specs.Common.{AreInCommonAt, IsPlain, KeepsAtLeast, TellCommon}
 use Rattle.next_step.specs.Kinds.{IsByDecls}
 use Rattle.next_step.specs.LeftOut.{AreTooLight, LeavesLight, TellCommonBeside}

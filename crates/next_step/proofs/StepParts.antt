@@ -14,7 +14,6 @@ use Rattle.step_kinds.proofs.ForCallers.{made_of, kind_is, first_is, second_is}
 use Rattle.indexed_sheet.specs.declared.marks.Mark.{Mark}
 use Rattle.plan_laws.specs.Cover.{Priority}
 use Rattle.step_laws.specs.declared.step.Step.{Step}
-use Rattle.step_laws.specs.declared.step.Step.TheVariants.{CutDecl, CutSel, JoinSelUp, JoinSelDown, JoinDeclUp, JoinDeclDown, Share}
 use Rattle.step_laws.specs.Steps.{HasStep, first_item, last_item}
 use Rattle.step_savings.proofs.ForCallers.{first_rule, last_rule}
 use Rattle.indexed_sheet.specs.MarkList.{order_keys_of}

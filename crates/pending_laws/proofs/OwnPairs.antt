@@ -1,5 +1,5 @@
 -- Pairs that no other rule has: no part of such a rule can be cut, and the rules that a step makes of such rules have such pairs.
-use Rattle.std.proofs.Common.{◌≡◌, ◌≢◌, ◌⊎◌, ℕ, zero, suc, ◌+◌, ◌<◌, Bool, true, false, List, [], ◌∷◌, ◌++◌, length, map, Some, None, refl, sym, ap, ap₂, ◌∙◌, subst, inl, inr, arith}
+use Rattle.std.proofs.Common.{◌≡◌, ◌≢◌, ◌⊎◌, ℕ, zero, suc, ◌+◌, ◌<◌, Bool, true, List, [], ◌∷◌, ◌++◌, length, map, Some, None, refl, sym, ap, ap₂, ◌∙◌, subst, inl, inr, arith}
 use Rattle.std.specs.Prelude.{not, slice_get, take}
 use Rattle.std.specs.List.{AllPairs, Contains, filter, remove}
 use Rattle.std.proofs.lemmas.Bool.{cond_both, false≢true}

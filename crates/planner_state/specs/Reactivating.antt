@@ -1,5 +1,5 @@
 -- What is queued again where pairs are moved.
-use Rattle.std.specs.Prelude.{ℕ, true, List}
+use Rattle.std.specs.Prelude.{ℕ, List}
 use Rattle.std.specs.List.{Contains}
 use Rattle.css_model.specs.declared.sheet.Decl.{Decl}
 use Rattle.css_model.specs.Documents.SelectorParts.{SelectorParts}

@@ -1,4 +1,4 @@
-use Rattle.std.proofs.Common.{◌≡◌, List, map, refl, ap, sym, subst, ◌∙◌}
+use Rattle.std.proofs.Common.{List, map, refl, ap, sym, subst, ◌∙◌}
 use Rattle.std.specs.List.{Contains}
 use Rattle.css_model.specs.declared.sheet.SelItem.{SelItem}
 use Rattle.css_model.specs.Sheets.RuleParts.{RuleParts}

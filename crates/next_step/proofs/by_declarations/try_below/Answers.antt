@@ -3,9 +3,8 @@ use Rattle.std.proofs.lemmas.Bool.{cases_eq}
 use Rattle.rule_tables.specs.Ahead.{IsAhead}
 use Rattle.next_step.specs.Common.{AreInCommonAt}
 use Rattle.next_step.specs.Kinds.{IsByDecls}
-use Rattle.next_step.specs.LeftOut.{LeavesLight}
 use Rattle.next_step.proofs.DeclLate.{rest_below}
-use Rattle.next_step.proofs.InCommon.{AreCoveredAhead, fewer_ahead, none_left, one_more, rest_covered}
+use Rattle.next_step.proofs.InCommon.{fewer_ahead, none_left, one_more, rest_covered}
 use Rattle.next_step.proofs.LeftOut.{tells_beside, tells_met, tells_same_beside}
 use Rattle.next_step.proofs.Looking.{grows_both, grows_itself}
 use Rattle.next_step.proofs.by_declarations.try_below.Goals as goal

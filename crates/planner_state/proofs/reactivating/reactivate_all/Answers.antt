@@ -2,7 +2,6 @@ use Rattle.std.proofs.Common.{rules}
 use Rattle.std.proofs.lemmas.List.{nil_from_length}
 use Rattle.std.specs.List.{Contains}
 use Rattle.step_queue.specs.Told.{candidate_told}
-use Rattle.planner_state.specs.Reactivating as spec
 use Rattle.planner_state.proofs.Members.{one_more, all_done}
 use Rattle.planner_state.proofs.reactivating.reactivate_all.Goals as goal
 

@@ -2,7 +2,6 @@ use Rattle.std.proofs.Common.{◌⊎◌, length}
 use Rattle.std.specs.List.{Contains}
 use Rattle.pending_laws.specs.Candidates as pending
 use Rattle.step_queue.specs.Told.{candidate_told}
-use Rattle.planner_state.specs.Reactivating as spec
 use Rattle.step_queue.specs.declared.candidate.Candidate.{Candidate}
 use Rattle.planner_state.proofs.reactivating.reactivate_all.Given as goal
 

@@ -1,4 +1,4 @@
-use Rattle.std.proofs.Common.{◌≡◌, ◌+◌, ◌-◌, ◌<◌, ℕ, ap, arith, inl, length}
+use Rattle.std.proofs.Common.{◌+◌, ◌-◌, ◌<◌, ap, arith, inl, length}
 use Rattle.next_step.specs.Looking.{FoundParts}
 use Rattle.next_step.proofs.Later.{found_late}
 use Rattle.next_step.proofs.LeftOut.{are_too_light}
