@@ -11,12 +11,13 @@ use Rattle.css_model.specs.declared.sheet.Item.TheVariants.{Rule}
 use Rattle.css_model.specs.Sheets.Limits.{max_bytes}
 use Rattle.css_model.specs.Sheets.Sheet.{sheet_of}
 use Rattle.pending_laws.specs.Scopes.{Downs}
-use Rattle.pending_laws.specs.Ways.{IsMove, scope_of}
+use Rattle.pending_laws.specs.Ways.{moves_decl, moves_to, scope_of, IsMove, MovesPairs}
 use Rattle.pending_laws.specs.declared.way.Way.TheVariants.{Down, Up}
 use Rattle.merge_steps.specs.Standing.{is_decl_again, is_decl_elsewhere}
 use Rattle.order_laws.specs.Edits.{edited}
 use Rattle.plan_laws.specs.Window.Beside.{beside_end, beside_first}
 use Rattle.planner_state.specs.Enqueuing.{first_candidate}
+use Rattle.queue_laws.specs.IndexedBarriers.{moves_number}
 use Rattle.rule_tables.specs.Entries.{entry}
 use Rattle.step_laws.specs.declared.step.Step.TheVariants as steps
 use Rattle.step_laws.specs.RuleParting.{rule_or_none}
@@ -101,6 +102,40 @@ growth_is_counted = refl
 share_moves_no_item : (x y : ℕ) → IsMove Up (steps.Share x y) → ⊥
 share_moves_no_item x y moves = moves
 
+-- but it moves pairs of its upper item down
+share_moves_pairs_down : (x y : ℕ) → MovesPairs Down (steps.Share x y)
+share_moves_pairs_down x y = tt
+
+abbrev three_rules : List Item
+three_rules = one a_class top ∷ one b_class left ∷ rule (b_class ∷ []) (red ∷ top ∷ []) ∷ []
+
+-- those whose declaration the lower rule has, too
+both_have_the_declaration : moves_decl three_rules (steps.Share 0 2) top ≡ true
+both_have_the_declaration = refl
+
+lower_rule_lacks_the_declaration : moves_decl three_rules (steps.Share 0 1) top ≡ false
+lower_rule_lacks_the_declaration = refl
+
+join_moves_all_pairs : moves_decl three_rules (steps.JoinDeclDown 0 1) top ≡ true
+join_moves_all_pairs = refl
+
+-- the same by the number of the declaration in the upper rule
+second_declaration_is_shared : moves_number (rule (b_class ∷ []) (red ∷ top ∷ []) ∷ one a_class top ∷ []) (steps.Share 0 1) 1 ≡ true
+second_declaration_is_shared = refl
+
+first_declaration_is_not_shared : moves_number (rule (b_class ∷ []) (red ∷ top ∷ []) ∷ one a_class top ∷ []) (steps.Share 0 1) 0 ≡ false
+first_declaration_is_not_shared = refl
+
+-- a rule that lacks the declaration has no share that moves it
+share_is_among_the_moves : moves_to three_rules top Down 0 2 ≡ steps.JoinSelDown 0 2 ∷ steps.JoinDeclDown 0 2 ∷ steps.Share 0 2 ∷ []
+share_is_among_the_moves = refl
+
+no_share_is_among_the_moves : moves_to three_rules top Down 0 1 ≡ steps.JoinSelDown 0 1 ∷ steps.JoinDeclDown 0 1 ∷ []
+no_share_is_among_the_moves = refl
+
+nothing_is_shared_upwards : moves_to three_rules top Up 2 0 ≡ steps.JoinSelUp 0 2 ∷ steps.JoinDeclUp 0 2 ∷ []
+nothing_is_shared_upwards = refl
+
 -- in a join by selectors only the receiver is left out of what is looked at
 receiver_alone_is_left_out : beside_first (steps.JoinSelUp 1 4) ≡ 2
 receiver_alone_is_left_out = refl
@@ -110,7 +145,7 @@ mover_is_looked_at = refl
 
 -- ---- Candidates
 
--- all joins of an item down are on the watch list at once
+-- all steps that move pairs of an item down are on the watch list at once
 downs_go_together : scope_of Down ≡ Downs
 downs_go_together = refl
 

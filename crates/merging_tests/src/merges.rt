@@ -8,6 +8,8 @@ use merge_steps::Step;
 use merge_text::merge_text;
 use overlap::Pairs;
 use sheet_order::BlockCause;
+use std::alloc::Global;
+use std::process::Abort;
 use step_obstacles::PairObstacles;
 use trial_gen::make_sheet;
 
@@ -207,18 +209,41 @@ const LIGHT: [&str; 2] = [
 #h{top:0;left:0}#i{margin:0;right:4px}#j{top:0;right:5px}#k{top:0;left:0;right:6px}#l{left:0;right:7px}#m{top:0;margin:0;left:0}",
 ];
 
+/// Sheets in which shares of a rule are blocked by a rule right behind it. In the second one and in the last one this rule goes.
+const BARRED: [&str; 3] = [
+    ".aa{width:16px;top:1px;left:1px}.bb{height:16px;top:1px}.cc{width:16px;top:1px}@x;.dd{width:16px;left:1px}.ee{height:16px;left:1px}\
+.ff{width:16px;top:1px;left:1px}.gg{top:1px;left:1px}",
+    ".aa{width:16px;top:1px}.bb{height:16px;left:1px}.cc{width:16px;left:2px}.dd{width:16px;bottom:3px}.aa{width:16px;left:3px}\
+.ee{height:16px;top:4px}.bb{height:16px;bottom:5px}.ff{width:16px;right:6px}",
+    ".uu{width:calc(100% - 123456789px);top:1px}.bb{height:1px}.ll{width:calc(100% - 123456789px);left:1px}\
+.kk{width:calc(100% - 123456789px);bottom:1px}.mm{top:2px}.bb{height:1px}",
+];
+
+/// The plan of a sheet takes the steps of the plain loop, and some.
+fn assert_plain(rt: &impl Abort, alloc: Global, source: &str) {
+    let bytes = source.as_bytes();
+    let old = sheet(rt, alloc, bytes);
+    let mut pairs = Pairs::new(alloc, NO_LIMIT);
+    let planned = plan(alloc, &mut pairs, bytes, &old).expect(rt, "memory");
+    let (merged, steps) = merged(rt, alloc, bytes, old);
+    assert!(rt; planned.sheet == merged, "{source}");
+    assert_eq!(rt; planned.taken, steps, "{source}");
+    assert!(rt; 0 < steps, "{source}");
+}
+
 #[test]
 fn plans_with_light_declarations_are_those_of_the_plain_loop(rt: HostRuntime) {
     let alloc = rt.alloc();
     for source in &LIGHT {
-        let bytes = source.as_bytes();
-        let old = sheet(&rt, alloc, bytes);
-        let mut pairs = Pairs::new(alloc, NO_LIMIT);
-        let planned = plan(alloc, &mut pairs, bytes, &old).expect(&rt, "memory");
-        let (merged, steps) = merged(&rt, alloc, bytes, old);
-        assert!(rt; planned.sheet == merged, "{source}");
-        assert_eq!(rt; planned.taken, steps, "{source}");
-        assert!(rt; 0 < steps, "{source}");
+        assert_plain(&rt, alloc, source);
+    }
+}
+
+#[test]
+fn plans_with_blocked_shares_are_those_of_the_plain_loop(rt: HostRuntime) {
+    let alloc = rt.alloc();
+    for source in &BARRED {
+        assert_plain(&rt, alloc, source);
     }
 }
 

@@ -25,6 +25,7 @@ mod Results
 mod Rules
 mod SelectorJoins
 mod Sharing
+mod SharesPast
 mod FromOrderKey
 mod StepParts
 mod Telling

@@ -91,15 +91,16 @@ fn look_at(
 
 /// The next priorities in the scope of the view's candidate, and what was seen of the item whose steps they are.
 ///
-/// Each priority comes later than that of the candidate, and is that of a step in its scope that saves something. The list has
-/// at most as many as `after` has room for, and never more than `room`. `others` may have one more. Take a step in the scope that saves something, goes past no barrier
-/// and has a later priority. Its priority is in the list, or does not come before that of `others`.
+/// Each priority comes later than that of the candidate, and is that of a step in its scope that saves something. The list has at most
+/// as many as `after` has room for, and never more than `room`. `others` may have one more. Take a step in the scope that saves
+/// something, goes past no barrier and has a later priority. Its priority is in the list, or does not come before that of `others`.
 ///
 /// `at` is the order key of the item with the item id `after.owner`. If no item has that item id, there is no priority. For each way,
-/// `barriers` has the order key of an item's barrier under the item's item id. Joins of the item up into items above the barrier, and down into
-/// items below it, are past it. The tables cover the rules of the sheet, with the order keys of their items. No rule weighs more
-/// than `weights` say. `Err(AllocError)` if memory is short. The time is that of the item's parts and of the rules with one of
-/// its declarations or with all of its selectors, as far as their steps may come soon enough.
+/// `barriers` has an item's barrier under the item's item id. Joins of the item up into items above the item of the barrier, and down
+/// into items below it, are past it. So are shares with items below it that move the declaration of the barrier. The tables cover the
+/// rules of the sheet, with the order keys of their items. No rule weighs more than `weights` say. `Err(AllocError)` if memory is
+/// short. The time is that of the item's parts and of the rules with one of its declarations or with all of its selectors, as far as
+/// their steps may come soon enough.
 pub fn next_candidates(alloc: Global, view: &View<'_>, at: u64) -> Result<Looked, AllocError>
     requires view { IsView view.now }
     requires at { (n : ℕ) → slice_get (item_ids_of view.now.indexed.now.marks) n ≡ Some view.now.after.now.owner → slice_get (order_keys_of view.now.indexed.now.marks) n ≡ Some at }

@@ -1,5 +1,5 @@
 -- Items that cannot move past others: behind a step, and what is hindered.
-use Rattle.std.proofs.Common.{◌≡◌, ◌≢◌, ℕ, zero, suc, ◌+◌, ◌-◌, ◌<◌, ◌≤◌, false, List, [], ◌∷◌, ◌++◌, length, take, refl, sym, ap, ◌∙◌, subst, arith}
+use Rattle.std.proofs.Common.{◌≡◌, ◌≢◌, ℕ, zero, suc, ◌+◌, ◌-◌, ◌<◌, ◌≤◌, false, true, List, [], ◌∷◌, ◌++◌, length, take, refl, sym, ap, ◌∙◌, subst, arith}
 use Rattle.std.specs.List.{AllByRecursion}
 use Rattle.std.proofs.lemmas.List.{length-append}
 use Rattle.std.proofs.lemmas.Option.{slice_get_within}
@@ -9,15 +9,17 @@ use Rattle.css_model.specs.Cascade.Order.{Pair}
 use Rattle.order_laws.specs.Edits.{instead, is_moved, slots_from, Change, Edit, edited}
 use Rattle.order_laws.specs.Slots.{new_items}
 use Rattle.step_laws.specs.declared.step.Step.{Step}
+use Rattle.step_laws.specs.declared.step.Step.TheVariants.{CutDecl, CutSel, JoinSelUp, JoinSelDown, JoinDeclUp, JoinDeclDown, Share}
 use Rattle.step_laws.specs.Free.{Answered, AreNotApart}
-use Rattle.step_laws.specs.Steps.{IsStep, last_item}
+use Rattle.step_laws.specs.Steps.{IsStep, first_item, last_item}
 use Rattle.plan_laws.specs.Barrier.Hindering.{OfPair, Hinders}
 use Rattle.plan_laws.specs.Barrier.Renumbering.{Leaves, new_number}
 use Rattle.plan_laws.specs.Barrier.Barriers.{IsLowerBarrier}
 use Rattle.pending_laws.specs.declared.way.Way.{Way}
 use Rattle.pending_laws.specs.declared.way.Way.TheVariants.{Up, Down}
-use Rattle.pending_laws.specs.Barred.{above_behind, below_behind, HasBarrierBelow, HasBarrierAbove, LowerBarredJoinsAreHindered, LowerBarriersGoOn, IsBarredBy, PartsStay, BarredJoinsAreHindered, BarriersGoOn}
-use Rattle.pending_laws.specs.Ways.{mover, partner, IsMove, IsPast}
+use Rattle.pending_laws.specs.Barred.{above_behind, below_behind, HasBarrierBelow, HasBarrierAbove, LowerBarredJoinsAreHindered, LowerBarredSharesAreHindered, LowerBarriersGoOn, IsBarredBy, PartsStay, BarredJoinsAreHindered, BarriersGoOn}
+use Rattle.pending_laws.specs.Scopes.{IsDown, IsDownward, IsUp}
+use Rattle.pending_laws.specs.Ways.{mover, moves_decl, partner, IsPast, MovesPairs}
 use Rattle.pending_laws.proofs.Elsewhere.{left_alone}
 
 -- ---- New numbers
@@ -113,20 +115,42 @@ barred_on stay barriers lower_barriers Down items j d is m place p q leaves plac
 
 -- ---- What is hindered
 
-module _ (answers : List Answered) (items : List Item) (m place : ℕ) (p q : Pair) (apart : AreNotApart answers p.selector q.selector) (k : Step) (e : Edit) (is : IsStep items k e) where
-  up_hindered : BarredJoinsAreHindered → HasBarrierAbove items m place p q → IsMove Up k → mover Up k ≡ m → IsPast Up place (partner Up k) → Hinders answers items e (OfPair p q)
-  up_hindered law w up moves past =
+module _ (answers : List Answered) (items : List Item) (m place : ℕ) (p q : Pair) (apart : AreNotApart answers p.selector q.selector) where
+  up_hindered : BarredJoinsAreHindered → HasBarrierAbove items m place p q → (k : Step) (e : Edit) → IsStep items k e → IsUp k → last_item k ≡ m → first_item k < place → Hinders answers items e (OfPair p q)
+  up_hindered law w k e is up moves past =
       subst (λ (xs : List Item). Hinders answers xs e (OfPair p q)) (sym w.parts)
-      (law answers w.above w.below w.y w.lower p q w.barrier apart k e (subst (λ (xs : List Item). IsStep xs k e) w.parts is) up (subst (λ (n : ℕ). partner Up k < n) w.place_is past) (moves ∙ w.mover_is))
+      (law answers w.above w.below w.y w.lower p q w.barrier apart k e (subst (λ (xs : List Item). IsStep xs k e) w.parts is) up (subst (λ (n : ℕ). first_item k < n) w.place_is past) (moves ∙ w.mover_is))
 
-  down_hindered : LowerBarredJoinsAreHindered → HasBarrierBelow items m place p q → IsMove Down k → mover Down k ≡ m → IsPast Down place (partner Down k) → Hinders answers items e (OfPair p q)
-  down_hindered law w down moves past =
-      let less : place < last_item k = past in
-      let last : suc place ≡ length w.above = w.place_is in
-      subst (λ (xs : List Item). Hinders answers xs e (OfPair p q)) (sym w.parts)
-      (law answers w.above w.below m w.upper p q w.lower_barrier apart w.lacks k e (last_item k - length w.above) (subst (λ (xs : List Item). IsStep xs k e) w.parts is) down moves (omega (arith, less, last)))
+  module _ (joins : LowerBarredJoinsAreHindered) (shares : LowerBarredSharesAreHindered) (w : HasBarrierBelow items m place p q) where
+    -- the number in the lower part of an item past the other one
+    number : (l : ℕ) → place < l → l ≡ length w.above + (l - length w.above)
+    number l less = let last : suc place ≡ length w.above = w.place_is in omega (arith, less, last)
 
-pub moves_hindered : BarredJoinsAreHindered → LowerBarredJoinsAreHindered → (answers : List Answered) (way : Way) (items : List Item) (m place : ℕ) (p q : Pair) → IsBarredBy way items m place p q →
-    AreNotApart answers p.selector q.selector → (k : Step) (e : Edit) → IsStep items k e → IsMove way k → mover way k ≡ m → IsPast way place (partner way k) → Hinders answers items e (OfPair p q)
-moves_hindered barriers lower_barriers answers Up items m place p q w apart k e is moves by past = up_hindered answers items m place p q apart k e is barriers w moves by past
-moves_hindered barriers lower_barriers answers Down items m place p q w apart k e is moves by past = down_hindered answers items m place p q apart k e is lower_barriers w moves by past
+    join_hindered : (k : Step) (e : Edit) → IsStep items k e → IsDown k → first_item k ≡ m → place < last_item k → Hinders answers items e (OfPair p q)
+    join_hindered k e is down moves past =
+        subst (λ (xs : List Item). Hinders answers xs e (OfPair p q)) (sym w.parts)
+        (joins answers w.above w.below m w.upper p q w.lower_barrier apart w.lacks k e (last_item k - length w.above) (subst (λ (xs : List Item). IsStep xs k e) w.parts is) down moves (number (last_item k) past))
+
+    share_hindered : (x l : ℕ) (e : Edit) → IsStep items (Share x l) e → moves_decl items (Share x l) p.decl ≡ true → x ≡ m → place < l → Hinders answers items e (OfPair p q)
+    share_hindered x l e is decl moves past =
+        subst (λ (xs : List Item). Hinders answers xs e (OfPair p q)) (sym w.parts)
+        (shares answers w.above w.below m w.upper p q w.lower_barrier apart w.lacks e (l - length w.above)
+        (subst (λ (k : Step). IsStep (w.above ++ w.below) k e) same (subst (λ (xs : List Item). IsStep xs (Share x l) e) w.parts is))
+        (subst (λ (k : Step). moves_decl (w.above ++ w.below) k p.decl ≡ true) same (subst (λ (xs : List Item). moves_decl xs (Share x l) p.decl ≡ true) w.parts decl)))
+      where
+        same : Share x l ≡ Share m (length w.above + (l - length w.above))
+        same = ap (λ (n : ℕ). Share n l) moves ∙ ap (λ (n : ℕ). Share m n) (number l past)
+
+    down_hindered : (k : Step) (e : Edit) → IsStep items k e → IsDownward k → moves_decl items k p.decl ≡ true → first_item k ≡ m → place < last_item k → Hinders answers items e (OfPair p q)
+    down_hindered (JoinSelDown x l) e is down decl moves past = join_hindered (JoinSelDown x l) e is tt moves past
+    down_hindered (JoinDeclDown x l) e is down decl moves past = join_hindered (JoinDeclDown x l) e is tt moves past
+    down_hindered (Share x l) e is down decl moves past = share_hindered x l e is decl moves past
+    down_hindered (CutDecl n i) e is down decl moves past = absurd down
+    down_hindered (CutSel n i) e is down decl moves past = absurd down
+    down_hindered (JoinSelUp x l) e is down decl moves past = absurd down
+    down_hindered (JoinDeclUp x l) e is down decl moves past = absurd down
+
+pub moves_hindered : BarredJoinsAreHindered → LowerBarredJoinsAreHindered → LowerBarredSharesAreHindered → (answers : List Answered) (way : Way) (items : List Item) (m place : ℕ) (p q : Pair) → IsBarredBy way items m place p q →
+    AreNotApart answers p.selector q.selector → (k : Step) (e : Edit) → IsStep items k e → MovesPairs way k → moves_decl items k p.decl ≡ true → mover way k ≡ m → IsPast way place (partner way k) → Hinders answers items e (OfPair p q)
+moves_hindered barriers lower_barriers shares answers Up items m place p q w apart k e is moves decl by past = up_hindered answers items m place p q apart barriers w k e is moves by past
+moves_hindered barriers lower_barriers shares answers Down items m place p q w apart k e is moves decl by past = down_hindered answers items m place p q apart lower_barriers shares w k e is moves decl by past

@@ -1,16 +1,17 @@
--- The priorities of all joins that a barrier hinders.
-use Rattle.std.proofs.Common.{◌≡◌, ◌⊎◌, ℕ, zero, suc, ◌+◌, ◌-◌, ◌<◌, ◌≤◌, List, [], ◌∷◌, length, refl, sym, ap, ◌∙◌, subst, inl, inr, arith}
-use Rattle.std.specs.Prelude.{slice_index}
+-- The priorities of all steps that a barrier hinders.
+use Rattle.std.proofs.Common.{◌≡◌, ◌⊎◌, ℕ, zero, suc, ◌+◌, ◌-◌, ◌<◌, ◌≤◌, Bool, true, false, if◌then◌else◌, List, [], ◌∷◌, length, refl, sym, ap, ap₂, ◌∙◌, subst, inl, inr, arith}
+use Rattle.std.specs.Prelude.{slice_get, slice_index}
 use Rattle.std.specs.List.{Contains, flat_map}
-use Rattle.std.proofs.lemmas.Bool.{cases_lt}
+use Rattle.std.proofs.lemmas.Bool.{cases_lt, cond-true}
 use Rattle.std.proofs.lemmas.Option.{slice_get_within}
 use Rattle.std.proofs.lemmas.List.{length-append}
+use Rattle.css_model.specs.declared.sheet.Decl.{Decl}
 use Rattle.css_model.specs.declared.sheet.Item.{Item}
 use Rattle.css_model.specs.declared.sheet.Item.TheVariants.{Rule}
 use Rattle.css_model.specs.Cascade.Order.{Pair}
 use Rattle.list_facts.proofs.Members.{Contains-here, Contains-there, Contains-nil, Contains-cons_cases}
 use Rattle.order_laws.specs.Edits.{Edit}
-use Rattle.order_laws.proofs.ForCallers.{flat_map_has, flat_map_from}
+use Rattle.order_laws.proofs.ForCallers.{flat_map_has, flat_map_from, map_has, map_from}
 use Rattle.plan_laws.specs.Cover.{Priority}
 use Rattle.step_laws.specs.declared.step.Step.{Step}
 use Rattle.step_laws.specs.declared.step.Step.TheVariants.{CutDecl, CutSel, JoinSelUp, JoinSelDown, JoinDeclUp, JoinDeclDown, Share}
@@ -23,9 +24,10 @@ use Rattle.pending_laws.specs.ItemIds.{AreItemIds}
 use Rattle.pending_laws.specs.declared.way.Way.{Way}
 use Rattle.pending_laws.specs.declared.way.Way.TheVariants.{Up, Down}
 use Rattle.pending_laws.specs.Priorities.{named}
+use Rattle.pending_laws.specs.Scopes.{IsDownward, IsUp}
 use Rattle.pending_laws.specs.Barred.{IsBarredBy, BarredMovesAreHindered}
-use Rattle.pending_laws.specs.BarredPriorities.{moves_of, numbers_from, numbers_past, barred_priorities}
-use Rattle.pending_laws.specs.Ways.{decl_move, mover, partner, selector_move, IsMove, IsPast}
+use Rattle.pending_laws.specs.BarredPriorities.{numbers_from, numbers_past, barred_priorities, watched_as, watched_is}
+use Rattle.pending_laws.specs.Ways.{is_rule_with, mover, moves_decl, moves_to, partner, IsPast, MovesPairs}
 use Rattle.pending_laws.proofs.Created.{within}
 
 -- ---- Numbers past one
@@ -62,118 +64,161 @@ past_is Down place count n inside among =
 
 -- ---- What is among the priorities
 
--- the priority is that of a join of an item into another one, that saves so much
-pub record IsMovePriority (item_ids : List ℕ) (by : Hindrance) (way : Way) (m place count : ℕ) (a : Watched) : Type 0 where
+-- the priority is that of a step from an item to another one, that saves so much
+pub record IsMovePriority (items : List Item) (item_ids : List ℕ) (by : Hindrance) (d : Decl) (way : Way) (m place : ℕ) (a : Watched) : Type 0 where
   pub o : ℕ
   pub n : ℕ
-  pub past : Contains (numbers_past way place count) o
+  pub step : Step
+  pub past : Contains (numbers_past way place (length items)) o
+  pub move : Contains (moves_to items d way m o) step
   pub by_is : by ≡ a.by
-  pub priority_is : (a.priority ≡ named item_ids n (selector_move way m o)) ⊎ (a.priority ≡ named item_ids n (decl_move way m o))
+  pub priority_is : a.priority ≡ named item_ids n step
 
-abbrev by_selectors : List ℕ → Hindrance → Way → (m o n : ℕ) → Watched
-by_selectors item_ids by way m o n = record { priority = named item_ids n (selector_move way m o); by = by }
+move_priority : (items : List Item) (item_ids : List ℕ) (by : Hindrance) (d : Decl) (way : Way) (m place most : ℕ) (a : Watched) → Contains (barred_priorities items item_ids by d way m place most) a →
+    IsMovePriority items item_ids by d way m place a
+move_priority items item_ids by d way m place most a among =
+    let w : (o : ℕ) × Contains (numbers_past way place (length items)) o × Contains (flat_map (watched_as item_ids by (moves_to items d way m o)) (numbers_from 0 (suc most))) a =
+    flat_map_from (λ (o : ℕ). flat_map (watched_as item_ids by (moves_to items d way m o)) (numbers_from 0 (suc most))) (numbers_past way place (length items)) a among in
+    let v : (n : ℕ) × Contains (numbers_from 0 (suc most)) n × Contains (watched_as item_ids by (moves_to items d way m w.0) n) a = flat_map_from (watched_as item_ids by (moves_to items d way m w.0)) (numbers_from 0 (suc most)) a w.2 in
+    let u : (k : Step) × Contains (moves_to items d way m w.0) k × (watched_is item_ids by v.0 k ≡ a) = map_from (watched_is item_ids by v.0) (moves_to items d way m w.0) a v.2 in
+    record { o = w.0; n = v.0; step = u.0; past = w.1; move = u.1; by_is = ap (λ (b : Watched). b.by) u.2; priority_is = sym (ap (λ (b : Watched). b.priority) u.2) }
 
-abbrev by_decls : List ℕ → Hindrance → Way → (m o n : ℕ) → Watched
-by_decls item_ids by way m o n = record { priority = named item_ids n (decl_move way m o); by = by }
+-- ---- Which steps these are
 
-move_priority : (item_ids : List ℕ) (by : Hindrance) (way : Way) (m place count most : ℕ) (a : Watched) → Contains (barred_priorities item_ids by way m place count most) a → IsMovePriority item_ids by way m place count a
-move_priority item_ids by way m place count most a among =
-    let w : (o : ℕ) × Contains (numbers_past way place count) o × Contains (flat_map (moves_of item_ids by way m o) (numbers_from 0 (suc most))) a =
-    flat_map_from (λ (o : ℕ). flat_map (moves_of item_ids by way m o) (numbers_from 0 (suc most))) (numbers_past way place count) a among in
-    let v : (n : ℕ) × Contains (numbers_from 0 (suc most)) n × Contains (moves_of item_ids by way m w.0 n) a = flat_map_from (moves_of item_ids by way m w.0) (numbers_from 0 (suc most)) a w.2 in
-    which w.0 v.0 w.1 (Contains-cons_cases (by_selectors item_ids by way m w.0 v.0) (by_decls item_ids by way m w.0 v.0 ∷ []) a v.2)
+-- one of them from an item to another one: of a share, the other rule has the declaration
+pub record IsMoveTo (items : List Item) (d : Decl) (way : Way) (m o : ℕ) (k : Step) : Type 0 where
+  pub move : MovesPairs way k
+  pub moves : mover way k ≡ m
+  pub into : partner way k ≡ o
+  pub decl : moves_decl items k d ≡ true
+
+one_of_two : (x y k : Step) → Contains (x ∷ y ∷ []) k → (x ≡ k) ⊎ (y ≡ k)
+one_of_two x y k among = which (Contains-cons_cases x (y ∷ []) k among)
   where
-    last : (o n : ℕ) → Contains (numbers_past way place count) o → (by_decls item_ids by way m o n ≡ a) ⊎ Contains [] a → IsMovePriority item_ids by way m place count a
-    last o n past (inl e) = record { o = o; n = n; past = past; by_is = ap (λ (b : Watched). b.by) e; priority_is = inr (sym (ap (λ (b : Watched). b.priority) e)) }
-    last o n past (inr none) = absurd (Contains-nil a none)
+    last : (y ≡ k) ⊎ Contains [] k → (x ≡ k) ⊎ (y ≡ k)
+    last (inl e) = inr e
+    last (inr none) = absurd (Contains-nil k none)
 
-    which : (o n : ℕ) → Contains (numbers_past way place count) o → (by_selectors item_ids by way m o n ≡ a) ⊎ Contains (by_decls item_ids by way m o n ∷ []) a → IsMovePriority item_ids by way m place count a
-    which o n past (inl e) = record { o = o; n = n; past = past; by_is = ap (λ (b : Watched). b.by) e; priority_is = inl (sym (ap (λ (b : Watched). b.priority) e)) }
-    which o n past (inr h) = last o n past (Contains-cons_cases (by_decls item_ids by way m o n) [] a h)
+    which : (x ≡ k) ⊎ Contains (y ∷ []) k → (x ≡ k) ⊎ (y ≡ k)
+    which (inl e) = inl e
+    which (inr h) = last (Contains-cons_cases y [] k h)
 
--- ---- A step with the names of such a join is one
-
-pub record IsLike (item_ids : List ℕ) (way : Way) (m o : ℕ) (k : Step) : Type 0 where
-  pub move : IsMove way k
-  pub moves : slice_index item_ids m ≡ slice_index item_ids (mover way k)
-  pub into : slice_index item_ids o ≡ slice_index item_ids (partner way k)
-
-module _ (item_ids : List ℕ) (m o : ℕ) where
-  abbrev named_step : Step → Step
-  named_step k = renumbered (λ n. slice_index item_ids n) k
-
-  selectors_up : (k : Step) → named_step (JoinSelUp o m) ≡ named_step k → IsLike item_ids Up m o k
-  selectors_up (JoinSelUp u l) same = record { move = tt; moves = (let e : slice_index item_ids m ≡ slice_index item_ids l = cc in e); into = (let e : slice_index item_ids o ≡ slice_index item_ids u = cc in e) }
-  selectors_up k same = absurd (cc)
-
-  decls_up : (k : Step) → named_step (JoinDeclUp o m) ≡ named_step k → IsLike item_ids Up m o k
-  decls_up (JoinDeclUp u l) same = record { move = tt; moves = (let e : slice_index item_ids m ≡ slice_index item_ids l = cc in e); into = (let e : slice_index item_ids o ≡ slice_index item_ids u = cc in e) }
-  decls_up k same = absurd (cc)
-
-  selectors_down : (k : Step) → named_step (JoinSelDown m o) ≡ named_step k → IsLike item_ids Down m o k
-  selectors_down (JoinSelDown u l) same = record { move = tt; moves = (let e : slice_index item_ids m ≡ slice_index item_ids u = cc in e); into = (let e : slice_index item_ids o ≡ slice_index item_ids l = cc in e) }
-  selectors_down k same = absurd (cc)
-
-  decls_down : (k : Step) → named_step (JoinDeclDown m o) ≡ named_step k → IsLike item_ids Down m o k
-  decls_down (JoinDeclDown u l) same = record { move = tt; moves = (let e : slice_index item_ids m ≡ slice_index item_ids u = cc in e); into = (let e : slice_index item_ids o ≡ slice_index item_ids l = cc in e) }
-  decls_down k same = absurd (cc)
-
-  is_like : (way : Way) (k : Step) → (named_step (selector_move way m o) ≡ named_step k) ⊎ (named_step (decl_move way m o) ≡ named_step k) → IsLike item_ids way m o k
-  is_like Up k (inl e) = selectors_up k e
-  is_like Up k (inr e) = decls_up k e
-  is_like Down k (inl e) = selectors_down k e
-  is_like Down k (inr e) = decls_down k e
-
-priority_is_like : (item_ids : List ℕ) (by : Hindrance) (way : Way) (m place count : ℕ) (a : Watched) (t : IsMovePriority item_ids by way m place count a) (k : Step) (n : ℕ) → a.priority ≡ named item_ids n k → IsLike item_ids way m t.o k
-priority_is_like item_ids by way m place count a t k n same = is_like item_ids m t.o way k (which t.priority_is)
+if_it_has : (b : Bool) (k j : Step) → Contains (if b then k ∷ [] else []) j → (b ≡ true) × (k ≡ j)
+if_it_has true k j among = which (Contains-cons_cases k [] j among)
   where
-    which : (a.priority ≡ named item_ids t.n (selector_move way m t.o)) ⊎ (a.priority ≡ named item_ids t.n (decl_move way m t.o)) →
-        (named_step item_ids m t.o (selector_move way m t.o) ≡ named_step item_ids m t.o k) ⊎ (named_step item_ids m t.o (decl_move way m t.o) ≡ named_step item_ids m t.o k)
-    which (inl e) = inl (ap (λ (u : Priority). u.step) (sym e ∙ same))
-    which (inr e) = inr (ap (λ (u : Priority). u.step) (sym e ∙ same))
+    which : (k ≡ j) ⊎ Contains [] j → (true ≡ true) × (k ≡ j)
+    which (inl e) = (refl, e)
+    which (inr none) = absurd (Contains-nil j none)
+if_it_has false k j among = absurd (Contains-nil j among)
 
-pub are_moves : (item_ids : List ℕ) (by : Hindrance) (way : Way) (m place count most : ℕ) (a : Watched) → Contains (barred_priorities item_ids by way m place count most) a →
-    (by ≡ a.by) × ((k : Step) (n : ℕ) → a.priority ≡ named item_ids n k → IsMove way k × (slice_index item_ids m ≡ slice_index item_ids (mover way k)))
-are_moves item_ids by way m place count most a among =
-    let t : IsMovePriority item_ids by way m place count a = move_priority item_ids by way m place count most a among in
-    (t.by_is, λ k n same. (let l : IsLike item_ids way m t.o k = priority_is_like item_ids by way m place count a t k n same in (l.move, l.moves)))
+module _ (items : List Item) (d : Decl) (m o : ℕ) where
+  -- the share, if there is one
+  abbrev shares : List Step
+  shares = if is_rule_with (slice_get items o) d then Share m o ∷ [] else []
 
--- ---- Each such join is among them
+  is_move_to : (way : Way) (k : Step) → Contains (moves_to items d way m o) k → IsMoveTo items d way m o k
+  is_move_to Up k among = which (one_of_two (JoinSelUp o m) (JoinDeclUp o m) k among)
+    where
+      which : (JoinSelUp o m ≡ k) ⊎ (JoinDeclUp o m ≡ k) → IsMoveTo items d Up m o k
+      which (inl e) = subst (IsMoveTo items d Up m o) e (record { move = tt; moves = refl; into = refl; decl = refl })
+      which (inr e) = subst (IsMoveTo items d Up m o) e (record { move = tt; moves = refl; into = refl; decl = refl })
+  is_move_to Down k among = first (Contains-cons_cases (JoinSelDown m o) (JoinDeclDown m o ∷ shares) k among)
+    where
+      shared : (is_rule_with (slice_get items o) d ≡ true) × (Share m o ≡ k) → IsMoveTo items d Down m o k
+      shared (has, e) = subst (IsMoveTo items d Down m o) e (record { move = tt; moves = refl; into = refl; decl = has })
 
--- it is the one by selectors or the one by declarations
-move_is : (way : Way) (k : Step) → IsMove way k → (k ≡ selector_move way (mover way k) (partner way k)) ⊎ (k ≡ decl_move way (mover way k) (partner way k))
-move_is Up (JoinSelUp x y) up = inl refl
-move_is Up (JoinDeclUp x y) up = inr refl
-move_is Up (CutDecl n i) up = absurd up
-move_is Up (CutSel n i) up = absurd up
-move_is Up (JoinSelDown x y) up = absurd up
-move_is Up (JoinDeclDown x y) up = absurd up
-move_is Up (Share x y) up = absurd up
-move_is Down (JoinSelDown x y) down = inl refl
-move_is Down (JoinDeclDown x y) down = inr refl
-move_is Down (CutDecl n i) down = absurd down
-move_is Down (CutSel n i) down = absurd down
-move_is Down (JoinSelUp x y) down = absurd down
-move_is Down (JoinDeclUp x y) down = absurd down
-move_is Down (Share x y) down = absurd down
+      second : (JoinDeclDown m o ≡ k) ⊎ Contains shares k → IsMoveTo items d Down m o k
+      second (inl e) = subst (IsMoveTo items d Down m o) e (record { move = tt; moves = refl; into = refl; decl = refl })
+      second (inr h) = shared (if_it_has (is_rule_with (slice_get items o) d) (Share m o) k h)
 
-pub joins_barred : (item_ids : List ℕ) (by : Hindrance) (way : Way) (m place count most : ℕ) (k : Step) (n : ℕ) → IsMove way k → mover way k ≡ m → partner way k < count → IsPast way place (partner way k) → n ≤ most →
-    Contains (barred_priorities item_ids by way m place count most) (record { priority = named item_ids n k; by = by })
-joins_barred item_ids by way m place count most k n move moves inside past few = which (move_is way k move)
+      first : (JoinSelDown m o ≡ k) ⊎ Contains (JoinDeclDown m o ∷ shares) k → IsMoveTo items d Down m o k
+      first (inl e) = subst (IsMoveTo items d Down m o) e (record { move = tt; moves = refl; into = refl; decl = refl })
+      first (inr h) = second (Contains-cons_cases (JoinDeclDown m o) shares k h)
+
+  down_is_there : (k : Step) → IsDownward k → first_item k ≡ m → last_item k ≡ o → moves_decl items k d ≡ true → Contains (moves_to items d Down m o) k
+  down_is_there (JoinSelDown x y) down first last decl = subst (Contains (moves_to items d Down m o)) (ap₂ JoinSelDown (sym first) (sym last))
+      (Contains-here (JoinSelDown m o) (JoinDeclDown m o ∷ shares))
+  down_is_there (JoinDeclDown x y) down first last decl = subst (Contains (moves_to items d Down m o)) (ap₂ JoinDeclDown (sym first) (sym last))
+      (Contains-there (JoinSelDown m o) (JoinDeclDown m o ∷ shares) (JoinDeclDown m o) (Contains-here (JoinDeclDown m o) shares))
+  down_is_there (Share x y) down first last decl =
+      let has : is_rule_with (slice_get items o) d ≡ true = ap (λ (n : ℕ). is_rule_with (slice_get items n) d) (sym last) ∙ decl in
+      subst (Contains (moves_to items d Down m o)) (ap₂ Share (sym first) (sym last))
+      (Contains-there (JoinSelDown m o) (JoinDeclDown m o ∷ shares) (Share m o) (Contains-there (JoinDeclDown m o) shares (Share m o)
+      (subst (λ (ks : List Step). Contains ks (Share m o)) (sym (cond-true (is_rule_with (slice_get items o) d) (Share m o ∷ []) [] has)) (Contains-here (Share m o) []))))
+  down_is_there (CutDecl n i) down first last decl = absurd down
+  down_is_there (CutSel n i) down first last decl = absurd down
+  down_is_there (JoinSelUp x y) down first last decl = absurd down
+  down_is_there (JoinDeclUp x y) down first last decl = absurd down
+
+  up_is_there : (k : Step) → IsUp k → last_item k ≡ m → first_item k ≡ o → Contains (moves_to items d Up m o) k
+  up_is_there (JoinSelUp x y) up last first = subst (Contains (moves_to items d Up m o)) (ap₂ JoinSelUp (sym first) (sym last)) (Contains-here (JoinSelUp o m) (JoinDeclUp o m ∷ []))
+  up_is_there (JoinDeclUp x y) up last first = subst (Contains (moves_to items d Up m o)) (ap₂ JoinDeclUp (sym first) (sym last)) (Contains-there (JoinSelUp o m) (JoinDeclUp o m ∷ []) (JoinDeclUp o m) (Contains-here (JoinDeclUp o m) []))
+  up_is_there (CutDecl n i) up last first = absurd up
+  up_is_there (CutSel n i) up last first = absurd up
+  up_is_there (JoinSelDown x y) up last first = absurd up
+  up_is_there (JoinDeclDown x y) up last first = absurd up
+  up_is_there (Share x y) up last first = absurd up
+
+-- ---- A step with the names of another one is like it
+
+abbrev named_step : List ℕ → Step → Step
+named_step item_ids k = renumbered (λ n. slice_index item_ids n) k
+
+-- it moves pairs in the same way, of an item and to an item of the same names, and is a share, too, or no share
+pub record IsLike (item_ids : List ℕ) (way : Way) (j k : Step) : Type 0 where
+  pub move : MovesPairs way k
+  pub moves : slice_index item_ids (mover way j) ≡ slice_index item_ids (mover way k)
+  pub into : slice_index item_ids (partner way j) ≡ slice_index item_ids (partner way k)
+  pub decl : (items : List Item) (d : Decl) → last_item j ≡ last_item k → moves_decl items j d ≡ true → moves_decl items k d ≡ true
+
+module _ (item_ids : List ℕ) where
+  is_like_up : (j k : Step) → IsUp j → named_step item_ids j ≡ named_step item_ids k → IsLike item_ids Up j k
+  is_like_up (JoinSelUp x y) (JoinSelUp u l) up same = record { move = tt; moves = (let e : slice_index item_ids y ≡ slice_index item_ids l = cc in e); into = (let e : slice_index item_ids x ≡ slice_index item_ids u = cc in e); decl = λ items d e has. refl }
+  is_like_up (JoinDeclUp x y) (JoinDeclUp u l) up same = record { move = tt; moves = (let e : slice_index item_ids y ≡ slice_index item_ids l = cc in e); into = (let e : slice_index item_ids x ≡ slice_index item_ids u = cc in e); decl = λ items d e has. refl }
+  is_like_up (JoinSelUp x y) k up same = absurd (cc)
+  is_like_up (JoinDeclUp x y) k up same = absurd (cc)
+  is_like_up (CutDecl n i) k up same = absurd up
+  is_like_up (CutSel n i) k up same = absurd up
+  is_like_up (JoinSelDown x y) k up same = absurd up
+  is_like_up (JoinDeclDown x y) k up same = absurd up
+  is_like_up (Share x y) k up same = absurd up
+
+  is_like_down : (j k : Step) → IsDownward j → named_step item_ids j ≡ named_step item_ids k → IsLike item_ids Down j k
+  is_like_down (JoinSelDown x y) (JoinSelDown u l) down same = record { move = tt; moves = (let e : slice_index item_ids x ≡ slice_index item_ids u = cc in e); into = (let e : slice_index item_ids y ≡ slice_index item_ids l = cc in e); decl = λ items d e has. refl }
+  is_like_down (JoinDeclDown x y) (JoinDeclDown u l) down same = record { move = tt; moves = (let e : slice_index item_ids x ≡ slice_index item_ids u = cc in e); into = (let e : slice_index item_ids y ≡ slice_index item_ids l = cc in e); decl = λ items d e has. refl }
+  is_like_down (Share x y) (Share u l) down same = record { move = tt; moves = (let e : slice_index item_ids x ≡ slice_index item_ids u = cc in e); into = (let e : slice_index item_ids y ≡ slice_index item_ids l = cc in e); decl = λ items d e has. ap (λ (n : ℕ). is_rule_with (slice_get items n) d) (sym e) ∙ has }
+  is_like_down (JoinSelDown x y) k down same = absurd (cc)
+  is_like_down (JoinDeclDown x y) k down same = absurd (cc)
+  is_like_down (Share x y) k down same = absurd (cc)
+  is_like_down (CutDecl n i) k down same = absurd down
+  is_like_down (CutSel n i) k down same = absurd down
+  is_like_down (JoinSelUp x y) k down same = absurd down
+  is_like_down (JoinDeclUp x y) k down same = absurd down
+
+  is_like : (way : Way) (j k : Step) → MovesPairs way j → named_step item_ids j ≡ named_step item_ids k → IsLike item_ids way j k
+  is_like Up j k up same = is_like_up j k up same
+  is_like Down j k down same = is_like_down j k down same
+
+pub are_moves : (items : List Item) (item_ids : List ℕ) (by : Hindrance) (d : Decl) (way : Way) (m place most : ℕ) (a : Watched) → Contains (barred_priorities items item_ids by d way m place most) a →
+    (by ≡ a.by) × ((k : Step) (n : ℕ) → a.priority ≡ named item_ids n k → MovesPairs way k × (slice_index item_ids m ≡ slice_index item_ids (mover way k)))
+are_moves items item_ids by d way m place most a among =
+    let t : IsMovePriority items item_ids by d way m place a = move_priority items item_ids by d way m place most a among in
+    let u : IsMoveTo items d way m t.o t.step = is_move_to items d m t.o way t.step t.move in
+    (t.by_is, λ k n same. (let l : IsLike item_ids way t.step k = is_like item_ids way t.step k u.move (ap (λ (v : Priority). v.step) (sym t.priority_is ∙ same)) in (l.move, ap (slice_index item_ids) (sym u.moves) ∙ l.moves)))
+
+-- ---- Each such step is among them
+
+pub moves_barred : (items : List Item) (item_ids : List ℕ) (by : Hindrance) (d : Decl) (way : Way) (m place most : ℕ) (k : Step) (n : ℕ) → MovesPairs way k → moves_decl items k d ≡ true →
+    mover way k ≡ m → partner way k < length items → IsPast way place (partner way k) → n ≤ most →
+    Contains (barred_priorities items item_ids by d way m place most) (record { priority = named item_ids n k; by = by })
+moves_barred items item_ids by d way m place most k n move decl moves inside past few =
+    flat_map_has (λ (o : ℕ). flat_map (watched_as item_ids by (moves_to items d way m o)) (numbers_from 0 (suc most))) (numbers_past way place (length items)) (partner way k) (watched_is item_ids by n k) (is_past way place (length items) (partner way k) inside past)
+    (flat_map_has (watched_as item_ids by (moves_to items d way m (partner way k))) (numbers_from 0 (suc most)) n (watched_is item_ids by n k) (is_among 0 (suc most) n (omega arith) (omega (arith, few)))
+    (map_has (watched_is item_ids by n) (moves_to items d way m (partner way k)) k (there way move moves)))
   where
-    among : (a : Watched) → Contains (moves_of item_ids by way m (partner way k) n) a → Contains (barred_priorities item_ids by way m place count most) a
-    among a has = flat_map_has (λ (o : ℕ). flat_map (moves_of item_ids by way m o) (numbers_from 0 (suc most))) (numbers_past way place count) (partner way k) a (is_past way place count (partner way k) inside past)
-        (flat_map_has (moves_of item_ids by way m (partner way k)) (numbers_from 0 (suc most)) n a (is_among 0 (suc most) n (omega arith) (omega (arith, few))) has)
-
-    of_step : (j : Step) → k ≡ j → Contains (barred_priorities item_ids by way m place count most) (record { priority = named item_ids n j; by = by }) → Contains (barred_priorities item_ids by way m place count most) (record { priority = named item_ids n k; by = by })
-    of_step j is has = subst (λ (i : Step). Contains (barred_priorities item_ids by way m place count most) (record { priority = named item_ids n i; by = by })) (sym is) has
-
-    which : (k ≡ selector_move way (mover way k) (partner way k)) ⊎ (k ≡ decl_move way (mover way k) (partner way k)) → Contains (barred_priorities item_ids by way m place count most) (record { priority = named item_ids n k; by = by })
-    which (inl e) = of_step (selector_move way m (partner way k)) (e ∙ ap (λ (i : ℕ). selector_move way i (partner way k)) moves)
-        (among (by_selectors item_ids by way m (partner way k) n) (Contains-here (by_selectors item_ids by way m (partner way k) n) (by_decls item_ids by way m (partner way k) n ∷ [])))
-    which (inr e) = of_step (decl_move way m (partner way k)) (e ∙ ap (λ (i : ℕ). decl_move way i (partner way k)) moves)
-        (among (by_decls item_ids by way m (partner way k) n) (Contains-there (by_selectors item_ids by way m (partner way k) n) (by_decls item_ids by way m (partner way k) n ∷ []) (by_decls item_ids by way m (partner way k) n)
-        (Contains-here (by_decls item_ids by way m (partner way k) n) [])))
+    there : (v : Way) → MovesPairs v k → mover v k ≡ m → Contains (moves_to items d v m (partner v k)) k
+    there Up up last = up_is_there items d m (first_item k) k up last refl
+    there Down down first = down_is_there items d m (last_item k) k down first refl decl
 
 -- ---- What has such a priority is hindered
 
@@ -191,7 +236,22 @@ barred_within Down items m place p q w =
     let place_is : suc place ≡ length w.above = w.place_is in
     (omega (arith, long, inside), omega (arith, long, place_is))
 
--- the items of a join are those that it tells
+-- where the mover and its partner are the same, the last item is
+last_same : (way : Way) (j k : Step) → mover way j ≡ mover way k → partner way j ≡ partner way k → last_item j ≡ last_item k
+last_same Up j k moves into = moves
+last_same Down j k moves into = into
+
+-- the items of a step by names
+named_within : (item_ids : List ℕ) (next : ℕ) (k : Step) → (slice_index item_ids (first_item k) < next) × (slice_index item_ids (last_item k) < next) → (first_item (named_step item_ids k) < next) × (last_item (named_step item_ids k) < next)
+named_within item_ids next (CutDecl n i) w = w
+named_within item_ids next (CutSel n i) w = w
+named_within item_ids next (JoinSelUp x y) w = w
+named_within item_ids next (JoinSelDown x y) w = w
+named_within item_ids next (JoinDeclUp x y) w = w
+named_within item_ids next (JoinDeclDown x y) w = w
+named_within item_ids next (Share x y) w = w
+
+-- the items of a step are those that it tells
 move_within : (way : Way) (k : Step) (count : ℕ) → (first_item k < count) × (last_item k < count) → (mover way k < count) × (partner way k < count)
 move_within Up k count inside = (inside.1, inside.0)
 move_within Down k count inside = inside
@@ -211,38 +271,34 @@ module _ (hindered : BarredMovesAreHindered) (answers : List Answered) (source :
   created : (n : ℕ) → n < length items → slice_index item_ids n < next
   created n inside = are.past n 0 (let long : length item_ids ≡ length items = are.beside in omega (arith, inside, long))
 
-  abbrev Past : Step → Type 0
-  Past k = (first_item k < next) × (last_item k < next)
-
-  selectors_created : (w : Way) (o n : ℕ) → o < length items → Past (named item_ids n (selector_move w m o)).step
-  selectors_created Up o n inside = (created o inside, created m there.0)
-  selectors_created Down o n inside = (created m there.0, created o inside)
-
-  decls_created : (w : Way) (o n : ℕ) → o < length items → Past (named item_ids n (decl_move w m o)).step
-  decls_created Up o n inside = (created o inside, created m there.0)
-  decls_created Down o n inside = (created m there.0, created o inside)
-
-  pub priorities_blocked : (a : Watched) → Contains (barred_priorities item_ids (OfPair p q) way m place (length items) most) a → (first_item a.priority.step < next) × (last_item a.priority.step < next)
+  pub priorities_blocked : (a : Watched) → Contains (barred_priorities items item_ids (OfPair p q) p.decl way m place most) a → (first_item a.priority.step < next) × (last_item a.priority.step < next)
       × ((k : Step) (e : Edit) (n : ℕ) → IsStep items k e → Saves source items e n → 0 < n → a.priority ≡ named item_ids n k → Hinders answers items e a.by)
   priorities_blocked a among = (bounds.0, bounds.1, blocked)
     where
-      t : IsMovePriority item_ids (OfPair p q) way m place (length items) a
-      t = move_priority item_ids (OfPair p q) way m place (length items) most a among
+      t : IsMovePriority items item_ids (OfPair p q) p.decl way m place a
+      t = move_priority items item_ids (OfPair p q) p.decl way m place most a among
+
+      to : IsMoveTo items p.decl way m t.o t.step
+      to = is_move_to items p.decl m t.o way t.step t.move
 
       into : (t.o < length items) × IsPast way place t.o
       into = past_is way place (length items) t.o there.1 t.past
 
-      bounds : Past a.priority.step
-      bounds = which t.priority_is
+      bounds : (first_item a.priority.step < next) × (last_item a.priority.step < next)
+      bounds =
+          subst (λ (u : Priority). (first_item u.step < next) × (last_item u.step < next)) (sym t.priority_is)
+          (named_within item_ids next t.step (both_created way t.step to.moves to.into))
         where
-          which : (a.priority ≡ named item_ids t.n (selector_move way m t.o)) ⊎ (a.priority ≡ named item_ids t.n (decl_move way m t.o)) → Past a.priority.step
-          which (inl e) = subst (λ (u : Priority). Past u.step) (sym e) (selectors_created way t.o t.n into.0)
-          which (inr e) = subst (λ (u : Priority). Past u.step) (sym e) (decls_created way t.o t.n into.0)
+          both_created : (v : Way) (k : Step) → mover v k ≡ m → partner v k ≡ t.o → (slice_index item_ids (first_item k) < next) × (slice_index item_ids (last_item k) < next)
+          both_created Up k moves to = (subst (λ (n : ℕ). slice_index item_ids n < next) (sym to) (created t.o into.0), subst (λ (n : ℕ). slice_index item_ids n < next) (sym moves) (created m there.0))
+          both_created Down k moves to = (subst (λ (n : ℕ). slice_index item_ids n < next) (sym moves) (created m there.0), subst (λ (n : ℕ). slice_index item_ids n < next) (sym to) (created t.o into.0))
 
       blocked : (k : Step) (e : Edit) (n : ℕ) → IsStep items k e → Saves source items e n → 0 < n → a.priority ≡ named item_ids n k → Hinders answers items e a.by
       blocked k e n is saves some same =
-          let l : IsLike item_ids way m t.o k = priority_is_like item_ids (OfPair p q) way m place (length items) a t k n same in
+          let l : IsLike item_ids way t.step k = is_like item_ids way t.step k to.move (ap (λ (v : Priority). v.step) (sym t.priority_is ∙ same)) in
           let inside : (mover way k < length items) × (partner way k < length items) = move_within way k (length items) (within items k e is) in
+          let m_is : m ≡ mover way k = one_item m (mover way k) there.0 inside.0 (ap (slice_index item_ids) (sym to.moves) ∙ l.moves) in
+          let o_is : t.o ≡ partner way k = one_item t.o (partner way k) into.0 inside.1 (ap (slice_index item_ids) (sym to.into) ∙ l.into) in
           subst (Hinders answers items e) t.by_is
-          (hindered answers way items m place p q barrier apart k e is l.move (sym (one_item m (mover way k) there.0 inside.0 l.moves))
-          (subst (IsPast way place) (one_item t.o (partner way k) into.0 inside.1 l.into) into.1))
+          (hindered answers way items m place p q barrier apart k e is l.move (l.decl items p.decl (last_same way t.step k (to.moves ∙ m_is) (to.into ∙ o_is)) to.decl) (sym m_is)
+          (subst (IsPast way place) o_is into.1))

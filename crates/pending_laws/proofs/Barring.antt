@@ -21,7 +21,7 @@ use Rattle.pending_laws.proofs.Elsewhere.{left_alone, stood_there, stood_elsewhe
 
 -- ---- A sheet in two parts
 
-parts : (changes : List Change) (n : ℕ) (above below : List Item) → new_items (slots_from n changes (above ++ below)) ≡ new_items (slots_from n changes above) ++ new_items (slots_from (n + length above) changes below)
+pub parts : (changes : List Change) (n : ℕ) (above below : List Item) → new_items (slots_from n changes (above ++ below)) ≡ new_items (slots_from n changes above) ++ new_items (slots_from (n + length above) changes below)
 parts changes n [] below = let e : n ≡ n + 0 = omega arith in ap (λ (m : ℕ). new_items (slots_from m changes below)) e
 parts changes n (x ∷ above) below =
     let e : (n + 1) + length above ≡ n + length (x ∷ above) = omega arith in

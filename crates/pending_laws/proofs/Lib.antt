@@ -3,6 +3,7 @@ mod Beside
 mod Created
 mod Elsewhere
 mod LowerBarredJoins
+mod LowerBarredShares
 mod PendingSteps
 mod PendingExamples
 mod JoinKinds

@@ -1,5 +1,5 @@
 -- What a lower barrier hinders.
-use Rattle.std.proofs.Common.{◌≡◌, ◌⊎◌, ℕ, ◌+◌, ◌<◌, Bool, true, List, [], ◌∷◌, ◌++◌, length, map, Some, sym, ap, ◌∙◌, subst, inl, inr}
+use Rattle.std.proofs.Common.{◌≡◌, ◌⊎◌, ℕ, ◌+◌, true, List, ◌++◌, length, map, Some, sym, ap, ◌∙◌, subst, inl, inr}
 use Rattle.std.specs.Prelude.{slice_get}
 use Rattle.std.specs.List.{Contains, filter}
 use Rattle.std.proofs.lemmas.List.Elements.{Contains-append_cases, Contains-append_left}
@@ -47,7 +47,7 @@ first_decl above below d has =
     subst (λ (z : Decl). Contains (map (λ x. x.decl) (above ++ below)) z) w.2 (map_has (λ (x : DeclItem). x.decl) (above ++ below) w.0 (Contains-append_left above below w.0 w.1))
 
 -- the selectors of both are of one or of the other
-either_selector : (upper lower : RuleParts) (s : SelectorParts) → IsOfBoth upper lower s → Contains (selectors_of upper) s ⊎ Contains (selectors_of lower) s
+pub either_selector : (upper lower : RuleParts) (s : SelectorParts) → IsOfBoth upper lower s → Contains (selectors_of upper) s ⊎ Contains (selectors_of lower) s
 either_selector upper lower s has = at (map_from (λ (x : SelItem). x.selector) (both_selectors upper lower) s has)
   where
     at : (x : SelItem) × Contains (both_selectors upper lower) x × (x.selector ≡ s) → Contains (selectors_of upper) s ⊎ Contains (selectors_of lower) s
@@ -59,7 +59,7 @@ either_selector upper lower s has = at (map_from (λ (x : SelItem). x.selector) 
             let w : Contains lower.selectors x × (is_new upper x ≡ true) = Contains-filter (is_new upper) lower.selectors x h in
             inr (subst (λ (z : SelectorParts). Contains (selectors_of lower) z) is (map_has (λ (x : SelItem). x.selector) lower.selectors x w.0))
 
-first_selector : (upper lower : RuleParts) (s : SelectorParts) → Contains (selectors_of upper) s → IsOfBoth upper lower s
+pub first_selector : (upper lower : RuleParts) (s : SelectorParts) → Contains (selectors_of upper) s → IsOfBoth upper lower s
 first_selector upper lower s has =
     let w : (x : SelItem) × Contains upper.selectors x × (x.selector ≡ s) = map_from (λ (x : SelItem). x.selector) upper.selectors s has in
     subst (IsOfBoth upper lower) w.2

@@ -22,7 +22,7 @@ use Rattle.pending_laws.specs.Before.{HasBeen, StepsHaveBeen}
 use Rattle.pending_laws.specs.Behind.{GoesOn, HinderedGoesOn}
 use Rattle.pending_laws.specs.ItemIds.{AreItemIds, AreCreatedBehind, owner}
 use Rattle.pending_laws.specs.Candidates.{Candidate, PendingState, IsCandidateOf, IsQueued, IsWatched, IsPending, GoesOver, ChangesHere, OrderKeysStay}
-use Rattle.pending_laws.specs.Scopes.{Scope, Alone, Owned, Ups, Downs, IsUp, IsDown, IsInScope}
+use Rattle.pending_laws.specs.Scopes.{Scope, Alone, Owned, Ups, Downs, IsUp, IsDownward, IsInScope}
 use Rattle.pending_laws.specs.Priorities.{named, AreOrderKeys, first_priority, FirstPriorityIsFirst}
 use Rattle.pending_laws.proofs.Been.{renumbers}
 use Rattle.pending_laws.proofs.Created.{within, owner_stays, old_has_come, old_owners_have_come, later_is_one}
@@ -65,14 +65,14 @@ up_again f (JoinSelDown x y) up = absurd up
 up_again f (JoinDeclDown x y) up = absurd up
 up_again f (Share x y) up = absurd up
 
-down_again : (f : ℕ → ℕ) (k : Step) → IsDown k → IsDown (renumbered f k)
+down_again : (f : ℕ → ℕ) (k : Step) → IsDownward k → IsDownward (renumbered f k)
 down_again f (JoinSelDown x y) down = tt
 down_again f (JoinDeclDown x y) down = tt
 down_again f (CutDecl n i) down = absurd down
 down_again f (CutSel n i) down = absurd down
 down_again f (JoinSelUp x y) down = absurd down
 down_again f (JoinDeclUp x y) down = absurd down
-down_again f (Share x y) down = absurd down
+down_again f (Share x y) down = tt
 
 module _ (items : List Item) (d : Edit) (h h' : PendingState) (item_ids : AreItemIds items h.item_ids h.next) (order_keys : AreOrderKeys items h.order_keys) (created : AreCreatedBehind items d h.item_ids h'.item_ids h.next)
     (stay : OrderKeysStay items d h.order_keys h'.order_keys) (k : Step) (e : Edit) (is : IsStep items k e) (others : IsOfOthers d k) where

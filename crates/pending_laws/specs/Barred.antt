@@ -1,5 +1,5 @@
 -- What barriers hinder, and barriers and lower barriers after a step: they stay while no step moves one of their pairs.
-use Rattle.std.specs.Prelude.{◌≡◌, ℕ, suc, ◌+◌, ◌<◌, false, List, ◌++◌, length, take}
+use Rattle.std.specs.Prelude.{◌≡◌, ℕ, suc, ◌+◌, ◌<◌, false, true, List, ◌++◌, length, take}
 use Rattle.std.specs.List.{Contains}
 use Rattle.css_model.specs.declared.sheet.Item.{Item}
 use Rattle.css_model.specs.Cascade.Order.{Pair}
@@ -8,6 +8,7 @@ use Rattle.css_model.specs.Sheets.StyleRule.{selectors_of}
 use Rattle.order_laws.specs.Edits.{is_moved, slots_from, Edit, edited}
 use Rattle.order_laws.specs.Slots.{new_items}
 use Rattle.step_laws.specs.declared.step.Step.{Step}
+use Rattle.step_laws.specs.declared.step.Step.TheVariants.{Share}
 use Rattle.step_laws.specs.Free.{Answered, AreNotApart}
 use Rattle.step_laws.specs.Steps.{IsStep, first_item, last_item, decls_of}
 use Rattle.plan_laws.specs.Barrier.Hindering.{OfPair, Hinders}
@@ -16,7 +17,7 @@ use Rattle.plan_laws.specs.Barrier.Barriers.{IsBarrier, IsLowerBarrier}
 use Rattle.pending_laws.specs.declared.way.Way.{Way}
 use Rattle.pending_laws.specs.declared.way.Way.TheVariants.{Up, Down}
 use Rattle.pending_laws.specs.Scopes.{IsDown, IsUp}
-use Rattle.pending_laws.specs.Ways.{mover, partner, IsMove, IsPast}
+use Rattle.pending_laws.specs.Ways.{mover, moves_decl, partner, IsPast, MovesPairs}
 
 -- Of a sheet in two parts what becomes of the upper one after an edit, and of the first ones of the lower one.
 abbrev pub above_behind : Edit → List Item → List Item
@@ -53,6 +54,12 @@ LowerBarredJoinsAreHindered = (answers : List Answered) (above below : List Item
     (Contains (selectors_of upper) q.selector → Contains (decls_of upper) q.decl → ⊥) →
     (k : Step) (e : Edit) (y : ℕ) → IsStep (above ++ below) k e → IsDown k → first_item k ≡ x → last_item k ≡ length above + y → Hinders answers (above ++ below) e (OfPair p q)
 
+-- And each share of it with one below that moves the declaration of the barrier.
+abbrev pub LowerBarredSharesAreHindered : Type 0
+LowerBarredSharesAreHindered = (answers : List Answered) (above below : List Item) (x : ℕ) (upper : RuleParts) (p q : Pair) → IsLowerBarrier above below x upper p q → AreNotApart answers p.selector q.selector →
+    (Contains (selectors_of upper) q.selector → Contains (decls_of upper) q.decl → ⊥) →
+    (e : Edit) (y : ℕ) → IsStep (above ++ below) (Share x (length above + y)) e → moves_decl (above ++ below) (Share x (length above + y)) p.decl ≡ true → Hinders answers (above ++ below) e (OfPair p q)
+
 -- ---- By the numbers of items
 
 -- An item cannot move up past another one: from that on there is a barrier.
@@ -87,7 +94,7 @@ BarredItemsGoOn = (way : Way) (items : List Item) (j : Step) (d : Edit) → IsSt
     is_moved d.moved p ≡ false → is_moved d.moved q ≡ false → IsBarredBy way items m place p q →
     IsBarredBy way (edited d items) (new_number d items m) (new_number d items place) p q
 
--- Where the selectors may meet, each join of the item past the other one is hindered.
+-- Where the selectors may meet, each step is hindered that moves the declaration past the other item.
 abbrev pub BarredMovesAreHindered : Type 0
 BarredMovesAreHindered = (answers : List Answered) (way : Way) (items : List Item) (m place : ℕ) (p q : Pair) → IsBarredBy way items m place p q → AreNotApart answers p.selector q.selector →
-    (k : Step) (e : Edit) → IsStep items k e → IsMove way k → mover way k ≡ m → IsPast way place (partner way k) → Hinders answers items e (OfPair p q)
+    (k : Step) (e : Edit) → IsStep items k e → MovesPairs way k → moves_decl items k p.decl ≡ true → mover way k ≡ m → IsPast way place (partner way k) → Hinders answers items e (OfPair p q)

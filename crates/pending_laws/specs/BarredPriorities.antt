@@ -1,6 +1,7 @@
--- The priorities of all joins that a barrier hinders, to be on the watch list at once.
-use Rattle.std.specs.Prelude.{◌≡◌, ℕ, zero, suc, ◌+◌, ◌-◌, ◌<◌, ◌≤◌, List, [], ◌∷◌, length, slice_index}
+-- The priorities of all steps that a barrier hinders, to be on the watch list at once.
+use Rattle.std.specs.Prelude.{◌≡◌, ℕ, zero, suc, ◌+◌, ◌-◌, ◌<◌, ◌≤◌, true, List, [], ◌∷◌, length, map, slice_index}
 use Rattle.std.specs.List.{Contains, flat_map}
+use Rattle.css_model.specs.declared.sheet.Decl.{Decl}
 use Rattle.css_model.specs.declared.sheet.Item.{Item}
 use Rattle.css_model.specs.Cascade.Order.{Pair}
 use Rattle.order_laws.specs.Edits.{Edit}
@@ -14,7 +15,7 @@ use Rattle.pending_laws.specs.declared.way.Way.{Way}
 use Rattle.pending_laws.specs.declared.way.Way.TheVariants.{Up, Down}
 use Rattle.pending_laws.specs.Priorities.{named}
 use Rattle.pending_laws.specs.Barred.{IsBarredBy}
-use Rattle.pending_laws.specs.Ways.{decl_move, mover, partner, selector_move, IsMove, IsPast}
+use Rattle.pending_laws.specs.Ways.{mover, moves_decl, moves_to, partner, IsPast, MovesPairs}
 
 -- so many numbers from one on
 abbrev pub numbers_from : (first count : ℕ) → List ℕ
@@ -26,29 +27,33 @@ abbrev pub numbers_past : Way → (place count : ℕ) → List ℕ
 numbers_past Up place count = numbers_from 0 place
 numbers_past Down place count = numbers_from (suc place) (count - suc place)
 
--- The joins in a way that would save so much, of the item of number `m` into that of number `o`, put on the watch list by item ids.
--- Whether they are steps of a sheet is not asked.
-abbrev pub moves_of : List ℕ → Hindrance → Way → (m o n : ℕ) → List Watched
-moves_of item_ids by way m o n = record { priority = named item_ids n (selector_move way m o); by = by } ∷ record { priority = named item_ids n (decl_move way m o); by = by } ∷ []
+-- Steps that would save so much, put on the watch list by item ids. Whether they are steps of a sheet is not asked.
+abbrev pub watched_is : List ℕ → Hindrance → ℕ → Step → Watched
+watched_is item_ids by n k = record { priority = named item_ids n k; by = by }
 
--- those into each of the items past one, that save no more than so much
-abbrev pub barred_priorities : List ℕ → Hindrance → Way → (m place count most : ℕ) → List Watched
-barred_priorities item_ids by way m place count most = flat_map (λ o. flat_map (moves_of item_ids by way m o) (numbers_from 0 (suc most))) (numbers_past way place count)
+abbrev pub watched_as : List ℕ → Hindrance → List Step → ℕ → List Watched
+watched_as item_ids by steps n = map (watched_is item_ids by n) steps
+
+-- Of the item of number `m` those that move a declaration past an item, and that save no more than so much.
+abbrev pub barred_priorities : List Item → List ℕ → Hindrance → Decl → Way → (m place most : ℕ) → List Watched
+barred_priorities items item_ids by d way m place most =
+    flat_map (λ o. flat_map (watched_as item_ids by (moves_to items d way m o)) (numbers_from 0 (suc most))) (numbers_past way place (length items))
 
 -- If there is a barrier, they may be on the watch list: they are of items that were created, and what has such a priority is hindered.
 abbrev pub BarredPrioritiesAreBlocked : Type 0
 BarredPrioritiesAreBlocked = (answers : List Answered) (source : List ℕ) (items : List Item) (item_ids : List ℕ) (next : ℕ) (way : Way) (m place : ℕ) (p q : Pair) (most : ℕ) →
     AreItemIds items item_ids next → IsBarredBy way items m place p q → AreNotApart answers p.selector q.selector →
-    (a : Watched) → Contains (barred_priorities item_ids (OfPair p q) way m place (length items) most) a →
+    (a : Watched) → Contains (barred_priorities items item_ids (OfPair p q) p.decl way m place most) a →
     (first_item a.priority.step < next) × (last_item a.priority.step < next)
     × ((k : Step) (e : Edit) (n : ℕ) → IsStep items k e → Saves source items e n → 0 < n → a.priority ≡ named item_ids n k → Hinders answers items e a.by)
 
--- Each such join is among them.
-abbrev pub JoinsAreBarred : Type 0
-JoinsAreBarred = (item_ids : List ℕ) (by : Hindrance) (way : Way) (m place count most : ℕ) (k : Step) (n : ℕ) → IsMove way k → mover way k ≡ m → partner way k < count → IsPast way place (partner way k) → n ≤ most →
-    Contains (barred_priorities item_ids by way m place count most) (record { priority = named item_ids n k; by = by })
+-- Each such step is among them.
+abbrev pub MovesAreBarred : Type 0
+MovesAreBarred = (items : List Item) (item_ids : List ℕ) (by : Hindrance) (d : Decl) (way : Way) (m place most : ℕ) (k : Step) (n : ℕ) → MovesPairs way k → moves_decl items k d ≡ true →
+    mover way k ≡ m → partner way k < length items → IsPast way place (partner way k) → n ≤ most →
+    Contains (barred_priorities items item_ids by d way m place most) (record { priority = named item_ids n k; by = by })
 
--- What has one of these priorities is a join of the item in that way, and it is on the watch list with what hinders them.
+-- What has one of these priorities moves pairs of the item in that way, and it is on the watch list with what hinders them.
 abbrev pub BarredPrioritiesAreMoves : Type 0
-BarredPrioritiesAreMoves = (item_ids : List ℕ) (by : Hindrance) (way : Way) (m place count most : ℕ) (a : Watched) → Contains (barred_priorities item_ids by way m place count most) a →
-    (by ≡ a.by) × ((k : Step) (n : ℕ) → a.priority ≡ named item_ids n k → IsMove way k × (slice_index item_ids m ≡ slice_index item_ids (mover way k)))
+BarredPrioritiesAreMoves = (items : List Item) (item_ids : List ℕ) (by : Hindrance) (d : Decl) (way : Way) (m place most : ℕ) (a : Watched) → Contains (barred_priorities items item_ids by d way m place most) a →
+    (by ≡ a.by) × ((k : Step) (n : ℕ) → a.priority ≡ named item_ids n k → MovesPairs way k × (slice_index item_ids m ≡ slice_index item_ids (mover way k)))

@@ -1,7 +1,7 @@
 //! What barriers hinder, and barriers and lower barriers after a step.
 
-ghost use Rattle.pending_laws.specs.Barred.{LowerBarredJoinsAreHindered, LowerBarriersGoOn, PartsStay, BarredItemsGoOn, BarredJoinsAreHindered, BarredMovesAreHindered, BarriersGoOn};
-ghost use Rattle.pending_laws.specs.BarredPriorities.{JoinsAreBarred, BarredPrioritiesAreBlocked, BarredPrioritiesAreMoves};
+ghost use Rattle.pending_laws.specs.Barred.{LowerBarredJoinsAreHindered, LowerBarredSharesAreHindered, LowerBarriersGoOn, PartsStay, BarredItemsGoOn, BarredJoinsAreHindered, BarredMovesAreHindered, BarriersGoOn};
+ghost use Rattle.pending_laws.specs.BarredPriorities.{MovesAreBarred, BarredPrioritiesAreBlocked, BarredPrioritiesAreMoves};
 
 use order_laws::unmoved_keep_their_order;
 use plan_laws::{barriers_hinder, lower_barriers_hinder};
@@ -46,6 +46,12 @@ pub fn lower_barred_joins_are_hindered()
     lower_barriers_hinder();
 }
 
+/// A lower barrier whose rule lacks the other pair hinders each share of the rule with one below the lower barrier.
+/// It does so if the selectors of its two pairs are answered not to be apart, and the share moves the declaration of the moved pair.
+pub fn lower_barred_shares_are_hindered()
+    ensures { LowerBarredSharesAreHindered }
+{}
+
 /// An item with a barrier or a lower barrier at another item has it after a step, too.
 /// The step must leave both items and move neither of the two pairs.
 pub fn barred_items_go_on()
@@ -56,16 +62,17 @@ pub fn barred_items_go_on()
     lower_barriers_go_on();
 }
 
-/// Each join of such an item past the other one is hindered.
+/// Each step is hindered that moves the declaration of the moved pair from such an item past the other one.
 /// It is so if the selectors of the two pairs are answered not to be apart.
 pub fn barred_moves_are_hindered()
     ensures { BarredMovesAreHindered }
 {
     barred_joins_are_hindered();
     lower_barred_joins_are_hindered();
+    lower_barred_shares_are_hindered();
 }
 
-/// The priorities of all joins that a barrier hinders may be on the watch list at once, if its selectors are answered not to be apart.
+/// The priorities of all steps that a barrier hinders may be on the watch list at once, if its selectors are answered not to be apart.
 /// They are of items that were created. Each step that saves and has one of these priorities is hindered.
 pub fn barred_priorities_are_blocked()
     ensures { BarredPrioritiesAreBlocked }
@@ -73,12 +80,12 @@ pub fn barred_priorities_are_blocked()
     barred_moves_are_hindered();
 }
 
-/// The priority of each join past the barrier is among them, if it saves at most a given number of bytes.
-pub fn joins_are_barred()
-    ensures { JoinsAreBarred }
+/// The priority of each step past the barrier is among them, if it saves at most a given number of bytes.
+pub fn moves_are_barred()
+    ensures { MovesAreBarred }
 {}
 
-/// Each step with one of these priorities is a join in the way of the barrier. Its item has the item id of the barrier's item.
+/// Each step with one of these priorities moves pairs in the way of the barrier. Their item has the item id of the barrier's item.
 pub fn barred_priorities_are_moves()
     ensures { BarredPrioritiesAreMoves }
 {}

@@ -16,8 +16,9 @@ mod way;
 
 pub use barred::{
     barred_items_go_on, barred_joins_are_hindered, barred_moves_are_hindered,
-    barred_priorities_are_blocked, barred_priorities_are_moves, barriers_go_on, joins_are_barred,
-    lower_barred_joins_are_hindered, lower_barriers_go_on, parts_stay,
+    barred_priorities_are_blocked, barred_priorities_are_moves, barriers_go_on,
+    lower_barred_joins_are_hindered, lower_barred_shares_are_hindered, lower_barriers_go_on,
+    moves_are_barred, parts_stay,
 };
 pub use before::{cuts_have_been, no_step_adds_pairs, steps_have_been};
 pub use behind::{going_on_is_side_by_side, hindered_goes_on};

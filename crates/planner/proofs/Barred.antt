@@ -1,5 +1,5 @@
 -- A plan whose barrier is set.
-use Rattle.std.proofs.Common.{◌≡◌, ◌⊎◌, ℕ, zero, suc, ◌+◌, ◌<◌, ◌≤◌, List, [], ◌∷◌, ◌++◌, length, replicate, Some, None, refl, sym, ◌∙◌, subst, inl, inr, arith}
+use Rattle.std.proofs.Common.{◌≡◌, ◌⊎◌, ℕ, zero, suc, ◌+◌, ◌<◌, ◌≤◌, List, [], ◌∷◌, ◌++◌, length, replicate, Some, None, refl, sym, ap, ◌∙◌, subst, inl, inr, arith}
 use Rattle.std.specs.Prelude.{get_or, slice_get}
 use Rattle.std.specs.List.{Contains}
 use Rattle.std.proofs.lemmas.Option.{get_or_from_slice_get, slice_get-map, slice_get_within}
@@ -12,6 +12,7 @@ use Rattle.queue_laws.specs.IndexedBarriers.{AreBarriers, HasBarrier, IsStanding
 use Rattle.queue_laws.specs.MarkNames.{IsMarked}
 use Rattle.queue_laws.specs.Remembering.{entry_of}
 use Rattle.planner.specs.Barring.{HasMovesEntries, IsRaised, IsSet, MakesBarrier, MakesBarrierFor}
+use Rattle.step_queue.specs.declared.barriers.Barrier.{Barrier}
 use Rattle.step_queue.specs.declared.watch_list.Entry.{Entry}
 use Rattle.step_queue.specs.BarrierParts.{barriers_on, BarrierParts}
 use Rattle.list_facts.proofs.Members.{Contains-here, Contains-there}
@@ -36,15 +37,15 @@ created_before b marked n item_id created =
     subst (λ (m : ℕ). m < b.next) w.2 (subst (λ (m : Mark). m.item_id < b.next) is before)
 
 -- barriers are such where one more is set
-barriers_set : BarriersStay → (answers : List Answered) (b : IndexedParts) (entries entries' : List Entry) (candidates : List pending.Candidate) (barriers barriers' : BarrierParts) (o : Obstacle) (way : Way) (item_id order_key : ℕ) → IsMarked b →
-    ((x : Entry) → Contains entries x → Contains entries' x) → HasMovesEntries b.items entries' o way item_id → IsSet barriers barriers' way item_id order_key → MakesBarrier answers b o way item_id order_key →
+barriers_set : BarriersStay → (answers : List Answered) (b : IndexedParts) (entries entries' : List Entry) (candidates : List pending.Candidate) (barriers barriers' : BarrierParts) (o : Obstacle) (way : Way) (item_id : ℕ) (stop : Barrier) → IsMarked b →
+    ((x : Entry) → Contains entries x → Contains entries' x) → HasMovesEntries b.items entries' o way item_id → IsSet barriers barriers' way item_id stop → MakesBarrier answers b o way item_id stop →
     AreBarriers answers b entries (max_bytes + 1) candidates barriers → AreBarriers answers b entries' (max_bytes + 1) candidates barriers'
-barriers_set stay answers b entries entries' candidates barriers barriers' o way item_id order_key marked more put is_set makes old = record { past = past; each = each }
+barriers_set stay answers b entries entries' candidates barriers barriers' o way item_id stop marked more put is_set makes old = record { past = past; each = each }
   where
     still : AreBarriers answers b entries' (max_bytes + 1) candidates barriers
     still = stay answers answers b entries entries' (max_bytes + 1) candidates candidates barriers (λ a h. h) more (λ v other h. h) old
 
-    stands : HasBarrier answers b entries' (max_bytes + 1) way item_id order_key
+    stands : HasBarrier answers b entries' (max_bytes + 1) way item_id stop
     stands = record {
       m = makes.m;
       place = makes.place;
@@ -54,6 +55,7 @@ barriers_set stay answers b entries entries' candidates barriers barriers' o way
       apart = makes.apart;
       created = makes.created;
       at = makes.at;
+      decl = makes.decl;
       under_moved = put (OfPair makes.p makes.q) makes.names makes.p (Contains-here makes.p (makes.q ∷ []));
       under_other = put (OfPair makes.p makes.q) makes.names makes.q (Contains-there makes.p (makes.q ∷ []) makes.q (Contains-here makes.q []));
     }
@@ -61,37 +63,37 @@ barriers_set stay answers b entries entries' candidates barriers barriers' o way
     past : (v : Way) → length (barriers_on v barriers') ≤ b.next
     past v = which (is_set v)
       where
-        which : ((v ≡ way) × IsRaised (barriers_on v barriers) (barriers_on v barriers') item_id order_key) ⊎ (barriers_on v barriers' ≡ barriers_on v barriers) → length (barriers_on v barriers') ≤ b.next
+        which : ((v ≡ way) × IsRaised (barriers_on v barriers) (barriers_on v barriers') item_id stop) ⊎ (barriers_on v barriers' ≡ barriers_on v barriers) → length (barriers_on v barriers') ≤ b.next
         which (inl r) = r.1.long b.next (old.past v) (created_before b marked makes.m item_id makes.created)
-        which (inr same) = subst (λ (xs : List ℕ). length xs ≤ b.next) (sym same) (old.past v)
+        which (inr same) = subst (λ (xs : List Barrier). length xs ≤ b.next) (sym same) (old.past v)
 
-    each : (v : Way) (other l : ℕ) → slice_get (barriers_on v barriers') other ≡ Some l → 0 < l → IsStanding answers b entries' (max_bytes + 1) candidates v other l
+    each : (v : Way) (other : ℕ) (l : Barrier) → slice_get (barriers_on v barriers') other ≡ Some l → 0 < l.order_key → IsStanding answers b entries' (max_bytes + 1) candidates v other l
     each v other l at some = which (is_set v)
       where
-        raised : v ≡ way → (slice_get (barriers_on v barriers) other ≡ Some l) ⊎ ((other ≡ item_id) × (l ≡ order_key)) → IsStanding answers b entries' (max_bytes + 1) candidates v other l
+        raised : v ≡ way → (slice_get (barriers_on v barriers) other ≡ Some l) ⊎ ((other ≡ item_id) × (l ≡ stop)) → IsStanding answers b entries' (max_bytes + 1) candidates v other l
         raised e (inl was) = still.each v other l was some
         raised e (inr is) =
             inl (subst (λ (u : Way). HasBarrier answers b entries' (max_bytes + 1) u other l) (sym e)
-            (subst (λ (n : ℕ). HasBarrier answers b entries' (max_bytes + 1) way n l) (sym is.0) (subst (λ (n : ℕ). HasBarrier answers b entries' (max_bytes + 1) way item_id n) (sym is.1) stands)))
+            (subst (λ (n : ℕ). HasBarrier answers b entries' (max_bytes + 1) way n l) (sym is.0) (subst (λ (n : Barrier). HasBarrier answers b entries' (max_bytes + 1) way item_id n) (sym is.1) stands)))
 
-        which : ((v ≡ way) × IsRaised (barriers_on v barriers) (barriers_on v barriers') item_id order_key) ⊎ (barriers_on v barriers' ≡ barriers_on v barriers) → IsStanding answers b entries' (max_bytes + 1) candidates v other l
+        which : ((v ≡ way) × IsRaised (barriers_on v barriers) (barriers_on v barriers') item_id stop) ⊎ (barriers_on v barriers' ≡ barriers_on v barriers) → IsStanding answers b entries' (max_bytes + 1) candidates v other l
         which (inl r) = raised r.0 (r.1.each other l at some)
-        which (inr same) = still.each v other l (subst (λ (xs : List ℕ). slice_get xs other ≡ Some l) same at) some
+        which (inr same) = still.each v other l (subst (λ (xs : List Barrier). slice_get xs other ≡ Some l) same at) some
 
 -- one is set in its way
-pub set_up : (old new : BarrierParts) (item_id order_key : ℕ) → IsRaised old.ups new.ups item_id order_key → new.downs ≡ old.downs → IsSet old new Up item_id order_key
-set_up old new item_id order_key raised same Up = inl (refl, raised)
-set_up old new item_id order_key raised same Down = inr same
+pub set_up : (old new : BarrierParts) (item_id : ℕ) (stop : Barrier) → IsRaised old.ups new.ups item_id stop → new.downs ≡ old.downs → IsSet old new Up item_id stop
+set_up old new item_id stop raised same Up = inl (refl, raised)
+set_up old new item_id stop raised same Down = inr same
 
-pub set_down : (old new : BarrierParts) (item_id order_key : ℕ) → IsRaised old.downs new.downs item_id order_key → new.ups ≡ old.ups → IsSet old new Down item_id order_key
-set_down old new item_id order_key raised same Up = inr same
-set_down old new item_id order_key raised same Down = inl (refl, raised)
+pub set_down : (old new : BarrierParts) (item_id : ℕ) (stop : Barrier) → IsRaised old.downs new.downs item_id stop → new.ups ≡ old.ups → IsSet old new Down item_id stop
+set_down old new item_id stop raised same Up = inr same
+set_down old new item_id stop raised same Down = inl (refl, raised)
 
 -- What stood for the steps of a plan still does.
-pub set_queued : BarriersStay → (p p' : PlanParts) (k : Step) (o : Obstacle) (way : Way) (item_id order_key : ℕ) → p' ≡ record p { entries = p'.entries; barriers = p'.barriers } →
-    ((x : Entry) → Contains p.entries x → Contains p'.entries x) → HasMovesEntries p.indexed.items p'.entries o way item_id → IsSet p.barriers p'.barriers way item_id order_key → MakesBarrierFor p.indexed k o way item_id order_key →
+pub set_queued : BarriersStay → (p p' : PlanParts) (k : Step) (o : Obstacle) (way : Way) (item_id : ℕ) (stop : Barrier) → p' ≡ record p { entries = p'.entries; barriers = p'.barriers } →
+    ((x : Entry) → Contains p.entries x → Contains p'.entries x) → HasMovesEntries p.indexed.items p'.entries o way item_id → IsSet p.barriers p'.barriers way item_id stop → MakesBarrierFor p.indexed k o way item_id stop →
     (answers : List Answered) (source : List ℕ) (candidate : pending.Candidate) → IsBlockedBy answers p.indexed.items k o → IsQueuedBy answers source p (candidate ∷ p.candidates) → IsQueuedBy answers source p' (candidate ∷ p'.candidates)
-set_queued stay p p' k o way item_id order_key same more put is_set makes answers source candidate blocked queued = subst (λ (x : PlanParts). IsQueuedBy answers source x (candidate ∷ x.candidates)) (sym same) still
+set_queued stay p p' k o way item_id stop same more put is_set makes answers source candidate blocked queued = subst (λ (x : PlanParts). IsQueuedBy answers source x (candidate ∷ x.candidates)) (sym same) still
   where
     still : IsQueuedBy answers source (record p { entries = p'.entries; barriers = p'.barriers }) (candidate ∷ p.candidates)
     still = record {
@@ -101,18 +103,21 @@ set_queued stay p p' k o way item_id order_key same more put is_set makes answer
         pending = queued.known.pending;
         remembered = λ a among k e n is saves some priority pair of. (let w = queued.known.remembered a among k e n is saves some priority pair of in (w.0, w.1, more (entry_of pair w.0) w.2));
       };
-      barriers = barriers_set stay answers p.indexed p.entries p'.entries p.candidates p.barriers p'.barriers o way item_id order_key queued.indexed.marked more put is_set (makes answers blocked) queued.barriers;
+      barriers = barriers_set stay answers p.indexed p.entries p'.entries p.candidates p.barriers p'.barriers o way item_id stop queued.indexed.marked more put is_set (makes answers blocked) queued.barriers;
     }
 
 -- ---- Room for a barrier
 
-no_zero : (k b l : ℕ) → slice_get (replicate k 0) b ≡ Some l → 0 < l → ⊥
-no_zero zero b l at some = let e : None ≡ Some l = at in cc
-no_zero (suc k) zero l at some = let e : 0 ≡ l = some-same at in omega (arith, e, some)
-no_zero (suc k) (suc b) l at some = no_zero k b l at some
+abbrev pub none : Barrier
+none = record { order_key = 0; decl = 0 }
 
--- of what is filled up with zeros, all else was there
-pub filled : (old : List ℕ) (k b l : ℕ) → slice_get (old ++ replicate k 0) b ≡ Some l → 0 < l → slice_get old b ≡ Some l
-filled [] k b l at some = absurd (no_zero k b l at some)
+none_there : (k b : ℕ) (l : Barrier) → slice_get (replicate k none) b ≡ Some l → 0 < l.order_key → ⊥
+none_there zero b l at some = let e : None ≡ Some l = at in cc
+none_there (suc k) zero l at some = let e : 0 ≡ l.order_key = ap (λ (x : Barrier). x.order_key) (some-same at) in omega (arith, e, some)
+none_there (suc k) (suc b) l at some = none_there k b l at some
+
+-- of what is filled up with no barriers, all else was there
+pub filled : (old : List Barrier) (k b : ℕ) (l : Barrier) → slice_get (old ++ replicate k none) b ≡ Some l → 0 < l.order_key → slice_get old b ≡ Some l
+filled [] k b l at some = absurd (none_there k b l at some)
 filled (x ∷ old) k zero l at some = at
 filled (x ∷ old) k (suc b) l at some = filled old k b l at some

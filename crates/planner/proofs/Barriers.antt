@@ -20,6 +20,7 @@ use Rattle.css_model.specs.Sheets.StyleRule.{selectors_of}
 use Rattle.pending_laws.specs.declared.way.Way.{Way}
 use Rattle.pending_laws.specs.declared.way.Way.TheVariants.{Up, Down}
 use Rattle.pending_laws.specs.Barred.{HasBarrierBelow, HasBarrierAbove, IsBarredBy}
+use Rattle.queue_laws.specs.IndexedBarriers.{decl_of_number}
 use Rattle.queue_laws.specs.MarkNames.{IsMarked}
 use Rattle.planner.specs.Barring.{MakesBarrier, MakesBarrierFor, StandsAlone, StandsAloneOn}
 use Rattle.list_facts.proofs.Members.{Contains-here, Contains-there}
@@ -323,12 +324,18 @@ barred_by : (way : Way) (items : List Item) (m z : ℕ) (p q : Pair) (moved othe
 barred_by Up items m z p q moved other alone p_at q_at weigh = barrier_above items m z p q moved other alone p_at q_at weigh
 barred_by Down items m z p q moved other alone p_at q_at weigh = lower_barrier_below items m z p q moved other alone p_at q_at weigh
 
+-- the declaration of the moved pair, by its number
+decl_at_place : (items : List Item) (at : PairPlace) (p : Pair) → IsAt items at p → decl_of_number (slice_get items at.item) at.decl ≡ Some p.decl
+decl_at_place items at p is =
+    ap (λ (o : Option Item). decl_of_number o at.decl) is.rule_at
+    ∙ slice_get-map (λ (d : DeclItem). d.decl) is.rule.decls at.decl ∙ ap (option_map (λ (d : DeclItem). d.decl)) is.decl_at ∙ ap (λ (x : Pair). Some x.decl) (sym is.is)
+
 pub makes_barrier : (b : IndexedParts) (k : Step) (way : Way) (o : Obstacle) (at : PairPlace) (mover from : Mark) → HasStep b.items k → o.other ≡ others.Pair at →
     ((p q : Pair) → IsAt b.items o.moved p → IsAt b.items at q → StandsAloneOn way b.items o.moved.item at.item p q) →
-    slice_get b.marks o.moved.item ≡ Some mover → slice_get b.marks at.item ≡ Some from → MakesBarrierFor b k o way mover.item_id from.order_key
+    slice_get b.marks o.moved.item ≡ Some mover → slice_get b.marks at.item ≡ Some from → MakesBarrierFor b k o way mover.item_id (record { order_key = from.order_key; decl = o.moved.decl })
 makes_barrier b k way o at mover from has is alone is_mover is_from answers blocked = by_one blocked.by blocked.names (blocked.hinders has.0 has.1)
   where
-    by_one : (by : Hindrance) → Names b.items o by → Hinders answers b.items has.0 by → MakesBarrier answers b o way mover.item_id from.order_key
+    by_one : (by : Hindrance) → Names b.items o by → Hinders answers b.items has.0 by → MakesBarrier answers b o way mover.item_id (record { order_key = from.order_key; decl = o.moved.decl })
     by_one (OfKept p number) names hinders = absurd (subst (λ (x : Other). IsOther b.items x (OfKept p number)) is names.other)
     by_one (OfPair p q) names hinders =
         let q_is : IsAt b.items at q = subst (λ (x : Other). IsOther b.items x (OfPair p q)) is names.other in
@@ -342,4 +349,5 @@ makes_barrier b k way o at mover from has is alone is_mover is_from answers bloc
           apart = hinders.1;
           created = slice_get-map (λ (m : Mark). m.item_id) b.marks o.moved.item ∙ ap (option_map (λ (m : Mark). m.item_id)) is_mover;
           at = slice_get-map (λ (m : Mark). m.order_key) b.marks at.item ∙ ap (option_map (λ (m : Mark). m.order_key)) is_from;
+          decl = decl_at_place b.items o.moved p names.moved;
         }

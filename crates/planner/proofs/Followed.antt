@@ -1,5 +1,5 @@
 -- What comes in the place of a candidate that is queued no more.
-use Rattle.std.proofs.Common.{◌≡◌, ◌⊎◌, ℕ, ◌+◌, ◌<◌, ◌≤◌, arith, true, false, List, [], ◌∷◌, Option, Some, None, refl, sym, ap, ◌∙◌, subst, inl, inr}
+use Rattle.std.proofs.Common.{◌≡◌, ◌⊎◌, ℕ, ◌+◌, ◌<◌, ◌≤◌, arith, Bool, true, false, List, [], ◌∷◌, Option, Some, None, refl, sym, ap, ◌∙◌, subst, inl, inr}
 use Rattle.std.specs.Prelude.{IfSome, slice_get, slice_index}
 use Rattle.std.specs.List.{Contains}
 use Rattle.std.specs.Option.{option_map}
@@ -12,11 +12,12 @@ use Rattle.pending_laws.specs.Candidates as pending
 use Rattle.pending_laws.specs.Candidates.{IsQueued}
 use Rattle.pending_laws.specs.Scopes.{IsInScope}
 use Rattle.pending_laws.specs.Priorities.{named}
-use Rattle.pending_laws.specs.Ways.{mover, partner, IsMove, IsPast}
-use Rattle.queue_laws.specs.IndexedBarriers.{IsBarred, IsBarredOn}
+use Rattle.pending_laws.specs.Ways.{mover, partner, IsPast, MovesPairs}
+use Rattle.queue_laws.specs.IndexedBarriers.{moves_number, IsBarred, IsBarredOn}
 use Rattle.queue_laws.specs.Known.{IsFollowed}
 use Rattle.queue_laws.specs.MarkNames.{pending_of}
 use Rattle.planner.specs.Following.{AreBarredOff, Follows}
+use Rattle.step_queue.specs.declared.barriers.Barrier.{Barrier}
 use Rattle.step_queue.specs.declared.candidate.Candidate.{Candidate}
 use Rattle.step_queue.specs.declared.candidate.Scope.{Scope}
 use Rattle.step_queue.specs.declared.candidate.Scope.TheVariants.{Alone, Owned, Ups, Downs}
@@ -108,8 +109,8 @@ alone_followed source p candidate candidates watched single = record {
   later = λ k e n is saves some in_it sooner. absurd (none_in_it candidate.scope (item_ids_of p.indexed.marks) candidate.owner k single in_it);
 }
 
--- a join goes past a barrier, or it does not
-move_or_not : (way : Way) (k : Step) → IsMove way k ⊎ (IsMove way k → ⊥)
+-- a step goes past a barrier, or it does not
+move_or_not : (way : Way) (k : Step) → MovesPairs way k ⊎ (MovesPairs way k → ⊥)
 move_or_not Up (JoinSelUp x y) = inl tt
 move_or_not Up (JoinDeclUp x y) = inl tt
 move_or_not Up (CutDecl n i) = inr (λ move. move)
@@ -123,13 +124,17 @@ move_or_not Down (CutDecl n i) = inr (λ move. move)
 move_or_not Down (CutSel n i) = inr (λ move. move)
 move_or_not Down (JoinSelUp x y) = inr (λ move. move)
 move_or_not Down (JoinDeclUp x y) = inr (λ move. move)
-move_or_not Down (Share x y) = inr (λ move. move)
+move_or_not Down (Share x y) = inl tt
 
 less_or_not : (m n : ℕ) → (m < n) ⊎ (m < n → ⊥)
 less_or_not m n = elim (cases_lt m n) [
   | inl l ↦ inl l
   | inr l ↦ inr (λ less. omega (arith, l, less))
 ]
+
+true_or_not : (x : Bool) → (x ≡ true) ⊎ (x ≡ true → ⊥)
+true_or_not true = inl refl
+true_or_not false = inr (λ e. false≢true e)
 
 past_or_not : (way : Way) (place n : ℕ) → IsPast way place n ⊎ (IsPast way place n → ⊥)
 past_or_not Up place n = less_or_not n place
@@ -139,15 +144,18 @@ module _ (b : IndexedParts) (barriers : BarrierParts) where
   on_or_not : (way : Way) (k : Step) → IsBarredOn b barriers way k ⊎ (IsBarredOn b barriers way k → ⊥)
   on_or_not way k = which (move_or_not way k) (slice_get (barriers_on way barriers) (slice_index (item_ids_of b.marks) (mover way k))) refl
     where
-      which : IsMove way k ⊎ (IsMove way k → ⊥) → (found : Option ℕ) → slice_get (barriers_on way barriers) (slice_index (item_ids_of b.marks) (mover way k)) ≡ found → IsBarredOn b barriers way k ⊎ (IsBarredOn b barriers way k → ⊥)
+      which : MovesPairs way k ⊎ (MovesPairs way k → ⊥) → (found : Option Barrier) → slice_get (barriers_on way barriers) (slice_index (item_ids_of b.marks) (mover way k)) ≡ found → IsBarredOn b barriers way k ⊎ (IsBarredOn b barriers way k → ⊥)
       which (inr other) found at = inr (λ barred. other barred.0)
       which (inl move) None at = inr (λ barred. let e : None ≡ Some barred.1.0 = sym at ∙ barred.1.1 in cc)
-      which (inl move) (Some order_key) at = elim (less_or_not 0 order_key) [
-        | inl some ↦ elim (past_or_not way order_key (slice_index (order_keys_of b.marks) (partner way k))) [
-          | inl past ↦ inl (move, (order_key, at, some, past))
-          | inr not ↦ inr (λ barred. not (subst (λ (l : ℕ). IsPast way l (slice_index (order_keys_of b.marks) (partner way k))) (some-same (sym barred.1.1 ∙ at)) barred.1.3))
+      which (inl move) (Some stop) at = elim (less_or_not 0 stop.order_key) [
+        | inl some ↦ elim (past_or_not way stop.order_key (slice_index (order_keys_of b.marks) (partner way k))) [
+          | inl past ↦ elim (true_or_not (moves_number b.items k stop.decl)) [
+            | inl moves ↦ inl (move, (stop, at, some, past), moves)
+            | inr not ↦ inr (λ barred. not (subst (λ (l : Barrier). moves_number b.items k l.decl ≡ true) (some-same (sym barred.1.1 ∙ at)) barred.2))
+          ]
+          | inr not ↦ inr (λ barred. not (subst (λ (l : Barrier). IsPast way l.order_key (slice_index (order_keys_of b.marks) (partner way k))) (some-same (sym barred.1.1 ∙ at)) barred.1.3))
         ]
-        | inr none ↦ inr (λ barred. none (subst (λ (l : ℕ). 0 < l) (some-same (sym barred.1.1 ∙ at)) barred.1.2))
+        | inr none ↦ inr (λ barred. none (subst (λ (l : Barrier). 0 < l.order_key) (some-same (sym barred.1.1 ∙ at)) barred.1.2))
       ]
 
   barred_or_not : (k : Step) → IsBarred b barriers k ⊎ (IsBarred b barriers k → ⊥)

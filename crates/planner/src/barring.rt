@@ -1,4 +1,4 @@
-//! Barriers. One is set if an obstacle of a join hinders all joins of the moving item past a place, up or down.
+//! Barriers. One is set if an obstacle of a step hinders all joins of an item past a place, up or down, and all shares of a declaration.
 
 ghost use Rattle.std.specs.Prelude.{◌≡◌, ◌≢◌, ◌⊎◌, ◌∷◌, ◌<◌, ◌≤◌, ℕ, IfSome, List, OnOk, Some, false, true, length, slice_get};
 ghost use Rattle.std.specs.List.{Contains};
@@ -9,6 +9,7 @@ ghost use Rattle.css_model.specs.Sheets.RuleParts.{RuleParts};
 ghost use Rattle.pending_laws.specs.Candidates as pending;
 ghost use Rattle.queue_laws.specs.MarkNames.{IsMarked};
 ghost use Rattle.planner.specs.Barring as spec;
+ghost use Rattle.step_queue.specs.declared.barriers.Barrier as declared;
 ghost use Rattle.step_queue.specs.declared.watch_list.Entry.{Entry};
 ghost use Rattle.obstacles.specs.Blocking.{IsAt, IsBlockedBy, Names};
 ghost use Rattle.obstacles.specs.declared.obstacle.Other.TheVariants as others;
@@ -28,10 +29,11 @@ use obstacles::{Obstacle, Other, PairPlace};
 use pending_laws::Way;
 use planner_state::Plan;
 use queue_laws::barriers_stay;
+use rule_parts::find_rule;
 use rule_tables::Tables;
 use std::alloc::AllocError;
 use step_laws::Step;
-use step_queue::Barriers;
+use step_queue::{Barrier, Barriers};
 use step_savings::{items_of, rule_at};
 
 /// Returns `false` only if no rule has the pair at a place whose order key is at least `from` and is not `own`.
@@ -81,18 +83,42 @@ fn stands_alone(
     !pair_stands_from(indexed, tables, other, own, from)
 }
 
-/// A barrier: a way, the item id of an item, and the order key of another item.
-/// It hinders the first item from moving in this way past the other one.
+/// A barrier that is set: in which way, and under which item id.
 #[derive(Clone, Copy, Debug)]
-struct Barrier {
+struct NewBarrier {
     way: Way,
     item_id: u32,
-    order_key: u64,
+    barrier: Barrier,
 }
 
-/// Returns the number of the item that moves in a join, and its way, or `None` of another step.
-fn mover_of(step: &Step) -> Option<(u32, Way)> {
-    let way = way_of_join(step)?;
+/// Only a rule with so many declarations, at most, gets a barrier by a share. If a rule has more, its shares move now this one, now
+/// that one, and one barrier hinders few of them.
+const MOST_DECLS: usize = 4;
+
+/// Whether the item of this number is a rule that gets barriers by its shares.
+fn is_short(indexed: &IndexedSheet, number: u32) -> bool {
+    match find_rule(indexed.sheet(), number) {
+        Some(rule) => rule.decls.len() <= MOST_DECLS,
+        None => false,
+    }
+}
+
+/// Returns the way in which pairs move past others in a step.
+/// It returns `None` of a cut, and of a share of an upper rule with many declarations.
+fn way_of(indexed: &IndexedSheet, step: &Step) -> Option<Way> {
+    let Step::Share { upper, .. } = *step else {
+        return way_of_join(step);
+    };
+    if is_short(indexed, upper) {
+        Some(Way::Down)
+    } else {
+        None
+    }
+}
+
+/// Returns the number of the item whose pairs move past others in a step, and the way, or `None` as `way_of` does.
+fn mover_of(indexed: &IndexedSheet, step: &Step) -> Option<(u32, Way)> {
+    let way = way_of(indexed, step)?;
     let (first, last) = items_of(step);
     match way {
         Way::Up => Some((last, way)),
@@ -130,24 +156,25 @@ fn barrier_between(
     way: Way,
     obstacle: &Obstacle,
     other: &PairPlace,
-) -> Option<Barrier>
+) -> Option<NewBarrier>
     requires few { length indexed.now.items ≤ max_items }
     requires cover { Cover tables.now (rules_of indexed.now) }
     requires marked { IsMarked indexed.now }
     requires step_of { HasStep indexed.now.items step.now }
     requires blocked { (answers : List Answered) × IsBlockedBy answers indexed.now.items step.now obstacle.now }
     requires pair { obstacle.now.other ≡ others.Pair other.now }
-    ensures { IfSome result (λ w. spec.MakesBarrierFor indexed.now step.now obstacle.now w.way w.item_id w.order_key) }
+    ensures { IfSome result (λ w. spec.MakesBarrierFor indexed.now step.now obstacle.now w.way w.item_id w.barrier) }
 {
     if !is_barrier(indexed, tables, way, &obstacle.moved, other) {
         return None;
     }
     let order_key = indexed.mark(other.item).order_key;
     let item_id = indexed.mark(obstacle.moved.item).item_id;
-    Some(Barrier {
+    let decl = obstacle.moved.decl;
+    Some(NewBarrier {
         way,
         item_id,
-        order_key,
+        barrier: Barrier { order_key, decl },
     })
 }
 
@@ -157,15 +184,15 @@ fn barrier_of(
     tables: &Tables,
     step: &Step,
     obstacle: &Obstacle,
-) -> Option<Barrier>
+) -> Option<NewBarrier>
     requires few { length indexed.now.items ≤ max_items }
     requires cover { Cover tables.now (rules_of indexed.now) }
     requires marked { IsMarked indexed.now }
     requires step_of { HasStep indexed.now.items step.now }
     requires blocked { (answers : List Answered) × IsBlockedBy answers indexed.now.items step.now obstacle.now }
-    ensures { IfSome result (λ w. spec.MakesBarrierFor indexed.now step.now obstacle.now w.way w.item_id w.order_key) }
+    ensures { IfSome result (λ w. spec.MakesBarrierFor indexed.now step.now obstacle.now w.way w.item_id w.barrier) }
 {
-    let (mover, way) = mover_of(step)?;
+    let (mover, way) = mover_of(indexed, step)?;
     if mover != obstacle.moved.item {
         return None;
     }
@@ -175,76 +202,86 @@ fn barrier_of(
     }
 }
 
-/// Makes room for a barrier under an item id. All order keys other than 0 were there before.
-fn grow(barriers: &mut Vec<u64>, item_id: u32) -> Result<(), AllocError>
+/// Makes room for a barrier under an item id. All barriers whose order key is not 0 were there before.
+fn grow(barriers: &mut Vec<Barrier>, item_id: u32) -> Result<(), AllocError>
     ensures room { OnOk result (item_id < length barriers.new.items) }
     ensures long { OnOk result ((next : ℕ) → length barriers.old.items ≤ next → item_id < next → length barriers.new.items ≤ next) }
-    ensures left { OnOk result ((b l : ℕ) → slice_get barriers.new.items b ≡ Some l → 0 < l → slice_get barriers.old.items b ≡ Some l) }
+    ensures left { OnOk result ((b : ℕ) (l : declared.Barrier) → slice_get barriers.new.items b ≡ Some l → 0 < l.order_key → slice_get barriers.old.items b ≡ Some l) }
 {
     let item_id = item_id as usize;
     if barriers.len() <= item_id {
-        barriers.resize(item_id + 1, 0)?;
+        let none = Barrier {
+            order_key: 0,
+            decl: 0,
+        };
+        barriers.resize(item_id + 1, none)?;
     }
     Ok(())
 }
 
-/// Whether an order key hinders more in a way than an old one, which is 0 if there is none.
-fn hinders_more(way: Way, order_key: u64, old: u64) -> bool {
-    match way {
-        Way::Up => old < order_key,
-        Way::Down => old == 0 || order_key < old,
+/// Returns the order key of the barrier under an item id, or 0 if there is none.
+fn order_key_under(barriers: &[Barrier], item_id: u32) -> u64 {
+    match barriers.get(item_id as usize) {
+        Some(barrier) => barrier.order_key,
+        None => 0,
     }
 }
 
-/// Puts the order key of a barrier in a way under an item id, or leaves the order key that is there.
-fn put_order_key(barriers: &mut Vec<u64>, way: Way, item_id: usize, order_key: u64)
+/// Whether a barrier hinders more steps than the one that its item has in the same way.
+fn hinders_more(barriers: &Barriers, new: &NewBarrier) -> bool {
+    let order_key = new.barrier.order_key;
+    match new.way {
+        Way::Up => order_key_under(&barriers.ups, new.item_id) < order_key,
+        Way::Down => {
+            let old = order_key_under(&barriers.downs, new.item_id);
+            old == 0 || order_key < old
+        }
+    }
+}
+
+/// Puts a barrier under an item id, instead of the one that is there.
+fn put_at(barriers: &mut Vec<Barrier>, item_id: usize, barrier: Barrier)
     requires { item_id < length barriers.old.items }
     ensures long { length barriers.new.items ≡ length barriers.old.items }
-    ensures each { (b l : ℕ) → slice_get barriers.new.items b ≡ Some l → 0 < l → (slice_get barriers.old.items b ≡ Some l) ⊎ ((b ≡ item_id) × (l ≡ order_key)) }
+    ensures each { (b : ℕ) (l : declared.Barrier) → slice_get barriers.new.items b ≡ Some l → 0 < l.order_key → (slice_get barriers.old.items b ≡ Some l) ⊎ ((b ≡ item_id) × (l ≡ barrier)) }
 {
-    if hinders_more(way, order_key, barriers[item_id]) {
-        barriers[item_id] = order_key;
-    }
+    barriers[item_id] = barrier;
 }
 
-/// Puts the order key of a barrier under its item id, as `put_order_key` does, and makes room before.
-fn raise(barriers: &mut Vec<u64>, barrier: &Barrier) -> Result<(), AllocError>
-    ensures { OnOk result (spec.IsRaised barriers.old.items barriers.new.items barrier.now.item_id barrier.now.order_key) }
+/// Puts a barrier under its item id, instead of the one that is there. It makes room before.
+fn put_under(barriers: &mut Vec<Barrier>, new: &NewBarrier) -> Result<(), AllocError>
+    ensures { OnOk result (spec.IsRaised barriers.old.items barriers.new.items new.now.item_id new.now.barrier) }
 {
-    grow(barriers, barrier.item_id)?;
-    put_order_key(
-        barriers,
-        barrier.way,
-        barrier.item_id as usize,
-        barrier.order_key,
-    );
+    grow(barriers, new.item_id)?;
+    put_at(barriers, new.item_id as usize, new.barrier);
     Ok(())
 }
 
-/// Puts a barrier among those in its way, or leaves the order key that is there.
-fn set(barriers: &mut Barriers, barrier: &Barrier) -> Result<(), AllocError>
-    ensures { OnOk result (spec.IsSet barriers.old barriers.new barrier.now.way barrier.now.item_id barrier.now.order_key) }
+/// Puts a barrier among those in its way, instead of the one of its item.
+fn set(barriers: &mut Barriers, new: &NewBarrier) -> Result<(), AllocError>
+    ensures { OnOk result (spec.IsSet barriers.old barriers.new new.now.way new.now.item_id new.now.barrier) }
 {
-    match barrier.way {
-        Way::Up => raise(&mut barriers.ups, barrier),
-        Way::Down => raise(&mut barriers.downs, barrier),
+    match new.way {
+        Way::Up => put_under(&mut barriers.ups, new),
+        Way::Down => put_under(&mut barriers.downs, new),
     }
 }
 
-/// Sets a barrier that an obstacle makes, and puts the candidate of all joins of its item in its way on the watch list.
+/// Sets a barrier that an obstacle makes, and puts the candidate of all steps of its item in its way on the watch list.
 /// An entry of the candidate is under each pair of what the obstacle names. All else of the plan stays.
-fn put_barrier(plan: &mut Plan, barrier: &Barrier, obstacle: &Obstacle) -> Result<(), AllocError>
+fn put_barrier(plan: &mut Plan, barrier: &NewBarrier, obstacle: &Obstacle) -> Result<(), AllocError>
     requires { (by : Hindrance) × Names plan.old.indexed.items obstacle.now by }
     ensures same { OnOk result (plan.new ≡ record plan.old { entries = plan.new.entries; barriers = plan.new.barriers }) }
     ensures more { OnOk result ((x : Entry) → Contains plan.old.entries x → Contains plan.new.entries x) }
     ensures put { OnOk result (spec.HasMovesEntries plan.old.indexed.items plan.new.entries obstacle.now barrier.now.way barrier.now.item_id) }
-    ensures set { OnOk result (spec.IsSet plan.old.barriers plan.new.barriers barrier.now.way barrier.now.item_id barrier.now.order_key) }
+    ensures set { OnOk result (spec.IsSet plan.old.barriers plan.new.barriers barrier.now.way barrier.now.item_id barrier.now.barrier) }
 {
     put_all(plan, barrier.way, barrier.item_id, obstacle)?;
     set(&mut plan.barriers, barrier)
 }
 
-/// Sets a barrier that an obstacle of a step makes, if it finds one. The candidates of the plan stay.
+/// Sets a barrier that an obstacle of a step makes, if it finds one that hinders more than the one that its item has.
+/// The candidates of the plan stay.
 /// What stood for the steps of the plan's sheet still does, by all answers by which the obstacle blocks the step.
 pub(crate) fn set_barrier(
     plan: &mut Plan,
@@ -259,8 +296,11 @@ pub(crate) fn set_barrier(
         → IsQueuedBy answers source plan.old (candidate ∷ plan.old.candidates) → IsQueuedBy answers source plan.new (candidate ∷ plan.new.candidates)) }
 {
     barriers_stay();
-    match barrier_of(&plan.indexed, &plan.tables, step, obstacle) {
-        Some(barrier) => put_barrier(plan, &barrier, obstacle),
-        None => Ok(()),
+    let Some(barrier) = barrier_of(&plan.indexed, &plan.tables, step, obstacle) else {
+        return Ok(());
+    };
+    if !hinders_more(&plan.barriers, &barrier) {
+        return Ok(());
     }
+    put_barrier(plan, &barrier, obstacle)
 }

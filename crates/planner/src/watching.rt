@@ -144,7 +144,7 @@ pub(crate) fn put_watched(
     )
 }
 
-/// Returns the scope of all joins of an item in a way.
+/// Returns the scope of all steps in which pairs of an item move in a way.
 fn scope_of(way: Way) -> Scope
     ensures { scope_told result ≡ ways.scope_of way }
 {
@@ -154,7 +154,7 @@ fn scope_of(way: Way) -> Scope
     }
 }
 
-/// Returns the candidate, with a priority before all steps, of all joins in which the item of an item id moves in a way.
+/// Returns the candidate, with a priority before all steps, of all steps in which pairs of the item of an item id move in a way.
 fn candidate_of_moves(way: Way, owner: u32) -> Candidate
     ensures { candidate_told result ≡ moves_candidate way (max_bytes + 1) owner }
 {
@@ -169,7 +169,7 @@ fn candidate_of_moves(way: Way, owner: u32) -> Candidate
     }
 }
 
-/// Puts the candidate of all joins of an item in a way on the watch list, under each pair of what an obstacle names.
+/// Puts the candidate of all steps of an item in a way on the watch list, under each pair of what an obstacle names.
 /// An item id names the item. All else of the plan stays.
 pub(crate) fn put_all(
     plan: &mut Plan,

@@ -16,6 +16,7 @@ use Rattle.queue_laws.specs.Beside.{CoverIsOfEach}
 use Rattle.queue_laws.specs.Known.{IsKnown, StartIsKnown}
 use Rattle.queue_laws.specs.MarkNames.{IsMarked}
 use Rattle.step_queue.specs.RuleWeights.{AreWeighed}
+use Rattle.step_queue.specs.declared.barriers.Barrier.{Barrier}
 use Rattle.step_queue.specs.BarrierParts.{barriers_on, BarrierParts}
 use Rattle.list_facts.proofs.Options.{mapped}
 use Rattle.indexed_sheet.specs.IndexedParts.{IndexedParts}
@@ -70,8 +71,8 @@ start_state start cover answers source p plannable marked none no_barriers weigh
   watched = [];
   known = subst (IsKnown answers source p.indexed p.candidates []) (sym none)
       (start answers source p.indexed p.candidates (max_bytes + 1) marked (let short = plannable.short in omega (arith, short)) (λ n item_id at. candidate_there true 0 p.indexed marked p.tables p.candidates p.homes enqueued n item_id at (omega arith)));
-  barriers = record { past = λ way. subst (λ (xs : List ℕ). length xs ≤ p.indexed.next) (sym (no_barriers way)) (omega arith); each = λ way item_id order_key at some. absurd (nowhere way item_id order_key at) };
+  barriers = record { past = λ way. subst (λ (xs : List Barrier). length xs ≤ p.indexed.next) (sym (no_barriers way)) (omega arith); each = λ way item_id stop at some. absurd (nowhere way item_id stop at) };
 }
   where
-    nowhere : (way : Way) (item_id order_key : ℕ) → slice_get (barriers_on way p.barriers) item_id ≡ Some order_key → ⊥
-    nowhere way item_id order_key at = let e : None ≡ Some order_key = subst (λ (xs : List ℕ). slice_get xs item_id ≡ Some order_key) (no_barriers way) at in cc
+    nowhere : (way : Way) (item_id : ℕ) (stop : Barrier) → slice_get (barriers_on way p.barriers) item_id ≡ Some stop → ⊥
+    nowhere way item_id stop at = let e : None ≡ Some stop = subst (λ (xs : List Barrier). slice_get xs item_id ≡ Some stop) (no_barriers way) at in cc

@@ -2,21 +2,22 @@
 use Rattle.std.specs.Prelude.{◌≡◌, ◌≢◌, ℕ, ◌<◌, List, Some, length, slice_get}
 use Rattle.pending_laws.specs.declared.way.Way.{Way}
 use Rattle.pending_laws.specs.declared.way.Way.TheVariants.{Up, Down}
+use Rattle.step_queue.specs.declared.barriers.Barrier.{Barrier}
 use Rattle.step_queue.specs.declared.candidate.Candidate.{Candidate}
 use Rattle.step_queue.specs.declared.candidate.Scope.{Scope}
 use Rattle.step_queue.specs.declared.candidate.Scope.TheVariants.{Ups, Downs}
 
 -- Of barriers some stay, for which something holds of the item id and the order key.
-pub record SomeStay (old new : List ℕ) (Stays : ℕ → ℕ → Type 0) : Type 0 where
+pub record SomeStay (old new : List Barrier) (Stays : ℕ → ℕ → Type 0) : Type 0 where
   pub long : length new ≡ length old
-  pub left : (item_id order_key : ℕ) → slice_get new item_id ≡ Some order_key → 0 < order_key → (slice_get old item_id ≡ Some order_key) × Stays item_id order_key
+  pub left : (item_id : ℕ) (stop : Barrier) → slice_get new item_id ≡ Some stop → 0 < stop.order_key → (slice_get old item_id ≡ Some stop) × Stays item_id stop.order_key
 
--- the scope in the code of all joins in which an item moves in a way
+-- the scope in the code of all steps in which pairs of an item move in a way
 abbrev pub moves_scope : Way → Scope
 moves_scope Up = Ups
 moves_scope Down = Downs
 
--- a barrier in a way is not that of the item whose joins in that way a candidate stands for
+-- a barrier in a way is not that of the item whose steps in that way a candidate stands for
 abbrev pub IsOfOther : Way → Candidate → ℕ → ℕ → Type 0
 IsOfOther way candidate item_id order_key = candidate.scope ≡ moves_scope way → candidate.owner ≢ item_id
 

@@ -12,21 +12,22 @@ ghost use Rattle.step_laws.specs.Steps.{HasStep, first_item, last_item};
 use indexed_sheet::IndexedSheet;
 use pending_laws::Way;
 use step_laws::Step;
-use step_queue::{Barriers, Candidate, Scope};
+use step_queue::{Barrier, Barriers, Candidate, Scope};
 use step_savings::items_of;
 
 /// Takes down the barrier under an item id, if it is at one of these order keys.
-fn take_down_if(barriers: &mut Vec<u64>, item_id: usize, first: u64, last: u64)
+fn take_down_if(barriers: &mut Vec<Barrier>, item_id: usize, first: u64, last: u64)
     requires { item_id < length barriers.old.items }
     ensures { SomeStay barriers.old.items barriers.new.items (λ b order_key. item_id ≡ b → IsFromOther first last b order_key) }
 {
-    if barriers[item_id] == first || barriers[item_id] == last {
-        barriers[item_id] = 0;
+    let Barrier { order_key, decl } = barriers[item_id];
+    if order_key == first || order_key == last {
+        barriers[item_id] = Barrier { order_key: 0, decl };
     }
 }
 
 /// Takes down the barriers that are at one of these order keys.
-fn take_down_from(barriers: &mut Vec<u64>, first: u64, last: u64)
+fn take_down_from(barriers: &mut Vec<Barrier>, first: u64, last: u64)
     ensures { SomeStay barriers.old.items barriers.new.items (IsFromOther first last) }
 {
     for item_id in 0..barriers.len() {
@@ -56,12 +57,13 @@ pub(crate) fn take_down_for(barriers: &mut Barriers, indexed: &IndexedSheet, ste
 }
 
 /// Takes down the barrier of the item of an item id.
-fn take_down(barriers: &mut Vec<u64>, item_id: u32)
+fn take_down(barriers: &mut Vec<Barrier>, item_id: u32)
     ensures { SomeStay barriers.old.items barriers.new.items (λ b order_key. item_id ≡ b → ⊥) }
 {
     let item_id = item_id as usize;
     if item_id < barriers.len() {
-        barriers[item_id] = 0;
+        let Barrier { decl, .. } = barriers[item_id];
+        barriers[item_id] = Barrier { order_key: 0, decl };
     }
 }
 

@@ -7,6 +7,7 @@ use Rattle.std.proofs.lemmas.Bool.{cases_lt}
 use Rattle.std.proofs.lemmas.Option.{get_or_from_slice_get, slice_get-get_or, slice_get_within}
 use Rattle.std.proofs.lemmas.List.Elements.{Contains-append_cases, Contains-append_left, Contains-append_right}
 use Rattle.css_model.specs.Cascade.Order.{Pair}
+use Rattle.css_model.specs.declared.sheet.Decl.{Decl}
 use Rattle.css_model.specs.declared.sheet.Item.{Item}
 use Rattle.pending_laws.specs.ItemIds.{AreItemIds}
 use Rattle.pending_laws.specs.declared.way.Way.{Way}
@@ -15,15 +16,16 @@ use Rattle.pending_laws.specs.Candidates as pending
 use Rattle.pending_laws.specs.Candidates.{IsCandidateOf}
 use Rattle.pending_laws.specs.Priorities.{named, AreOrderKeys, FirstPriorityIsFirst}
 use Rattle.pending_laws.specs.Barred.{IsBarredBy, BarredItemsGoOn}
-use Rattle.pending_laws.specs.BarredPriorities.{barred_priorities, JoinsAreBarred, BarredPrioritiesAreBlocked, BarredPrioritiesAreMoves}
-use Rattle.pending_laws.specs.Ways.{mover, partner, IsMove, IsPast}
-use Rattle.queue_laws.specs.IndexedBarriers.{moves_candidate, AreBarriers, HasMovesEntry, HasMovesCandidate, HasBarrier, IsGone, IsStanding, IsBarred, IsBarredOn, MayBeWatched}
+use Rattle.pending_laws.specs.BarredPriorities.{barred_priorities, MovesAreBarred, BarredPrioritiesAreBlocked, BarredPrioritiesAreMoves}
+use Rattle.pending_laws.specs.Ways.{mover, moves_decl, partner, IsPast, MovesPairs}
+use Rattle.queue_laws.specs.IndexedBarriers.{decl_of_number, is_with, moves_candidate, moves_number, AreBarriers, HasMovesEntry, HasMovesCandidate, HasBarrier, IsGone, IsStanding, IsBarred, IsBarredOn, MayBeWatched}
 use Rattle.queue_laws.specs.MarkNames.{pending_of, IsMarked, MarksAreNames}
 use Rattle.queue_laws.specs.Passed.{IsBlockedHere}
 use Rattle.queue_laws.specs.Remembering.{entry_of, pairs_of, AreNowRemembered, AreReactivated, IsRemembered}
 use Rattle.queue_laws.proofs.ForCallers.{in_scope}
 use Rattle.queue_laws.proofs.Kept.{from_map, map_kept, to_map}
 use Rattle.queue_laws.proofs.StepNames.{within}
+use Rattle.step_queue.specs.declared.barriers.Barrier.{Barrier}
 use Rattle.step_queue.specs.declared.watch_list.Entry.{Entry}
 use Rattle.step_queue.specs.BarrierParts.{barriers_on, BarrierParts}
 use Rattle.list_facts.proofs.Members.{Contains-cons_cases, Contains-nil}
@@ -38,7 +40,7 @@ use Rattle.step_laws.specs.Free.{Answered, AreAmong}
 use Rattle.step_laws.specs.Sizes.{size, Saves}
 use Rattle.step_laws.specs.Steps.{IsStep, first_item, last_item}
 use Rattle.plan_laws.specs.Barrier.Hindering.{Hindrance, OfPair, Watched}
-use Rattle.plan_laws.specs.Barrier.Renumbering.{Leaves, new_number}
+use Rattle.plan_laws.specs.Barrier.Renumbering.{ItemsStay, Leaves, new_number}
 
 -- ---- Behind a step
 
@@ -72,13 +74,13 @@ stands_or_not (y ∷ xs) x = first (cases_lt x y) (stands_or_not xs x)
       | inr l ↦ inl (0, (let e : y ≡ x = omega (arith, l, more) in ap (λ (z : ℕ). Some z) e))
     ]
 
-module _ (go_on : BarredItemsGoOn) (names : MarksAreNames) (answers : List Answered) (b b' : IndexedParts) (j : Step) (d : Edit) (entries : List Entry) (bound : ℕ)
+module _ (go_on : BarredItemsGoOn) (items_stay : ItemsStay) (names : MarksAreNames) (answers : List Answered) (b b' : IndexedParts) (j : Step) (d : Edit) (entries : List Entry) (bound : ℕ)
     (candidates candidates' : List pending.Candidate) (barriers barriers' : BarrierParts) (marked : IsMarked b) (is : IsStep b.items j d) (kept : AreKept b b' d) (items : b'.items ≡ edited d b.items) (later : b.next ≤ b'.next)
     (reactivated : AreReactivated d entries candidates') (queued : (l : pending.Candidate) → Contains candidates l → Contains candidates' l) (fewer : (way : Way) → length (barriers_on way barriers') ≤ length (barriers_on way barriers))
-    (left : (way : Way) (item_id order_key : ℕ) → slice_get (barriers_on way barriers') item_id ≡ Some order_key → 0 < order_key → (slice_get (barriers_on way barriers) item_id ≡ Some order_key)
-    × ((n : ℕ) → slice_get (order_keys_of b.marks) n ≡ Some order_key → (first_item j ≢ n) × (last_item j ≢ n)))
+    (left : (way : Way) (item_id : ℕ) (stop : Barrier) → slice_get (barriers_on way barriers') item_id ≡ Some stop → 0 < stop.order_key → (slice_get (barriers_on way barriers) item_id ≡ Some stop)
+    × ((n : ℕ) → slice_get (order_keys_of b.marks) n ≡ Some stop.order_key → (first_item j ≢ n) × (last_item j ≢ n)))
     (are : AreBarriers answers b entries bound candidates barriers) where
-  abbrev Stands : Way → (item_id order_key : ℕ) → Type 0
+  abbrev Stands : Way → ℕ → Barrier → Type 0
   Stands = IsStanding answers b' entries bound candidates'
 
   -- an item with an old item id was there, and was left
@@ -92,7 +94,15 @@ module _ (go_on : BarredItemsGoOn) (names : MarksAreNames) (answers : List Answe
           by_mark (inl young) = absurd (omega (arith, young, same, past))
           by_mark (inr l) = (l.number, l.leaves, to_map (λ (y : Mark). y.item_id) b.marks l.number x l.mark_at ∙ ap (λ (z : ℕ). Some z) same)
 
-  module _ (way : Way) (item_id order_key : ℕ) (old : item_id < b.next) (outside : (n : ℕ) → slice_get (order_keys_of b.marks) n ≡ Some order_key → (first_item j ≢ n) × (last_item j ≢ n)) (w : HasBarrier answers b entries bound way item_id order_key) where
+  -- a declaration of an item that is left is there
+  module _ (m i : ℕ) (decl : Decl) (leaves : Leaves d m) where
+    stays_there : (item : Option Item) → slice_get b.items m ≡ item → decl_of_number item i ≡ Some decl → decl_of_number (slice_get b'.items (new_number d b.items m)) i ≡ Some decl
+    stays_there None at is = absurd (let e : None ≡ Some decl = is in cc)
+    stays_there (Some item) at is =
+        ap (λ (xs : List Item). decl_of_number (slice_get xs (new_number d b.items m)) i) items
+        ∙ ap (λ (o : Option Item). decl_of_number o i) (items_stay d b.items m item leaves at) ∙ is
+
+  module _ (way : Way) (item_id : ℕ) (stop : Barrier) (old : item_id < b.next) (outside : (n : ℕ) → slice_get (order_keys_of b.marks) n ≡ Some stop.order_key → (first_item j ≢ n) × (last_item j ≢ n)) (w : HasBarrier answers b entries bound way item_id stop) where
     item_ids_differ : (m n : ℕ) → slice_get (item_ids_of b.marks) m ≡ Some item_id → slice_get (item_ids_of b.marks) n ≡ Some item_id → m ≡ n
     item_ids_differ m n at at' =
         let created : AreItemIds b.items (item_ids_of b.marks) b.next = (names b marked).0 in
@@ -102,7 +112,7 @@ module _ (go_on : BarredItemsGoOn) (names : MarksAreNames) (answers : List Answe
         let not_behind : n < m → ⊥ = (λ less. created.differ n m 0 less (slice_get_within (item_ids_of b.marks) m item_id at) (n_is ∙ sym m_is)) in
         omega (arith, not_before, not_behind)
 
-    stands : Leaves d w.m → is_moved d.moved w.p ≡ false → is_moved d.moved w.q ≡ false → HasBarrier answers b' entries bound way item_id order_key
+    stands : Leaves d w.m → is_moved d.moved w.p ≡ false → is_moved d.moved w.q ≡ false → HasBarrier answers b' entries bound way item_id stop
     stands leaves p_still q_still =
         let place_leaves : Leaves d w.place = (let o = outside w.place w.at in leaves_others b.items j d w.place is o.0 o.1) in
         record {
@@ -114,7 +124,8 @@ module _ (go_on : BarredItemsGoOn) (names : MarksAreNames) (answers : List Answe
               (go_on way b.items j d is w.m w.place w.p w.q leaves place_leaves p_still q_still w.barrier);
           apart = w.apart;
           created = map_kept (λ (m : Mark). m.item_id) b.marks b'.marks (new_number d b.items) w.m item_id (λ m at. kept.kept w.m m leaves at) w.created;
-          at = map_kept (λ (m : Mark). m.order_key) b.marks b'.marks (new_number d b.items) w.place order_key (λ m at. kept.kept w.place m place_leaves at) w.at;
+          at = map_kept (λ (m : Mark). m.order_key) b.marks b'.marks (new_number d b.items) w.place stop.order_key (λ m at. kept.kept w.place m place_leaves at) w.at;
+          decl = stays_there w.m stop.decl w.p.decl leaves (slice_get b.items w.m) refl w.decl;
           under_moved = w.under_moved;
           under_other = w.under_other;
         }
@@ -122,18 +133,18 @@ module _ (go_on : BarredItemsGoOn) (names : MarksAreNames) (answers : List Answe
     reactivates : (p : Pair) → is_moved d.moved p ≡ true → HasMovesEntry entries p way bound item_id → Contains candidates' (moves_candidate way bound item_id)
     reactivates p moved (c, told, among) = subst (Contains candidates') told (reactivated p c moved among)
 
-    goes_over : Stands way item_id order_key
+    goes_over : Stands way item_id stop
     goes_over = by_item (stands_or_not (item_ids_of b'.marks) item_id)
       where
-        by_q : Leaves d w.m → is_moved d.moved w.p ≡ false → (moved : Bool) → is_moved d.moved w.q ≡ moved → Stands way item_id order_key
+        by_q : Leaves d w.m → is_moved d.moved w.p ≡ false → (moved : Bool) → is_moved d.moved w.q ≡ moved → Stands way item_id stop
         by_q leaves p_still true moved = inr (inl (reactivates w.q moved w.under_other))
         by_q leaves p_still false q_still = inl (stands leaves p_still q_still)
 
-        by_p : Leaves d w.m → (moved : Bool) → is_moved d.moved w.p ≡ moved → Stands way item_id order_key
+        by_p : Leaves d w.m → (moved : Bool) → is_moved d.moved w.p ≡ moved → Stands way item_id stop
         by_p leaves true moved = inr (inl (reactivates w.p moved w.under_moved))
         by_p leaves false p_still = by_q leaves p_still (is_moved d.moved w.q) refl
 
-        by_item : ((m : ℕ) × (slice_get (item_ids_of b'.marks) m ≡ Some item_id)) ⊎ ((m : ℕ) → slice_get (item_ids_of b'.marks) m ≡ Some item_id → ⊥) → Stands way item_id order_key
+        by_item : ((m : ℕ) × (slice_get (item_ids_of b'.marks) m ≡ Some item_id)) ⊎ ((m : ℕ) → slice_get (item_ids_of b'.marks) m ≡ Some item_id → ⊥) → Stands way item_id stop
         by_item (inr gone) = inr (inr gone)
         by_item (inl (m, at)) =
             let o : (n : ℕ) × Leaves d n × (slice_get (item_ids_of b.marks) n ≡ Some item_id) = old_item m item_id at old in
@@ -142,17 +153,17 @@ module _ (go_on : BarredItemsGoOn) (names : MarksAreNames) (answers : List Answe
   pub barriers_over : AreBarriers answers b' entries bound candidates' barriers'
   barriers_over = record { past = λ way. (let p = are.past way in let f = fewer way in omega (arith, p, f, later)); each = each }
     where
-      each : (way : Way) (item_id order_key : ℕ) → slice_get (barriers_on way barriers') item_id ≡ Some order_key → 0 < order_key → Stands way item_id order_key
-      each way item_id order_key at some = which (are.each way item_id order_key l.0 some)
+      each : (way : Way) (item_id : ℕ) (stop : Barrier) → slice_get (barriers_on way barriers') item_id ≡ Some stop → 0 < stop.order_key → Stands way item_id stop
+      each way item_id stop at some = which (are.each way item_id stop l.0 some)
         where
-          l : (slice_get (barriers_on way barriers) item_id ≡ Some order_key) × ((n : ℕ) → slice_get (order_keys_of b.marks) n ≡ Some order_key → (first_item j ≢ n) × (last_item j ≢ n))
-          l = left way item_id order_key at some
+          l : (slice_get (barriers_on way barriers) item_id ≡ Some stop) × ((n : ℕ) → slice_get (order_keys_of b.marks) n ≡ Some stop.order_key → (first_item j ≢ n) × (last_item j ≢ n))
+          l = left way item_id stop at some
 
           old : item_id < b.next
-          old = let p = are.past way in let i : item_id < length (barriers_on way barriers) = slice_get_within (barriers_on way barriers) item_id order_key l.0 in omega (arith, p, i)
+          old = let p = are.past way in let i : item_id < length (barriers_on way barriers) = slice_get_within (barriers_on way barriers) item_id stop l.0 in omega (arith, p, i)
 
-          which : IsStanding answers b entries bound candidates way item_id order_key → Stands way item_id order_key
-          which (inl w) = goes_over way item_id order_key old l.1 w
+          which : IsStanding answers b entries bound candidates way item_id stop → Stands way item_id stop
+          which (inl w) = goes_over way item_id stop old l.1 w
           which (inr (inl h)) = inr (inl (queued (moves_candidate way bound item_id) h))
           which (inr (inr gone)) = inr (inr (λ m at'. let o : (n : ℕ) × Leaves d n × (slice_get (item_ids_of b.marks) n ≡ Some item_id) = old_item m item_id at' old in gone o.0 o.2))
 
@@ -166,8 +177,8 @@ barriers_stay answers answers' b entries entries' bound candidates candidates' b
     under : (p : Pair) (way : Way) (item_id : ℕ) → HasMovesEntry entries p way bound item_id → HasMovesEntry entries' p way bound item_id
     under p way item_id (c, told, among) = (c, told, more (entry_of p c) among)
 
-    still : (way : Way) (item_id order_key : ℕ) → HasBarrier answers b entries bound way item_id order_key → HasBarrier answers' b entries' bound way item_id order_key
-    still way item_id order_key w = record {
+    still : (way : Way) (item_id : ℕ) (stop : Barrier) → HasBarrier answers b entries bound way item_id stop → HasBarrier answers' b entries' bound way item_id stop
+    still way item_id stop w = record {
       m = w.m;
       place = w.place;
       p = w.p;
@@ -176,15 +187,16 @@ barriers_stay answers answers' b entries entries' bound candidates candidates' b
       apart = answered (record { first = w.p.selector; second = w.q.selector; is_apart = false }) w.apart;
       created = w.created;
       at = w.at;
+      decl = w.decl;
       under_moved = under w.p way item_id w.under_moved;
       under_other = under w.q way item_id w.under_other;
     }
 
-    each : (way : Way) (item_id order_key : ℕ) → slice_get (barriers_on way barriers) item_id ≡ Some order_key → 0 < order_key → IsStanding answers' b entries' bound candidates' way item_id order_key
-    each way item_id order_key at some = which (are.each way item_id order_key at some)
+    each : (way : Way) (item_id : ℕ) (stop : Barrier) → slice_get (barriers_on way barriers) item_id ≡ Some stop → 0 < stop.order_key → IsStanding answers' b entries' bound candidates' way item_id stop
+    each way item_id stop at some = which (are.each way item_id stop at some)
       where
-        which : IsStanding answers b entries bound candidates way item_id order_key → IsStanding answers' b entries' bound candidates' way item_id order_key
-        which (inl w) = inl (still way item_id order_key w)
+        which : IsStanding answers b entries bound candidates way item_id stop → IsStanding answers' b entries' bound candidates' way item_id stop
+        which (inl w) = inl (still way item_id stop w)
         which (inr (inl h)) = inr (inl (queued way item_id h))
         which (inr (inr gone)) = inr (inr gone)
 
@@ -244,7 +256,7 @@ both_within : (way : Way) (k : Step) (count : ℕ) → (first_item k < count) ×
 both_within Up k count inside = (inside.1, inside.0)
 both_within Down k count inside = inside
 
-module _ (first : FirstPriorityIsFirst) (blocked : BarredPrioritiesAreBlocked) (are_moves : BarredPrioritiesAreMoves) (joins : JoinsAreBarred) (names : MarksAreNames) (answers : List Answered) (source : List ℕ) (b : IndexedParts) (entries : List Entry)
+module _ (first : FirstPriorityIsFirst) (blocked : BarredPrioritiesAreBlocked) (are_moves : BarredPrioritiesAreMoves) (barred : MovesAreBarred) (names : MarksAreNames) (answers : List Answered) (source : List ℕ) (b : IndexedParts) (entries : List Entry)
     (bound : ℕ) (candidates : List pending.Candidate) (marked : IsMarked b) (long : size source b.items ≤ bound) where
   abbrev item_ids : List ℕ
   item_ids = item_ids_of b.marks
@@ -258,9 +270,9 @@ module _ (first : FirstPriorityIsFirst) (blocked : BarredPrioritiesAreBlocked) (
   ascend : AreOrderKeys b.items order_keys
   ascend = (names b marked).1
 
-  -- a join in a way of the item of an item id past an order key
-  abbrev IsOfItem : Way → (item_id order_key : ℕ) → Step → Type 0
-  IsOfItem way item_id order_key k = IsMove way k × (slice_index item_ids (mover way k) ≡ item_id) × IsPast way order_key (slice_index order_keys (partner way k))
+  -- a step in a way of the item of an item id past a barrier
+  abbrev IsOfItem : Way → ℕ → Barrier → Step → Type 0
+  IsOfItem way item_id stop k = MovesPairs way k × (slice_index item_ids (mover way k) ≡ item_id) × IsPast way stop.order_key (slice_index order_keys (partner way k)) × (moves_number b.items k stop.decl ≡ true)
 
   -- order keys tell which numbers are past one
   past_number : (way : Way) (place order_key n : ℕ) → slice_get order_keys place ≡ Some order_key → n < length b.items → IsPast way order_key (slice_index order_keys n) → IsPast way place n
@@ -296,9 +308,9 @@ module _ (first : FirstPriorityIsFirst) (blocked : BarredPrioritiesAreBlocked) (
           let not_same : place ≡ n → ⊥ = (λ e. let f = same e in omega (arith, f, at_is, l)) in
           let r : place < n = omega (arith, not_behind, not_same) in r
 
-  module _ (way : Way) (item_id order_key : ℕ) (w : HasBarrier answers b entries bound way item_id order_key) where
+  module _ (way : Way) (item_id : ℕ) (stop : Barrier) (w : HasBarrier answers b entries bound way item_id stop) where
     abbrev priorities : List Watched
-    priorities = barred_priorities item_ids (OfPair w.p w.q) way w.m w.place (length b.items) bound
+    priorities = barred_priorities b.items item_ids (OfPair w.p w.q) w.p.decl way w.m w.place bound
 
     mover_created : slice_index item_ids w.m ≡ item_id
     mover_created = get_or_from_slice_get item_ids w.m item_id 0 w.created
@@ -319,8 +331,8 @@ module _ (first : FirstPriorityIsFirst) (blocked : BarredPrioritiesAreBlocked) (
 
     are_remembered : (others : List pending.Candidate) (watched : List Watched) → AreNowRemembered source b.items (pending_of b others watched) priorities entries
     are_remembered others watched a among k e n is saves some same p pair =
-        let u = are_moves item_ids (OfPair w.p w.q) way w.m w.place (length b.items) bound a among in
-        let move : IsMove way k × (slice_index item_ids w.m ≡ slice_index item_ids (mover way k)) = u.1 k n same in
+        let u = are_moves b.items item_ids (OfPair w.p w.q) w.p.decl way w.m w.place bound a among in
+        let move : MovesPairs way k × (slice_index item_ids w.m ≡ slice_index item_ids (mover way k)) = u.1 k n same in
         let c : HasMovesEntry entries p way bound item_id = under p (subst (λ (by : Hindrance). Contains (pairs_of by) p) (sym u.0) pair) in (
           c.0,
           subst (λ (l : pending.Candidate). IsCandidateOf (pending_of b others watched) l n k) (sym c.1)
@@ -337,21 +349,39 @@ module _ (first : FirstPriorityIsFirst) (blocked : BarredPrioritiesAreBlocked) (
     is_mover : (n : ℕ) → n < length b.items → slice_index item_ids n ≡ item_id → n ≡ w.m
     is_mover n here same = one_item n w.m (let e = created.beside in omega (arith, e, here)) (slice_get_within item_ids w.m item_id w.created) (same ∙ sym mover_created)
 
-    all_there : (k : Step) (e : Edit) (n : ℕ) → IsStep b.items k e → Saves source b.items e n → 0 < n → IsOfItem way item_id order_key k → (by : Hindrance) × Contains priorities (record { priority = named item_ids n k; by = by })
-    all_there k e n is saves some (move, moves, past) =
+    -- of a share both rules have the declaration of the barrier
+    moves_same : (v : Way) (k : Step) → MovesPairs v k → mover v k ≡ w.m → moves_number b.items k stop.decl ≡ true → moves_decl b.items k w.p.decl ≡ true
+    moves_same Down (Share x y) down is has =
+        ap (is_with (slice_get b.items y)) (sym w.decl ∙ ap (λ (n : ℕ). decl_of_number (slice_get b.items n) stop.decl) (sym is)) ∙ has
+    moves_same Down (JoinSelDown x y) down is has = refl
+    moves_same Down (JoinDeclDown x y) down is has = refl
+    moves_same Down (JoinSelUp x y) down is has = refl
+    moves_same Down (JoinDeclUp x y) down is has = refl
+    moves_same Down (CutDecl n i) down is has = refl
+    moves_same Down (CutSel n i) down is has = refl
+    moves_same Up (Share x y) up is has = absurd up
+    moves_same Up (JoinSelDown x y) up is has = refl
+    moves_same Up (JoinDeclDown x y) up is has = refl
+    moves_same Up (JoinSelUp x y) up is has = refl
+    moves_same Up (JoinDeclUp x y) up is has = refl
+    moves_same Up (CutDecl n i) up is has = refl
+    moves_same Up (CutSel n i) up is has = refl
+
+    all_there : (k : Step) (e : Edit) (n : ℕ) → IsStep b.items k e → Saves source b.items e n → 0 < n → IsOfItem way item_id stop k → (by : Hindrance) × Contains priorities (record { priority = named item_ids n k; by = by })
+    all_there k e n is saves some (move, moves, past, decl) =
         let here : (mover way k < length b.items) × (partner way k < length b.items) = both_within way k (length b.items) (within b.items k e is) in
         let saved : size source b.items ≡ size source (edited e b.items) + n = saves in (
           OfPair w.p w.q,
-          joins item_ids (OfPair w.p w.q) way w.m w.place (length b.items) bound k n move (is_mover (mover way k) here.0 moves) here.1
-              (past_number way w.place order_key (partner way k) w.at here.1 past) (omega (arith, saved, long)),
+          barred b.items item_ids (OfPair w.p w.q) w.p.decl way w.m w.place bound k n move (moves_same way k move (is_mover (mover way k) here.0 moves) decl) (is_mover (mover way k) here.0 moves) here.1
+              (past_number way w.place stop.order_key (partner way k) w.at here.1 past) (omega (arith, saved, long)),
         )
 
-    past_barrier : MayBeWatched answers source b entries bound candidates (IsOfItem way item_id order_key)
+    past_barrier : MayBeWatched answers source b entries bound candidates (IsOfItem way item_id stop)
     past_barrier = record { more = priorities; blocked = are_blocked; remembered = are_remembered; all = λ k e n is saves some past. inl (all_there k e n is saves some past) }
 
   module _ (barriers : BarrierParts) (are : AreBarriers answers b entries bound candidates barriers) where
     module _ (way : Way) where
-      -- a join past the barrier of an item whose item id is below a number
+      -- a step past the barrier of an item whose item id is below a number
       abbrev IsBelow : ℕ → Step → Type 0
       IsBelow count k = (slice_index item_ids (mover way k) < count) × IsBarredOn b barriers way k
 
@@ -379,22 +409,33 @@ module _ (first : FirstPriorityIsFirst) (blocked : BarredPrioritiesAreBlocked) (
             gone (mover way k) (slice_get-get_or item_ids (mover way k) 0 (let e = created.beside in omega (arith, e, here.0)) ∙ ap (λ (x : ℕ). Some x) has.0));
       }
 
-      order_key_is : (item_id : ℕ) (found : Option ℕ) (k : Step) → slice_get (barriers_on way barriers) item_id ≡ found → (past : IsOfThis item_id k) → Some past.1.1.0 ≡ found
-      order_key_is item_id found k at past = sym past.1.1.1 ∙ ap (slice_get (barriers_on way barriers)) past.0 ∙ at
+      stop_is : (item_id : ℕ) (found : Option Barrier) (k : Step) → slice_get (barriers_on way barriers) item_id ≡ found → (past : IsOfThis item_id k) → Some past.1.1.0 ≡ found
+      stop_is item_id found k at past = sym past.1.1.1 ∙ ap (slice_get (barriers_on way barriers)) past.0 ∙ at
 
-      past_this : (item_id : ℕ) (found : Option ℕ) → slice_get (barriers_on way barriers) item_id ≡ found → MayBeWatched answers source b entries bound candidates (IsOfThis item_id)
-      past_this item_id None at = no_priorities answers source b entries bound candidates (IsOfThis item_id) (λ k past. let e : Some past.1.1.0 ≡ None = order_key_is item_id None k at past in cc)
-      past_this item_id (Some zero) at = no_priorities answers source b entries bound candidates (IsOfThis item_id)
-          (λ k past. let e : past.1.1.0 ≡ zero = some-same (order_key_is item_id (Some zero) k at past) in let l : 0 < past.1.1.0 = past.1.1.2 in omega (arith, e, l))
-      past_this item_id (Some (suc l)) at = which (are.each way item_id (suc l) at (omega arith))
+      past_this : (item_id : ℕ) (found : Option Barrier) → slice_get (barriers_on way barriers) item_id ≡ found → MayBeWatched answers source b entries bound candidates (IsOfThis item_id)
+      past_this item_id None at = no_priorities answers source b entries bound candidates (IsOfThis item_id) (λ k past. let e : Some past.1.1.0 ≡ None = stop_is item_id None k at past in cc)
+      past_this item_id (Some stop) at = some_or_none (cases_lt 0 stop.order_key)
         where
-          here : (k : Step) → IsOfThis item_id k → IsOfItem way item_id (suc l) k
-          here k past = (past.1.0, past.0, subst (λ (x : ℕ). IsPast way x (slice_index order_keys (partner way k))) (some-same (order_key_is item_id (Some (suc l)) k at past)) past.1.1.3)
+          here : (k : Step) → (past : IsOfThis item_id k) → past.1.1.0 ≡ stop
+          here k past = some-same (stop_is item_id (Some stop) k at past)
 
-          which : IsStanding answers b entries bound candidates way item_id (suc l) → MayBeWatched answers source b entries bound candidates (IsOfThis item_id)
-          which (inl w) = same_priorities answers source b entries bound candidates (IsOfItem way item_id (suc l)) (IsOfThis item_id) here (past_barrier way item_id (suc l) w)
+          of_item : (k : Step) → IsOfThis item_id k → IsOfItem way item_id stop k
+          of_item k past = (
+            past.1.0,
+            past.0,
+            subst (λ (x : Barrier). IsPast way x.order_key (slice_index order_keys (partner way k))) (here k past) past.1.1.3,
+            subst (λ (x : Barrier). moves_number b.items k x.decl ≡ true) (here k past) past.1.2,
+          )
+
+          which : IsStanding answers b entries bound candidates way item_id stop → MayBeWatched answers source b entries bound candidates (IsOfThis item_id)
+          which (inl w) = same_priorities answers source b entries bound candidates (IsOfItem way item_id stop) (IsOfThis item_id) of_item (past_barrier way item_id stop w)
           which (inr (inl queued)) = queued_priorities item_id queued
           which (inr (inr gone)) = gone_priorities item_id gone
+
+          some_or_none : (0 < stop.order_key) ⊎ (stop.order_key ≤ 0) → MayBeWatched answers source b entries bound candidates (IsOfThis item_id)
+          some_or_none (inl some) = which (are.each way item_id stop at some)
+          some_or_none (inr none) = no_priorities answers source b entries bound candidates (IsOfThis item_id)
+              (λ k past. let l : 0 < stop.order_key = subst (λ (x : Barrier). 0 < x.order_key) (here k past) past.1.1.2 in omega (arith, none, l))
 
       past_first : (count : ℕ) → MayBeWatched answers source b entries bound candidates (IsBelow count)
       past_first zero = no_priorities answers source b entries bound candidates (IsBelow zero) (λ k h. let l : slice_index item_ids (mover way k) < 0 = h.0 in omega (arith, l))

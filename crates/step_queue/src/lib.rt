@@ -10,7 +10,7 @@ mod queue;
 mod rule_weights;
 mod watch_list;
 
-pub use barriers::Barriers;
+pub use barriers::{Barrier, Barriers};
 pub use candidate::{Candidate, FIRST_ROOM, ROOM, Scope, later_weighs_less};
 pub use doubles::are_decls_different;
 pub use heaviest::Heaviest;

@@ -8,7 +8,7 @@ ghost use Rattle.next_step.specs.Kinds.{IsByDecls};
 ghost use Rattle.next_step.specs.Viewed.{ArePartners, CoversIn, Grows, IsView};
 
 use crate::apart::masks::{decls_differ, share_no_decl};
-use crate::barriers::{is_down_past, is_up_past};
+use crate::barriers::{is_down_past, is_share_past, is_up_past};
 use crate::by_declarations::shares::share_saving;
 use crate::queue::found::Found;
 use crate::too_late::by_parts::{decl_joins_are_late, share_is_late};
@@ -64,6 +64,9 @@ fn try_share(view: &View<'_>, partners: &Partners, found: &mut Found) -> Result<
         apart,
         ..
     } = *partners;
+    if is_share_past(view.indexed, view.barriers, upper, lower) {
+        return Ok(());
+    }
     if share_no_decl(view.indexed, upper, lower) {
         return Ok(());
     }

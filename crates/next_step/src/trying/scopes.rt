@@ -2,7 +2,7 @@
 
 ghost use Rattle.std.specs.Prelude.{◌≡◌, ◌↔◌, ◌<◌, IsTrue, length, slice_index};
 ghost use Rattle.pending_laws.specs.ItemIds.{owner};
-ghost use Rattle.pending_laws.specs.Scopes.{IsDown, IsUp};
+ghost use Rattle.pending_laws.specs.Scopes.{IsDownward, IsUp};
 ghost use Rattle.indexed_sheet.specs.MarkList.{item_ids_of};
 ghost use Rattle.step_laws.specs.Steps.{HasStep, first_item, last_item};
 ghost use Rattle.next_step.specs.Named.{IsQueuedBeside};
@@ -27,22 +27,21 @@ fn is_up(step: &Step) -> bool
     }
 }
 
-/// Whether a step is a join in which the upper item moves down.
-fn is_down(step: &Step) -> bool
-    ensures { IsTrue result ↔ IsDown step.now }
+/// Whether a step moves pairs of the upper item down: in a join down, or in a share.
+fn is_downward(step: &Step) -> bool
+    ensures { IsTrue result ↔ IsDownward step.now }
 {
     match step {
-        Step::JoinSelDown { .. } | Step::JoinDeclDown { .. } => true,
+        Step::JoinSelDown { .. } | Step::JoinDeclDown { .. } | Step::Share { .. } => true,
         Step::CutDecl { .. }
         | Step::CutSel { .. }
         | Step::JoinSelUp { .. }
-        | Step::JoinDeclUp { .. }
-        | Step::Share { .. } => false,
+        | Step::JoinDeclUp { .. } => false,
     }
 }
 
 /// The item id of the item of this number.
-fn item_id_of(indexed: &IndexedSheet, number: u32) -> u32
+pub(crate) fn item_id_of(indexed: &IndexedSheet, number: u32) -> u32
     requires { number < length indexed.now.items }
     ensures { result ≡ slice_index (item_ids_of indexed.now.marks) number }
 {
@@ -78,6 +77,6 @@ pub(crate) fn is_beside(view: &View<'_>, step: &Step) -> bool
         Scope::Alone => false,
         Scope::Owned => owner_of(view.indexed, step) == owner,
         Scope::Ups => is_up(step) && item_ids_of_step(view.indexed, step).1 == owner,
-        Scope::Downs => is_down(step) && item_ids_of_step(view.indexed, step).0 == owner,
+        Scope::Downs => is_downward(step) && item_ids_of_step(view.indexed, step).0 == owner,
     }
 }

@@ -1,3 +1,4 @@
+use Rattle.std.proofs.Common.{refl}
 use Rattle.std.proofs.lemmas.Bool.{false≢true}
 use Rattle.pending_laws.specs.declared.way.Way.TheVariants.{Up, Down}
 use Rattle.step_laws.specs.declared.step.Step.TheVariants.{JoinSelUp, JoinSelDown}
@@ -22,14 +23,14 @@ pub try_both-requires-clause-first : goal.try_both-requires-clause-first
 try_both-requires-clause-first c = record {
   once = λ known. tt;
   apart = λ known. absurd (false≢true known);
-  past = λ known. (Up, (tt, c.requires.past_up known));
+  past = λ known. (Up, (tt, c.requires.past_up known, refl));
 }
 
 pub try_both-requires-clause-second : goal.try_both-requires-clause-second
 try_both-requires-clause-second c = record {
   once = λ known. tt;
   apart = λ known. absurd (false≢true known);
-  past = λ known. (Down, (tt, c.requires.past_down known));
+  past = λ known. (Down, (tt, c.requires.past_down known, refl));
 }
 
 pub returns-then-selector_joins_are_late-clause-up : goal.returns-then-selector_joins_are_late-clause-up

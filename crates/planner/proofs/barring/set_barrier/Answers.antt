@@ -29,8 +29,8 @@ barrier_of-requires-clause-blocked c = (
 pub put_barrier-requires : goal.put_barrier-requires
 put_barrier-requires c = (c.requires.blocked.1.by, c.requires.blocked.1.names)
 
-pub returns-in-Some-clause-queued : goal.returns-in-Some-clause-queued
-returns-in-Some-clause-queued c = on_four c.put_barrier.result _ _ _ _ _
-    (λ same more put is_set. set_queued c.barriers_stay.ensures c.args.plan.now c.put_barrier.new.plan c.args.step.now c.args.obstacle.now c.in-Some.barrier.way c.in-Some.barrier.item_id c.in-Some.barrier.order_key same more put is_set
-    (subst (λ (p : PlanParts). MakesBarrierFor p.indexed c.args.step.now c.args.obstacle.now c.in-Some.barrier.way c.in-Some.barrier.item_id c.in-Some.barrier.order_key) c.plan.view_is c.in-Some.ensures))
+pub returns-clause-queued : goal.returns-clause-queued
+returns-clause-queued c = on_four c.put_barrier.result _ _ _ _ _
+    (λ same more put is_set. set_queued c.barriers_stay.ensures c.args.plan.now c.put_barrier.new.plan c.args.step.now c.args.obstacle.now c.in-Some.barrier.way c.in-Some.barrier.item_id c.in-Some.barrier.barrier same more put is_set
+    (subst (λ (p : PlanParts). MakesBarrierFor p.indexed c.args.step.now c.args.obstacle.now c.in-Some.barrier.way c.in-Some.barrier.item_id c.in-Some.barrier.barrier) c.plan.view_is c.in-Some.ensures))
     c.put_barrier.ensures.same c.put_barrier.ensures.more c.put_barrier.ensures.put c.put_barrier.ensures.set

@@ -2,6 +2,7 @@ use Rattle.std.proofs.Common.{◌∷◌, subst}
 use Rattle.planner.proofs.Passed.{more_answers}
 use Rattle.planner.proofs.Tried.{first_found}
 use Rattle.planner.proofs.trying.try_candidate.Goals as goal
+use Rattle.queue_laws.specs.IndexedBarriers.{IsBarred}
 use Rattle.step_queue.specs.Told.{candidate_told}
 use Rattle.obstacles.specs.Blocking.{IsBlockedBy}
 use Rattle.order_laws.specs.Edits.{Edit}
@@ -12,6 +13,9 @@ use Rattle.next_step.specs.Named.{IsStepOf, NamesNone}
 
 pub pass_none-requires-clause-none : goal.pass_none-requires-clause-none
 pass_none-requires-clause-none g c = subst (λ (p : PlanParts). NamesNone c.args.source.now p.indexed c.args.candidate.now) c.plan.view_is (rw c.in_default.is at c.in_ok-step.ensures.none)
+
+pub pass_barred-requires-clause-barred : goal.pass_barred-requires-clause-barred
+pass_barred-requires-clause-barred g c = subst (λ (p : PlanParts). IsBarred p.indexed p.barriers c.in-Some.step) c.plan.view_is (c.is_barred.ensures.0 c.if-is_barred.true)
 
 pub returns-in_ok-queue_again-in-None-clause-state : goal.returns-in_ok-queue_again-in-None-clause-state
 returns-in_ok-queue_again-in-None-clause-state g c = c.in_ok-queue_again-in-None.ensures.state (g.O.Obstacles.answers c.obstacle_within.new.obstacles) c.args.source.now

@@ -1,6 +1,4 @@
-use Rattle.std.proofs.Common.{◌≡◌, ℕ, ◌<◌, Some, length, sym, subst, arith}
-use Rattle.std.specs.Prelude.{slice_get}
-use Rattle.std.proofs.lemmas.Option.{slice_get_within}
+use Rattle.std.proofs.Common.{arith}
 use Rattle.planner_state.proofs.TakenDown.{all_below, more_below, none_below}
 use Rattle.planner_state.proofs.barriers.take_down_from.Goals as goal
 

@@ -1,4 +1,4 @@
-use Rattle.std.proofs.Common.{◌≡◌, ℕ, ◌<◌}
+use Rattle.std.proofs.Common.{◌<◌}
 use Rattle.planner_state.specs.Barriers.{IsFromOther, SomeStay}
 use Rattle.planner_state.proofs.barriers.take_down_from.Given as goal
 

@@ -1,3 +1,4 @@
+use Rattle.std.proofs.Common.{refl}
 use Rattle.pending_laws.specs.declared.way.Way.TheVariants.{Up, Down}
 use Rattle.step_laws.specs.declared.step.Step.TheVariants.{JoinDeclUp, JoinDeclDown}
 use Rattle.next_step.proofs.Alike.{decl_joins_alike}
@@ -21,14 +22,14 @@ pub try_both-requires-clause-first : goal.try_both-requires-clause-first
 try_both-requires-clause-first c = record {
   once = λ known. tt;
   apart = c.requires.partners.apart;
-  past = λ known. (Up, (tt, c.is_up_past.ensures.0 known));
+  past = λ known. (Up, (tt, c.is_up_past.ensures.0 known, refl));
 }
 
 pub try_both-requires-clause-second : goal.try_both-requires-clause-second
 try_both-requires-clause-second c = record {
   once = λ known. tt;
   apart = c.requires.partners.apart;
-  past = λ known. (Down, (tt, c.is_down_past.ensures.0 known));
+  past = λ known. (Down, (tt, c.is_down_past.ensures.0 known, refl));
 }
 
 pub returns-then-decl_joins_are_late-clause-up : goal.returns-then-decl_joins_are_late-clause-up
