@@ -4,6 +4,7 @@ mod DeclWeights
 mod Differing
 mod RulesApart
 mod Finding
+mod FullSheets
 mod Halves
 mod Later
 mod LaterOrderKeys

@@ -42,7 +42,7 @@ use Rattle.next_step.proofs.Sharing.{apart_count, not_again, rest_once, share_we
 -- ---- What declarations weigh by what they are
 
 -- of some declarations those that are among others
-abbrev both : List DeclItem → List DeclItem → List DeclItem
+abbrev pub both : List DeclItem → List DeclItem → List DeclItem
 both others ds = filter (λ d. has_decl others d.decl) ds
 
 module _ (w : Decl → ℕ) where
@@ -103,7 +103,7 @@ plain_weight source (d ∷ ds) plain =
 plain_part : (source : List ℕ) (others ds : List DeclItem) → ArePlain source ds → ArePlain source (both others ds)
 plain_part source others ds plain x h = plain x (Contains-filter (λ (d : DeclItem). has_decl others d.decl) ds x h).0
 
-few_exchanged : (xs ys : List DeclItem) → StandOnce (λ (d : DeclItem). d.decl) xs → length (both ys xs) ≤ length (both xs ys)
+pub few_exchanged : (xs ys : List DeclItem) → StandOnce (λ (d : DeclItem). d.decl) xs → length (both ys xs) ≤ length (both xs ys)
 few_exchanged xs ys once =
     let most : sum_of (λ d. 1) (both ys xs) ≤ sum_of (λ d. 1) (both xs ys) = exchange (λ d. 1) xs ys once in
     let a : sum_of (λ d. 1) (both ys xs) ≡ length (both ys xs) = count_is (both ys xs) in
@@ -127,7 +127,7 @@ all_kept others (x ∷ ds) among =
     ∙ ap (λ (xs : List DeclItem). x ∷ xs) (all_kept others ds (λ d h. among d (Contains-there x.decl (decls ds) d h)))
 
 -- not all of its declarations are among the other one's
-keeps_some : (r q : RuleParts) (count : ℕ) → length (both q.decls r.decls) ≤ count → count < length r.decls → AreDeclsAmong r q → ⊥
+pub keeps_some : (r q : RuleParts) (count : ℕ) → length (both q.decls r.decls) ≤ count → count < length r.decls → AreDeclsAmong r q → ⊥
 keeps_some r q count few less among =
     let all : length (both q.decls r.decls) ≡ length r.decls = ap length (all_kept q.decls r.decls among) in
     omega (arith, few, less, all)

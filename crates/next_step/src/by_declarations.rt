@@ -2,6 +2,7 @@
 //! It goes along the order keys of the others, above the rule and below it, and ends once all the rest comes too late.
 //! `joins` tries the steps of two rules, and `shares` says what their share saves.
 //! `left_out` leaves out the lists of declarations that are too light.
+//! `full` says which steps there are not if the sheet has no room for one more item.
 
 ghost use Rattle.std.specs.Prelude.{◌≡◌, ◌≢◌, ℕ, ◌<◌, IfSome, OnOk, Some, length, slice_get, true};
 ghost use Rattle.css_model.specs.declared.sheet.Item.TheVariants as item;
@@ -19,11 +20,13 @@ ghost use Rattle.next_step.specs.LaterOrderKeys.{AreLateFrom};
 ghost use Rattle.next_step.specs.Looking.{IsWith};
 ghost use Rattle.next_step.specs.Viewed.{ArePartners, CoversIn, Grows, IsFocus, IsView};
 
+pub(crate) mod full;
 pub(crate) mod joins;
 pub(crate) mod left_out;
 pub(crate) mod shares;
 
 use crate::apart::are_apart;
+use crate::by_declarations::full::is_without_room;
 use crate::by_declarations::joins::try_by_decls;
 use crate::by_declarations::left_out::{leave_out_light, met_beside, none_left_out};
 use crate::others::{other_number, owns_none_below};
@@ -126,7 +129,7 @@ fn are_known_apart(view: &View<'_>, focus: &Focus<'_>, other: u32) -> bool
 }
 
 /// Whether the steps by declarations of the focus and the rule of another number are known not to come before the first of the
-/// others, by what the rules weigh alone.
+/// others, or not to be there, by what the rules weigh alone.
 fn is_passed(
     view: &View<'_>,
     focus: &Focus<'_>,
@@ -144,6 +147,9 @@ fn is_passed(
     ensures { result ≡ true → (k : declared.Step) → IsByDecls k → first_item k ≡ partners.now.upper → last_item k ≡ partners.now.lower
         → CoversIn view.now found.now k }
 {
+    if is_without_room(view, focus, other, partners, common, found) {
+        return true;
+    }
     if is_poor(view, focus, other, partners, common, found) {
         return true;
     }
