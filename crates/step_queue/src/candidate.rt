@@ -18,7 +18,7 @@ pub enum Scope {
     Owned,
     /// The joins in which its item moves up.
     Ups,
-    /// The joins in which its item moves down.
+    /// The joins in which its item moves down, and the shares of it with a rule below.
     Downs,
 }
 
