@@ -5,6 +5,7 @@ mod LawLemmas
 mod LexedLemmas
 mod Marks
 mod PartLemmas
+pub mod PlainNames
 mod RestartLemmas
 mod RuleLemmas
 mod RunLemmas

@@ -2,9 +2,11 @@
 
 ghost use Rattle.std.specs.Prelude.{◌≡◌, ◌≤◌, ◌+◌, ◌++◌, ◌<◌, ◌^◌, ◌*◌, List, ℕ, length, encode_utf8, false, true, MatchOption, IfSome, IfOk, OnOk};
 ghost use Rattle.std.specs.Char.{digit_value, is_ascii_hexdigit};
+ghost use Rattle.std.specs.List.{list_all};
 ghost use Rattle.std.specs.Str.{IsAscii, chars, str_eq_ignore_ascii_case};
 ghost use Rattle.css_model.specs.Text.Source.{IsWithin, text_at};
 ghost use Rattle.css_model.specs.Text.Names as escapes;
+ghost use Rattle.css_tokens.specs.Said as said;
 ghost use Rattle.css_tokens.specs.Said.{said_text, IsWide};
 
 use crate::characters::is_newline;
@@ -199,7 +201,7 @@ fn push_said(out: &mut Vec<u8>, said: Said) -> Result<(), AllocError>
 fn unescaped(alloc: Global, text: &[u8]) -> Result<Vec<u8>, AllocError>
     ensures { IfOk result (λ v. v.items ≡ escapes.unescaped text.now) }
 {
-    let mut out = Vec::new(alloc);
+    let mut out = Vec::with_capacity(alloc, text.len())?;
     let mut i = 0;
     'names: while i < text.len() {
         let (said, len) = first_said(text[i], &text[i + 1..]);
@@ -215,6 +217,48 @@ fn codes_of(alloc: Global, text: &str) -> Result<Vec<char>, AllocError>
     text.chars().collect(alloc)
 }
 
+/// Whether a byte says itself as a code point, wherever it is in a name or a string.
+fn says_itself(c: u8) -> bool
+    ensures { result ≡ said.says_itself c }
+{
+    c != 0 && c != b'\\' && c < 128
+}
+
+/// Whether all bytes of a text say themselves.
+fn all_say_themselves(text: &[u8]) -> bool
+    ensures { result ≡ list_all said.says_itself text.now }
+{
+    text.iter().all(|c| says_itself(*c))
+}
+
+/// Returns `true` only if a name or the inside of a string says its own bytes, as code points. Most do.
+#[tactic(auto, using(crate::proofs::PlainNames::plain_decoded))]
+fn is_plain(text: &[u8]) -> bool
+    ensures { result ≡ true → escapes.decoded text.now ≡ text.now }
+{
+    all_say_themselves(text)
+}
+
+/// The bytes as code points.
+fn codes_of_bytes(alloc: Global, text: &[u8]) -> Result<Vec<char>, AllocError>
+    ensures { IfOk result (λ v. v.items ≡ text.now) }
+{
+    let mut codes = Vec::with_capacity(alloc, text.len())?;
+    for c in text {
+        codes.push(char::from(*c))?;
+    }
+    Ok(codes)
+}
+
+/// The code points of a name or of the inside of a string with escapes, or with other bytes than ASCII.
+fn decoded_codes(alloc: Global, text: &[u8]) -> Result<Vec<char>, AllocError>
+    ensures { IfOk result (λ v. v.items ≡ escapes.decoded text.now) }
+{
+    let bytes = unescaped(alloc, text)?;
+    let text = String::from_utf8_lossy(alloc, bytes.as_slice())?;
+    codes_of(alloc, text.as_str())
+}
+
 /// The code points of a name or of the inside of a string, once its escapes are read (CSS Syntax 3, section 4.3.7). The
 /// piece of the source is a name, or lies between the quotes of a string. Bytes that are not UTF-8 read as U+FFFD.
 /// `AllocError` where memory runs out.
@@ -222,7 +266,11 @@ pub fn decode(alloc: Global, source: &[u8], name: &Piece) -> Result<Text, AllocE
     requires { IsWithin source.now name.now }
     ensures { IfOk result (λ t. t ≡ escapes.decoded (text_at source.now name.now)) }
 {
-    let bytes = unescaped(alloc, name.text(source))?;
-    let text = String::from_utf8_lossy(alloc, bytes.as_slice())?;
-    Ok(Text::new(codes_of(alloc, text.as_str())?))
+    let text = name.text(source);
+    let codes = if is_plain(text) {
+        codes_of_bytes(alloc, text)?
+    } else {
+        decoded_codes(alloc, text)?
+    };
+    Ok(Text::new(codes))
 }

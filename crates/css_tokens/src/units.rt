@@ -9,6 +9,7 @@ use crate::characters::{begins, is_bad_in_url, is_name, is_newline, is_start, is
 pub(crate) const LONGEST_UNIT: usize = 9;
 
 /// A white space, where CR LF is one (CSS Syntax 3, section 3.3).
+#[inline]
 pub(crate) fn white_unit(text: &[u8]) -> usize
     ensures value { result ≡ units.white_unit text.now }
     ensures small { result ≤ 2 }
@@ -61,6 +62,7 @@ pub(crate) fn escape_after(text: &[u8]) -> usize
 }
 
 /// An ident code point or an escape.
+#[inline]
 pub(crate) fn name_unit(text: &[u8]) -> usize
     ensures value { result ≡ units.name_unit text.now }
     ensures small { result ≤ 9 }
@@ -80,6 +82,7 @@ pub(crate) fn name_unit(text: &[u8]) -> usize
 }
 
 /// An ident-start code point or an escape.
+#[inline]
 fn start_unit(text: &[u8]) -> usize
     ensures value { result ≡ units.start_unit text.now }
     ensures small { result ≤ 9 }
@@ -180,6 +183,7 @@ pub(crate) fn url_unit(text: &[u8]) -> usize
     }
 }
 
+#[inline]
 pub(crate) fn digit_unit(text: &[u8]) -> usize
     ensures value { result ≡ units.digit_unit text.now }
     ensures small { result ≤ 1 }
