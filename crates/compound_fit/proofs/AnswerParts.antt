@@ -1,5 +1,5 @@
 -- The attributes that are given, from the answers for each name.
-use Rattle.std.proofs.Common.{◌≡◌, ◌⊎◌, ℕ, Bool, true, false, ◌||◌, cond, suc, ◌+◌, ◌<◌, length, take, drop, drop-cons, get_or, append_assoc, arith, List, [], ◌∷◌, ◌++◌, map, Option, Some, None, refl, sym, ap, subst, inl, inr, ◌∙◌}
+use Rattle.std.proofs.Common.{◌≡◌, ◌⊎◌, ℕ, Bool, true, false, ◌||◌, cond, suc, ◌+◌, ◌<◌, length, take, drop, drop-cons, get_or, List, [], ◌∷◌, ◌++◌, map, Option, Some, None, Err, refl, sym, ap, subst, inl, inr, ◌∙◌}
 use Rattle.std.proofs.lemmas.Bool.{false≢true, true≢false, or_parts, or_cases}
 use Rattle.std.proofs.lemmas.List.{map-append}
 use Rattle.std.proofs.lemmas.List.Elements.{All-append, All-head, All-tail, All-nil, All-cons}
@@ -8,7 +8,7 @@ use Rattle.std.specs.Bool.{MatchBool}
 use Rattle.std.specs.Cmp.Lexicographic.{slice_cmp, bytes_decides, texts_ties}
 use Rattle.std.specs.declared.cmp.Ordering.TheVariants.{Less}
 use Rattle.std.specs.Ordering.{is_eq, nat_cmp}
-use Rattle.std.specs.List.{All, AllByRecursion}
+use Rattle.std.specs.List.{All, AllByRecursion, list_all}
 use Rattle.std.specs.List.Sorted.{IsStrictlySortedBy}
 use Rattle.css_model.specs.declared.selector.AttrTest.{AttrTest}
 use Rattle.css_model.specs.Documents.Document.{IsText}
@@ -19,13 +19,15 @@ use Rattle.attr_values.specs.Asked.{PassesAsAsked, is_asked}
 use Rattle.attr_values.specs.Separators.{spaces_taken}
 use Rattle.attr_values.specs.Solved.{Solves}
 use Rattle.list_facts.proofs.SliceRange.{take_parts}
-use Rattle.compound_fit.specs.Answers.{AreAnswers, AreTexts}
+use Rattle.compound_fit.specs.declared.compound.FitError.{FitError}
+use Rattle.compound_fit.specs.declared.compound.FitError.TheVariants.{SpacesTaken, NoMemory}
+use Rattle.compound_fit.specs.Answers.{AreAnswers, AreTexts, IsRefused, IsSolvedName}
 use Rattle.compound_fit.specs.Attributes.{AttributeFits, given, given_one, has_nothing, is_nothing, tests_of, value_of}
 use Rattle.compound_fit.specs.Fitting.{AreSolved, SolvesName, SpacesAreLeft, as_answer}
 use Rattle.compound_fit.specs.FreeNames.{is_among}
-use Rattle.compound_fit.specs.Ids.{SolvesId}
+use Rattle.compound_fit.specs.Ids.{ArePlain, SolvesId}
 use Rattle.compound_fit.proofs.Members.{same_itself}
-use Rattle.compound_fit.proofs.NameParts.{unnamed}
+use Rattle.compound_fit.proofs.NameParts.{name_is, tests_are_of, unnamed}
 
 names : List (List ℕ × Fits) → List (List ℕ)
 names answers = map (λ a. a.0) answers
@@ -198,23 +200,17 @@ none_given T (a ∷ answers) solved nothing value fits =
     cases (Value v) here e later = later e value fits
 
 -- one answer more
-given_then : (name : List ℕ) (f : Fits) (rest : List (List ℕ × List ℕ)) → given_one name f rest ≡ given_one name f [] ++ rest
-given_then name Absent rest = refl
-given_then name Nothing rest = refl
-given_then name (Value v) rest = refl
+given_then : (name : List ℕ) (f : Fits) (pairs more : List (List ℕ × List ℕ)) → given_one name f (pairs ++ more) ≡ given_one name f pairs ++ more
+given_then name Absent pairs more = refl
+given_then name Nothing pairs more = refl
+given_then name (Value v) pairs more = refl
 
-pub next_answer : (answers : List (List ℕ × Fits)) (i : ℕ) (a : List ℕ × Fits) → i < length answers → a ≡ get_or answers i a → drop i answers ≡ a ∷ drop (i + 1) answers
-next_answer answers i a lt is =
-    drop-cons answers i a lt ∙ ap (λ (x : List ℕ × Fits). x ∷ drop (suc i) answers) (sym is) ∙ ap (λ (n : ℕ). a ∷ drop n answers) (let e : suc i ≡ i + 1 = omega arith in e)
+given_more : (answers : List (List ℕ × Fits)) (a : List ℕ × Fits) → given (answers ++ a ∷ []) ≡ given answers ++ given_one a.0 a.1 []
+given_more [] a = refl
+given_more (b ∷ answers) a = ap (given_one b.0 b.1) (given_more answers a) ∙ given_then b.0 b.1 (given answers) (given_one a.0 a.1 [])
 
-pub pairs_more : (answers rest : List (List ℕ × Fits)) (a : List ℕ × Fits) (i : ℕ) (old new : List (List ℕ × List ℕ)) → drop i answers ≡ a ∷ rest → new ≡ old ++ given_one a.0 a.1 [] →
-    old ++ given (drop i answers) ≡ given answers → new ++ given rest ≡ given answers
-pairs_more answers rest a i old new next e h =
-    ap (λ (t : List (List ℕ × List ℕ)). t ++ given rest) e ∙ append_assoc old (given_one a.0 a.1 []) (given rest) ∙ ap (λ (t : List (List ℕ × List ℕ)). old ++ t) (sym (given_then a.0 a.1 (given rest))) ∙
-    ap (λ (t : List (List ℕ × Fits)). old ++ given t) (sym next) ∙ h
-
-pub nothing_more : (answers rest : List (List ℕ × Fits)) (a : List ℕ × Fits) (i : ℕ) → drop i answers ≡ a ∷ rest → false ≡ is_nothing a.1 → has_nothing (drop i answers) ≡ has_nothing answers → has_nothing rest ≡ has_nothing answers
-nothing_more answers rest a i next some h = ap (λ (b : Bool). b || has_nothing rest) some ∙ ap has_nothing (sym next) ∙ h
+pub pairs_more : (answers : List (List ℕ × Fits)) (a : List ℕ × Fits) (old new : List (List ℕ × List ℕ)) → new ≡ old ++ given_one a.0 a.1 [] → old ≡ given answers → new ≡ given (answers ++ a ∷ [])
+pairs_more answers a old new e h = e ∙ ap (λ (t : List (List ℕ × List ℕ)). t ++ given_one a.0 a.1 []) h ∙ sym (given_more answers a)
 
 pub texts_more : (old more new : List (List ℕ × List ℕ)) → new ≡ old ++ more → AreTexts old → AreTexts more → AreTexts new
 texts_more old more new e h k = subst AreTexts (sym e) (All-append (λ a. IsText a.0 × IsText a.1) old more h k)
@@ -238,3 +234,23 @@ pub solved_here : (n id : List ℕ) (f : Fits) (b : Bool) (group tests : List (A
 solved_here n id f b group tests named is same h =
     subst (λ (b : Bool). MatchBool b (SolvesId f tests) ((spaces_taken tests ≡ false) × Solves f tests)) (is ∙ ap (same_text n) named)
     (subst (λ (ts : List (AttrTest × Bool)). MatchBool b (SolvesId f ts) ((spaces_taken ts ≡ false) × Solves f ts)) same h)
+
+-- the tests of `id` are plain
+pub plain_here : (n : List ℕ) (b : Bool) (group tests : List (AttrTest × Bool)) → b ≡ same_text n (codes "id") → group ≡ tests_of n tests → ArePlain (tests_of (codes "id") tests) → b ≡ true → ArePlain group
+plain_here n b group tests is same plain id =
+    subst ArePlain (sym same) (subst (λ (m : List ℕ). ArePlain (tests_of m tests)) (sym ((bytes_decides n (codes "id")).0 (sym is ∙ id))) plain)
+
+-- one answer, where all tests have its name
+pub one_answers : (n : List ℕ) (f : Fits) (b : Bool) (tests : List (AttrTest × Bool)) (answers : List (List ℕ × Fits)) → b ≡ same_text n (codes "id") → list_all (λ t. same_text t.0.name n) tests ≡ true →
+    answers ≡ (n, f) ∷ [] → MatchBool b (SolvesId f tests) ((spaces_taken tests ≡ false) × Solves f tests) → AreAnswers answers tests
+one_answers n f b tests answers is all one h =
+    subst (λ (found : List (List ℕ × Fits)). AreAnswers found tests) (sym one) (record {
+      names = name_is n tests all;
+      solved =
+          All-cons (λ a. SolvesName a.0 a.1 (tests_of a.0 tests)) (n, f) [] (solved_here n (codes "id") f b tests (tests_of n tests) refl is (tests_are_of n tests all) h)
+          (All-nil (λ a. SolvesName a.0 a.1 (tests_of a.0 tests)));
+    })
+
+pub one_refuses : (n : List ℕ) (e : FitError) (b : Bool) (tests : List (AttrTest × Bool)) → b ≡ same_text n (codes "id") → list_all (λ t. same_text t.0.name n) tests ≡ true → IsSolvedName b (Err e) tests → IsRefused e tests
+one_refuses n SpacesTaken b tests is all h = (n, sym is ∙ h.0, ap spaces_taken (sym (tests_are_of n tests all)) ∙ h.1)
+one_refuses n NoMemory b tests is all h = tt

@@ -10,6 +10,8 @@ mod KindParts
 mod Left
 mod Members
 mod NameParts
+mod NoFlags
 mod Small
 mod TableSteps
+mod TwoLists
 mod Whole

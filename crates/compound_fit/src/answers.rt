@@ -1,14 +1,17 @@
 //! How each attribute passes its tests.
 
 ghost use Rattle.std.specs.Prelude.{◌≡◌, ◌++◌, [], ◌∷◌, false, true, ℕ, List, IfOk, IfErr, OnOk, MatchOption, codes};
+ghost use Rattle.std.specs.List.{list_all};
 ghost use Rattle.css_model.specs.Documents.Document.{IsText};
+ghost use Rattle.css_model.specs.Lists.{same_text};
 ghost use Rattle.attr_values.specs.Separators.{HasUnused};
 ghost use Rattle.compound_fit.specs.Attributes.{given, given_one, has_nothing, is_nothing, tests_of};
 ghost use Rattle.compound_fit.specs.Answers.{AreAnswers, AreTexts, IsSolvedName, IsRefused};
 ghost use Rattle.compound_fit.specs.Ids.{ArePlain};
 
-use crate::attributes::{id_name, names, tests_of};
+use crate::attributes::{common_name, names, tests_of};
 use crate::compound::FitError;
+use crate::conditions::is_id;
 use crate::id::solve_id;
 use attr_values::{Fits, ValueError, solve_value};
 use css_model::{AttrTest, Text};
@@ -24,12 +27,45 @@ pub(crate) fn answers(
     ensures ok { IfOk result (λ answers. AreAnswers answers.items tests.now) }
     ensures err { IfErr result (λ e. IsRefused e tests.now) }
 {
+    match common_name(tests) {
+        Some(name) => one_answer(alloc, tests, name),
+        None => all_answers(alloc, tests),
+    }
+}
+
+/// How an attribute passes its tests, where all are its own.
+fn one_answer(
+    alloc: Global,
+    tests: &[(AttrTest, bool)],
+    name: &Text,
+) -> Result<Vec<(Text, Fits)>, FitError>
+    requires named { list_all (λ t. same_text t.0.name name.now) tests.now ≡ true }
+    requires ids { ArePlain (tests_of (codes "id") tests.now) }
+    requires unused { (name : List ℕ) → HasUnused (tests_of name tests.now) }
+    ensures ok { IfOk result (λ answers. AreAnswers answers.items tests.now) }
+    ensures err { IfErr result (λ e. IsRefused e tests.now) }
+{
+    let fits = match answer(alloc, is_id(name), tests) {
+        Ok(fits) => fits,
+        Err(e) => return Err(e),
+    };
+    let mut answers = Vec::with_capacity(alloc, 1)?;
+    push_answer(&mut answers, name, fits)?;
+    Ok(answers)
+}
+
+/// How each attribute passes its tests, by ascending names, from copies of the tests of each.
+fn all_answers(alloc: Global, tests: &[(AttrTest, bool)]) -> Result<Vec<(Text, Fits)>, FitError>
+    requires ids { ArePlain (tests_of (codes "id") tests.now) }
+    requires unused { (name : List ℕ) → HasUnused (tests_of name tests.now) }
+    ensures ok { IfOk result (λ answers. AreAnswers answers.items tests.now) }
+    ensures err { IfErr result (λ e. IsRefused e tests.now) }
+{
     let names = names(alloc, tests)?;
-    let id = id_name(alloc)?;
     let mut answers = Vec::new(alloc);
     for name in names.as_slice() {
         let group = tests_of(alloc, tests, name)?;
-        let fits = match answer(alloc, *name == id, group.as_slice()) {
+        let fits = match answer(alloc, is_id(name), group.as_slice()) {
             Ok(fits) => fits,
             Err(e) => return Err(e),
         };
@@ -67,33 +103,48 @@ fn push_answer(answers: &mut Vec<(Text, Fits)>, name: &Text, fits: Fits) -> Resu
 /// The attributes that have a value, with it; nothing where some attribute can pass in no way.
 pub(crate) fn attributes(
     alloc: Global,
-    answers: &[(Text, Fits)],
+    answers: Vec<(Text, Fits)>,
 ) -> Result<Option<Vec<(Text, Text)>>, AllocError>
     ensures { IfOk result (λ found. MatchOption found
-        (has_nothing answers.now ≡ true)
-        (λ pairs. (has_nothing answers.now ≡ false) × (pairs.items ≡ given answers.now) × AreTexts pairs.items)) }
+        (has_nothing answers.items ≡ true)
+        (λ pairs. (has_nothing answers.items ≡ false) × (pairs.items ≡ given answers.items) × AreTexts pairs.items)) }
 {
-    let mut pairs = Vec::new(alloc);
-    for (name, fits) in answers {
-        if is_nothing(fits) {
-            return Ok(None);
-        }
-        push_given(&mut pairs, name, fits)?;
+    if has_nothing(answers.as_slice()) {
+        return Ok(None);
     }
+    let pairs = all_given(alloc, answers)?;
     Ok(Some(pairs))
 }
 
-/// Whether an answer is `Nothing`: no value passes.
+/// Whether some answer is `Nothing`: no value passes.
+fn has_nothing(answers: &[(Text, Fits)]) -> bool
+    ensures { result ≡ has_nothing answers.now }
+{
+    answers.iter().any(|(_, fits)| is_nothing(fits))
+}
+
+/// Whether an answer is `Nothing`.
 fn is_nothing(fits: &Fits) -> bool
     ensures { result ≡ is_nothing fits.now }
 {
     matches!(fits, Fits::Nothing)
 }
 
+/// The attributes that have a value, with it.
+fn all_given(alloc: Global, answers: Vec<(Text, Fits)>) -> Result<Vec<(Text, Text)>, AllocError>
+    ensures { IfOk result (λ pairs. (pairs.items ≡ given answers.items) × AreTexts pairs.items) }
+{
+    let mut pairs = Vec::with_capacity(alloc, answers.len())?;
+    for (name, fits) in answers {
+        push_given(&mut pairs, name, fits)?;
+    }
+    Ok(pairs)
+}
+
 /// Appends a name with its value, if it has one.
-fn push_given(pairs: &mut Vec<(Text, Text)>, name: &Text, fits: &Fits) -> Result<(), AllocError>
-    ensures pair { OnOk result (pairs.new.items ≡ pairs.old.items ++ given_one name.now fits.now []) }
-    ensures texts { OnOk result (AreTexts (given_one name.now fits.now [])) }
+fn push_given(pairs: &mut Vec<(Text, Text)>, name: Text, fits: Fits) -> Result<(), AllocError>
+    ensures pair { OnOk result (pairs.new.items ≡ pairs.old.items ++ given_one name fits []) }
+    ensures texts { OnOk result (AreTexts (given_one name fits [])) }
 {
     match fits {
         Fits::Value(value) => push_pair(pairs, name, value),
@@ -102,14 +153,12 @@ fn push_given(pairs: &mut Vec<(Text, Text)>, name: &Text, fits: &Fits) -> Result
 }
 
 /// Appends a name and a value.
-fn push_pair(pairs: &mut Vec<(Text, Text)>, name: &Text, value: &Text) -> Result<(), AllocError>
-    ensures pair { OnOk result (pairs.new.items ≡ pairs.old.items ++ (name.now, value.now) ∷ []) }
-    ensures texts { AreTexts ((name.now, value.now) ∷ []) }
+fn push_pair(pairs: &mut Vec<(Text, Text)>, name: Text, value: Text) -> Result<(), AllocError>
+    ensures pair { OnOk result (pairs.new.items ≡ pairs.old.items ++ (name, value) ∷ []) }
+    ensures texts { AreTexts ((name, value) ∷ []) }
 {
-    see(name);
-    see(value);
-    let name = name.copy()?;
-    let value = value.copy()?;
+    see(&name);
+    see(&value);
     pairs.push((name, value))?;
     Ok(())
 }

@@ -1,6 +1,8 @@
 //! The tests of attributes in compounds, name by name (Selectors 3, sections 6.3, 6.4 and 6.5).
 
-ghost use Rattle.std.specs.Prelude.{◌≡◌, ◌++◌, not, [], IfOk, OnOk, codes};
+ghost use Rattle.std.specs.Prelude.{◌≡◌, ◌++◌, not, true, [], IfOk, IfSome, OnOk, codes};
+ghost use Rattle.std.specs.List.{list_all};
+ghost use Rattle.css_model.specs.Lists.{same_text};
 ghost use Rattle.compound_fit.specs.Attributes.{
   AreNames,
   attribute_test,
@@ -13,18 +15,32 @@ ghost use Rattle.compound_fit.specs.Attributes.{
 use css_model::{AttrTest, Op, Simple, Test, Text};
 use std::alloc::{AllocError, Global};
 
-/// The tests of attributes, each with whether it is asked to hold.
+/// The tests of attributes in two lists, each with whether it is asked to hold.
 pub(crate) fn attribute_tests(
     alloc: Global,
-    simples: &[Simple],
+    x: &[Simple],
+    y: &[Simple],
 ) -> Result<Vec<(AttrTest, bool)>, AllocError>
-    ensures { IfOk result (λ tests. tests.items ≡ attribute_tests simples.now) }
+    ensures { IfOk result (λ tests. tests.items ≡ attribute_tests (x.now ++ y.now)) }
 {
     let mut tests = Vec::new(alloc);
-    for simple in simples {
-        push_test(&mut tests, alloc, simple)?;
-    }
+    push_tests(&mut tests, alloc, x)?;
+    push_tests(&mut tests, alloc, y)?;
     Ok(tests)
+}
+
+/// Appends the tests of attributes that simple selectors make.
+fn push_tests(
+    tests: &mut Vec<(AttrTest, bool)>,
+    alloc: Global,
+    simples: &[Simple],
+) -> Result<(), AllocError>
+    ensures { OnOk result (tests.new.items ≡ tests.old.items ++ attribute_tests simples.now) }
+{
+    for simple in simples {
+        push_test(tests, alloc, simple)?;
+    }
+    Ok(())
 }
 
 /// Appends the test of an attribute that a simple selector makes, if it makes one.
@@ -65,11 +81,34 @@ fn id_test(alloc: Global, id: &Text) -> Result<AttrTest, AllocError>
 }
 
 /// The name of the attribute `id`.
-pub(crate) fn id_name(alloc: Global) -> Result<Text, AllocError>
+fn id_name(alloc: Global) -> Result<Text, AllocError>
     ensures { IfOk result (λ name. name ≡ codes "id") }
 {
     let codes = Vec::from_slice(alloc, &['i', 'd'])?;
     Ok(Text::new(codes))
+}
+
+/// The name of all tests, if there are tests and they have one name.
+pub(crate) fn common_name(tests: &[(AttrTest, bool)]) -> Option<&Text>
+    ensures { IfSome result (λ name. list_all (λ t. same_text t.0.name name.now) tests.now ≡ true) }
+{
+    match tests {
+        [] => None,
+        [(first, _), ..] => {
+            if have_name(tests, &first.name) {
+                Some(&first.name)
+            } else {
+                None
+            }
+        }
+    }
+}
+
+/// Whether all tests have a name.
+fn have_name(tests: &[(AttrTest, bool)], name: &Text) -> bool
+    ensures { result ≡ list_all (λ t. same_text t.0.name name.now) tests.now }
+{
+    tests.iter().all(|(test, _)| test.name == *name)
 }
 
 /// The names of all tests, each once, ascending.

@@ -97,68 +97,36 @@ pub(crate) fn fit_both(
     requires unused { (name : List ℕ) → HasUnused (tests_of name (attribute_tests (x.now ++ y.now))) }
     ensures { IsFit result (x.now ++ y.now) }
 {
-    let simples = joined(alloc, x, y)?;
-    fit_all(alloc, simples.as_slice())
-}
-
-/// The simple selectors of two lists, one after the other.
-fn joined(alloc: Global, x: &[Simple], y: &[Simple]) -> Result<Vec<Simple>, AllocError>
-    ensures { IfOk result (λ simples. simples.items ≡ x.now ++ y.now) }
-{
-    let mut simples = Vec::with_capacity(alloc, x.len())?;
-    push_copies(&mut simples, x)?;
-    push_copies(&mut simples, y)?;
-    Ok(simples)
-}
-
-/// Appends copies of simple selectors.
-fn push_copies(simples: &mut Vec<Simple>, more: &[Simple]) -> Result<(), AllocError>
-    ensures { OnOk result (simples.new.items ≡ simples.old.items ++ more.now) }
-{
-    for simple in more {
-        let copy = simple.copy()?;
-        simples.push(copy)?;
-    }
-    Ok(())
-}
-
-/// Features of an element that passes simple selectors.
-fn fit_all(alloc: Global, simples: &[Simple]) -> Result<Option<Features>, FitError>
-    requires ids { HasPlainIds simples.now }
-    requires unused { (name : List ℕ) → HasUnused (tests_of name (attribute_tests simples.now)) }
-    ensures { IsFit result simples.now }
-{
-    let tests = attribute_tests(alloc, simples)?;
+    let tests = attribute_tests(alloc, x, y)?;
     let answers = match answers(alloc, tests.as_slice()) {
         Ok(answers) => answers,
         Err(e) => return Err(e),
     };
-    let attrs = match attributes(alloc, answers.as_slice())? {
+    let attrs = match attributes(alloc, answers)? {
         Some(attrs) => attrs,
         None => return Ok(None),
     };
-    let kind = match kind(alloc, simples)? {
+    let kind = match kind(alloc, x, y)? {
         Some(kind) => kind,
         None => return Ok(None),
     };
-    if flags_clash(simples) {
+    if flags_clash(x, y) {
         return Ok(None);
     }
-    Ok(Some(features(kind, attrs, simples)))
+    Ok(Some(features(kind, attrs, flags(x, y))))
 }
 
-/// The features of this type and these attributes, with the flags that are asked for.
-fn features(kind: Text, attrs: Vec<(Text, Text)>, simples: &[Simple]) -> Features
+/// The features of this type, these attributes and these flags.
+fn features(kind: Text, attrs: Vec<(Text, Text)>, flags: u16) -> Features
     ensures parts { (result.kind ≡ kind) × (result.attrs ≡ attrs.items) × (result.text ≡ false) }
-    ensures flags { (flag : Flag) → flags_of result.flags flag ≡ is_flag_asked flag simples.now }
-    ensures few { result.flags < 2 ^ 9 }
+    ensures flags { result.flags ≡ flags }
     ensures text { IsText kind }
 {
     let _kind = kind.codes();
     Features {
         kind,
         attrs,
-        flags: flags(simples),
+        flags,
         text: false,
     }
 }

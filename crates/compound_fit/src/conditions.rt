@@ -13,7 +13,7 @@ ghost use Rattle.compound_fit.specs.Conditions.{
 };
 ghost use Rattle.compound_fit.specs.Fitting.{simples_of};
 
-use css_model::{Compound, Op, Simple, Test};
+use css_model::{Compound, Op, Simple, Test, Text};
 
 /// How many code points may be in the values of the tests: fewer than there are from U+10000 on.
 const MOST_VALUES: usize = 0xFFFFF;
@@ -58,16 +58,16 @@ fn is_plain_id(test: &Test) -> bool
     ensures { result ≡ is_plain_id test.now }
 {
     match test {
-        Test::Attr(test) => !is_id(test.name.codes()) || matches!(test.op, Op::Present | Op::Equal),
+        Test::Attr(test) => !is_id(&test.name) || matches!(test.op, Op::Present | Op::Equal),
         _ => true,
     }
 }
 
 /// Whether a name is that of the attribute `id`.
-fn is_id(name: &[char]) -> bool
+pub(crate) fn is_id(name: &Text) -> bool
     ensures { result ≡ same_text name.now (codes "id") }
 {
-    name == ['i', 'd'].as_slice()
+    name.codes() == ['i', 'd'].as_slice()
 }
 
 /// Whether the values of two lists of simple selectors have few enough code points.

@@ -1,6 +1,7 @@
-//! The flags that compounds ask for (Selectors 3, sections 6.6.1, 6.6.2 and 6.6.4).
+//! The flags that the simple selectors of two lists ask for (Selectors 3, sections 6.6.1, 6.6.2 and 6.6.4).
 
-ghost use Rattle.std.specs.Prelude.{◌≡◌, ◌<◌, ◌≤◌, ◌+◌, ◌*◌, ◌^◌, if◌then◌else◌};
+ghost use Rattle.std.specs.Prelude.{◌≡◌, ◌++◌, ◌<◌, ◌≤◌, ◌+◌, ◌*◌, ◌^◌, if◌then◌else◌};
+ghost use Rattle.std.specs.List.{list_any};
 ghost use Rattle.css_model.specs.declared.selector.Flag.{Flag};
 ghost use Rattle.css_model.specs.Documents.Features.{flag_number, flags_of};
 ghost use Rattle.compound_fit.specs.Flags.{
@@ -11,42 +12,75 @@ ghost use Rattle.compound_fit.specs.Flags.{
   is_flag_refused,
   is_state,
 };
+ghost use Rattle.compound_fit.specs.Parts.{is_of_flag};
 
 use css_model::{Flag, Simple, Test};
 
 /// Whether no flags of a legal element pass. Where some pass, those that are asked for pass.
-pub(crate) fn flags_clash(simples: &[Simple]) -> bool
-    ensures { FlagsDecided result simples.now }
+pub(crate) fn flags_clash(x: &[Simple], y: &[Simple]) -> bool
+    ensures { FlagsDecided result (x.now ++ y.now) }
 {
-    has_clash(simples)
+    if have_state(x, y) {
+        has_clash(x, y)
+    } else {
+        false
+    }
+}
+
+/// Whether some flag is tested.
+fn have_state(x: &[Simple], y: &[Simple]) -> bool
+    ensures { result ≡ list_any (λ s. is_of_flag s.test) (x.now ++ y.now) }
+{
+    has_state(x) || has_state(y)
+}
+
+/// Whether some of these tests a flag.
+fn has_state(simples: &[Simple]) -> bool
+    ensures { result ≡ list_any (λ s. is_of_flag s.test) simples.now }
+{
+    simples.iter().any(|simple| is_of_flag(&simple.test))
+}
+
+/// Whether a test is one of a flag.
+fn is_of_flag(test: &Test) -> bool
+    ensures { result ≡ is_of_flag test.now }
+{
+    matches!(test, Test::State(_))
 }
 
 /// Whether a flag is both asked for and refused, or two are asked for that no element has together.
-fn has_clash(simples: &[Simple]) -> bool
-    ensures { result ≡ flags_clash simples.now }
+fn has_clash(x: &[Simple], y: &[Simple]) -> bool
+    ensures { result ≡ flags_clash (x.now ++ y.now) }
 {
-    clashes_at(simples, Flag::Link)
-        || clashes_at(simples, Flag::Visited)
-        || clashes_at(simples, Flag::Hover)
-        || clashes_at(simples, Flag::Active)
-        || clashes_at(simples, Flag::Focus)
-        || clashes_at(simples, Flag::Target)
-        || clashes_at(simples, Flag::Enabled)
-        || clashes_at(simples, Flag::Disabled)
-        || clashes_at(simples, Flag::Checked)
-        || is_flag_asked(simples, Flag::Link) && is_flag_asked(simples, Flag::Visited)
-        || is_flag_asked(simples, Flag::Enabled) && is_flag_asked(simples, Flag::Disabled)
+    clashes_at(x, y, Flag::Link)
+        || clashes_at(x, y, Flag::Visited)
+        || clashes_at(x, y, Flag::Hover)
+        || clashes_at(x, y, Flag::Active)
+        || clashes_at(x, y, Flag::Focus)
+        || clashes_at(x, y, Flag::Target)
+        || clashes_at(x, y, Flag::Enabled)
+        || clashes_at(x, y, Flag::Disabled)
+        || clashes_at(x, y, Flag::Checked)
+        || is_flag_asked(x, y, Flag::Link) && is_flag_asked(x, y, Flag::Visited)
+        || is_flag_asked(x, y, Flag::Enabled) && is_flag_asked(x, y, Flag::Disabled)
 }
 
 /// Whether a flag is both asked for and refused.
-fn clashes_at(simples: &[Simple], flag: Flag) -> bool
-    ensures { result ≡ clashes_at flag simples.now }
+fn clashes_at(x: &[Simple], y: &[Simple], flag: Flag) -> bool
+    ensures { result ≡ clashes_at flag (x.now ++ y.now) }
 {
-    is_flag_asked(simples, flag) && is_flag_refused(simples, flag)
+    is_flag_asked(x, y, flag) && is_flag_refused(x, y, flag)
 }
 
 /// Whether a flag is asked for.
-fn is_flag_asked(simples: &[Simple], flag: Flag) -> bool
+fn is_flag_asked(x: &[Simple], y: &[Simple], flag: Flag) -> bool
+    ensures { result ≡ is_flag_asked flag (x.now ++ y.now) }
+{
+    asks(x, flag) || asks(y, flag)
+}
+
+/// Whether some of these asks for a flag.
+fn asks(simples: &[Simple], flag: Flag) -> bool
     ensures { result ≡ is_flag_asked flag simples.now }
 {
     simples
@@ -55,7 +89,14 @@ fn is_flag_asked(simples: &[Simple], flag: Flag) -> bool
 }
 
 /// Whether a flag is refused.
-fn is_flag_refused(simples: &[Simple], flag: Flag) -> bool
+fn is_flag_refused(x: &[Simple], y: &[Simple], flag: Flag) -> bool
+    ensures { result ≡ is_flag_refused flag (x.now ++ y.now) }
+{
+    refuses(x, flag) || refuses(y, flag)
+}
+
+/// Whether some of these refuses a flag.
+fn refuses(simples: &[Simple], flag: Flag) -> bool
     ensures { result ≡ is_flag_refused flag simples.now }
 {
     simples
@@ -91,28 +132,36 @@ fn flag_number(flag: Flag) -> u16
 }
 
 /// The flags that are asked for, as a number: bit k, from 0, for the k-th flag.
-pub(crate) fn flags(simples: &[Simple]) -> u16
-    ensures flags { (flag : Flag) → flags_of result flag ≡ is_flag_asked flag simples.now }
+pub(crate) fn flags(x: &[Simple], y: &[Simple]) -> u16
+    ensures flags { (flag : Flag) → flags_of result flag ≡ is_flag_asked flag (x.now ++ y.now) }
     ensures few { result < 2 ^ 9 }
 {
-    let checked = with(simples, 0, Flag::Checked);
-    let disabled = with(simples, checked, Flag::Disabled);
-    let enabled = with(simples, disabled, Flag::Enabled);
-    let target = with(simples, enabled, Flag::Target);
-    let focus = with(simples, target, Flag::Focus);
-    let active = with(simples, focus, Flag::Active);
-    let hover = with(simples, active, Flag::Hover);
-    let visited = with(simples, hover, Flag::Visited);
-    with(simples, visited, Flag::Link)
+    if have_state(x, y) { all_flags(x, y) } else { 0 }
+}
+
+/// The same, flag by flag.
+fn all_flags(x: &[Simple], y: &[Simple]) -> u16
+    ensures flags { (flag : Flag) → flags_of result flag ≡ is_flag_asked flag (x.now ++ y.now) }
+    ensures few { result < 2 ^ 9 }
+{
+    let checked = with(x, y, 0, Flag::Checked);
+    let disabled = with(x, y, checked, Flag::Disabled);
+    let enabled = with(x, y, disabled, Flag::Enabled);
+    let target = with(x, y, enabled, Flag::Target);
+    let focus = with(x, y, target, Flag::Focus);
+    let active = with(x, y, focus, Flag::Active);
+    let hover = with(x, y, active, Flag::Hover);
+    let visited = with(x, y, hover, Flag::Visited);
+    with(x, y, visited, Flag::Link)
 }
 
 /// A number with one bit more, at its low end.
-fn with(simples: &[Simple], number: u16, flag: Flag) -> u16
+fn with(x: &[Simple], y: &[Simple], number: u16, flag: Flag) -> u16
     requires { number < 2 ^ 8 }
-    ensures value { result ≡ 2 * number + (if is_flag_asked flag simples.now then 1 else 0) }
+    ensures value { result ≡ 2 * number + (if is_flag_asked flag (x.now ++ y.now) then 1 else 0) }
     ensures bound { result ≤ 2 * number + 1 }
 {
-    if is_flag_asked(simples, flag) {
+    if is_flag_asked(x, y, flag) {
         2 * number + 1
     } else {
         2 * number

@@ -19,11 +19,11 @@ use css_model::{Simple, Test, Text};
 use std::alloc::{AllocError, Global};
 
 /// The type of an element that passes, if there is one: the type that is asked for, or a free name.
-pub(crate) fn kind(alloc: Global, simples: &[Simple]) -> Result<Option<Text>, AllocError>
-    ensures { IfOk result (λ kind. SolvesKind kind simples.now) }
+pub(crate) fn kind(alloc: Global, x: &[Simple], y: &[Simple]) -> Result<Option<Text>, AllocError>
+    ensures { IfOk result (λ kind. SolvesKind kind (x.now ++ y.now)) }
 {
-    let kind = tried_kind(alloc, simples)?;
-    if passes_kinds(simples, kind.codes()) {
+    let kind = tried_kind(alloc, x, y)?;
+    if both_pass(x, y, kind.codes()) {
         Ok(Some(kind))
     } else {
         Ok(None)
@@ -31,19 +31,30 @@ pub(crate) fn kind(alloc: Global, simples: &[Simple]) -> Result<Option<Text>, Al
 }
 
 /// The first type that is asked for, or the first free name.
-fn tried_kind(alloc: Global, simples: &[Simple]) -> Result<Text, AllocError>
-    ensures { IfOk result (λ kind. IsTriedKind kind simples.now) }
+fn tried_kind(alloc: Global, x: &[Simple], y: &[Simple]) -> Result<Text, AllocError>
+    ensures { IfOk result (λ kind. IsTriedKind kind (x.now ++ y.now)) }
 {
-    match asked_kind(simples) {
+    match first_kind(x, y) {
         Some(kind) => {
             let kind = kind.copy()?;
             Ok(kind)
         }
         None => {
-            let refused = refused_kinds(alloc, simples)?;
+            let refused = refused_kinds(alloc, x, y)?;
             let kind = first_free(alloc, refused.as_slice())?;
             Ok(kind)
         }
+    }
+}
+
+/// The first type that is asked for in two lists.
+fn first_kind<'a>(x: &'a [Simple], y: &'a [Simple]) -> Option<&'a Text>
+    ensures { MatchOption result (head_of (asked_kinds (x.now ++ y.now)) ≡ None)
+        (λ kind. head_of (asked_kinds (x.now ++ y.now)) ≡ Some kind.now) }
+{
+    match asked_kind(x) {
+        Some(kind) => Some(kind),
+        None => asked_kind(y),
     }
 }
 
@@ -63,16 +74,25 @@ fn asked_kind(simples: &[Simple]) -> Option<&Text>
 }
 
 /// The types that are refused.
-fn refused_kinds(alloc: Global, simples: &[Simple]) -> Result<Vec<Text>, AllocError>
-    ensures { IfOk result (λ kinds. kinds.items ≡ refused_kinds simples.now) }
+fn refused_kinds(alloc: Global, x: &[Simple], y: &[Simple]) -> Result<Vec<Text>, AllocError>
+    ensures { IfOk result (λ kinds. kinds.items ≡ refused_kinds (x.now ++ y.now)) }
 {
     let mut kinds = Vec::new(alloc);
+    push_refused(&mut kinds, x)?;
+    push_refused(&mut kinds, y)?;
+    Ok(kinds)
+}
+
+/// Appends the types that are refused.
+fn push_refused(kinds: &mut Vec<Text>, simples: &[Simple]) -> Result<(), AllocError>
+    ensures { OnOk result (kinds.new.items ≡ kinds.old.items ++ refused_kinds simples.now) }
+{
     for simple in simples {
         if simple.negated {
-            push_kind(&mut kinds, &simple.test)?;
+            push_kind(kinds, &simple.test)?;
         }
     }
-    Ok(kinds)
+    Ok(())
 }
 
 /// Appends the type that a test names, if it names one.
@@ -87,6 +107,13 @@ fn push_kind(kinds: &mut Vec<Text>, test: &Test) -> Result<(), AllocError>
         }
         _ => Ok(()),
     }
+}
+
+/// Whether a type passes each test of the type in two lists.
+fn both_pass(x: &[Simple], y: &[Simple], kind: &[char]) -> bool
+    ensures { result ≡ passes_kinds kind.now (x.now ++ y.now) }
+{
+    passes_kinds(x, kind) && passes_kinds(y, kind)
 }
 
 /// Whether a type passes each test of the type.

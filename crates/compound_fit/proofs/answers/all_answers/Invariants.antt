@@ -2,7 +2,7 @@ use Rattle.std.proofs.Common.{◌≡◌, map, take}
 use Rattle.std.specs.List.{All}
 use Rattle.compound_fit.specs.Attributes.{tests_of}
 use Rattle.compound_fit.specs.Fitting.{SolvesName}
-use Rattle.compound_fit.proofs.answers.answers.Given as goal
+use Rattle.compound_fit.proofs.answers.all_answers.Given as goal
 
 abbrev pub invariant-loop-name : goal.invariant-loop-name
 invariant-loop-name l = record {

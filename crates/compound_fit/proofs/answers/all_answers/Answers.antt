@@ -1,11 +1,15 @@
-use Rattle.std.proofs.Common.{◌∙◌, subst, sym, arith}
+use Rattle.std.proofs.Common.{◌∙◌, refl, subst, sym, arith}
+use Rattle.std.specs.Prelude.{codes}
 use Rattle.attr_values.specs.Separators.{HasUnused}
 use Rattle.compound_fit.specs.Attributes.{tests_of}
-use Rattle.compound_fit.proofs.AnswerParts.{names_more, solved_here, solved_more}
-use Rattle.compound_fit.proofs.answers.answers.Goals as goal
+use Rattle.compound_fit.proofs.AnswerParts.{names_more, plain_here, solved_here, solved_more}
+use Rattle.compound_fit.proofs.answers.all_answers.Goals as goal
 
 pub answer-requires-clause-unused : goal.answer-requires-clause-unused
 answer-requires-clause-unused c = subst HasUnused (sym (c.as_slice.ensures.value ∙ c.in_ok-group.ensures)) (c.requires.unused c.name-item.result)
+
+pub answer-requires-clause-ids : goal.answer-requires-clause-ids
+answer-requires-clause-ids c = plain_here c.name-item.result c.is_id.result c.as_slice.result.now c.args.tests.now c.is_id.ensures (c.as_slice.ensures.value ∙ c.in_ok-group.ensures) c.requires.ids
 
 pub loop-name-preserved : goal.loop-name-preserved
 loop-name-preserved c =
@@ -16,5 +20,5 @@ loop-name-preserved c =
           c.loop-name.invariant.names;
       solved =
           solved_more c.args.tests.now name c.in-Ok.fits c.loop-name.answers.items c.push_answer.new.answers.items c.in_ok-push_answer.ensures c.loop-name.invariant.solved
-          (solved_here name c.in_ok-id.id c.in-Ok.fits c.eq.result c.as_slice.result.now (tests_of name c.args.tests.now) c.in_ok-id.ensures c.eq.ensures.eq (c.as_slice.ensures.value ∙ c.in_ok-group.ensures) c.in-Ok.ensures);
+          (solved_here name (codes "id") c.in-Ok.fits c.is_id.result c.as_slice.result.now (tests_of name c.args.tests.now) refl c.is_id.ensures (c.as_slice.ensures.value ∙ c.in_ok-group.ensures) c.in-Ok.ensures);
     }
