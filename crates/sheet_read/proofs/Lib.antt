@@ -9,3 +9,4 @@ mod Rooms
 mod SheetSteps
 mod Sorting
 mod TokenSteps
+pub mod ForCallers

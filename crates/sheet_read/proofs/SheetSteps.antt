@@ -14,6 +14,7 @@ use Rattle.css_model.specs.declared.token.TokenFault.{TokenFault}
 use Rattle.css_model.specs.Text.Lexemes.{lexemes}
 use Rattle.css_model.specs.Sheets.Sheet.{token_fault, read_items, namespace_at, too_deep, unclosed, too_many_items, too_many_pairs, sheet_of, sheet_of_stream, sheet_of_tokens}
 use Rattle.css_model.specs.Sheets.Fault.{fault_of, unless}
+use Rattle.css_model.specs.Sheets.Spelling as spelling
 use Rattle.css_model.specs.Text.Tokens.{tokens}
 use Rattle.sheet_read.specs.declared.fault.SheetError.{SheetError}
 use Rattle.sheet_read.specs.declared.fault.SheetError.TheVariants as errors
@@ -58,12 +59,14 @@ tokens_fault source true e f fault ts h = let same : e ≡ f = cc in ap Err same
 tokens_fault source false e f (Some g) ts h = let same : token_fault g ≡ f = cc in ap Err same
 tokens_fault source false e f None ts h = absurd (false≢true (sym (ap is_ok h)))
 
-placed_lexemes : TokensCover → (source : List ℕ) (ts : List Token) (xs : List Lexeme) → tokens_of source ≡ Ok ts → lexemes_of ts ≡ Ok xs → ArePlaced source xs
-placed_lexemes cover source ts xs tokens_are lexemes_are =
+-- the tokens of a sheet that has no fault of these are those of its source
+all_lexemes : (source : List ℕ) (ts : List Token) (xs : List Lexeme) → tokens_of source ≡ Ok ts → lexemes_of ts ≡ Ok xs
+    → ((tokens source true).fault ≡ None) × (xs ≡ spelling.lexemes_of source)
+all_lexemes source ts xs tokens_are lexemes_are =
     let all = tokens source true in
     let parts = tokens_parts (nat_lt (utf8_valid_len source) (length source)) (record { kind = NotUtf8; at = utf8_valid_len source }) all.fault all.tokens ts tokens_are in
     let same : lexemes ts ≡ xs = unless_value (fault_of TooDeep (too_deep (lexemes ts)) ∷ fault_of EndInside (unclosed ts) ∷ []) (lexemes ts) xs lexemes_are in
-    subst (ArePlaced source) (ap lexemes parts.2 ∙ same) (placed cover source parts.1)
+    (parts.1, sym (ap lexemes parts.2 ∙ same))
 
 not_too_long : (source : List ℕ) → length source ≤ MAX_BYTES
     → sheet_of source ≡ cond (nat_lt (utf8_valid_len source) (length source)) (Err (record { kind = NotUtf8; at = utf8_valid_len source }))
@@ -111,10 +114,18 @@ lexemes_fault source ts f h =
     unless_err (fault_of TooDeep (too_deep (lexemes ts)) ∷ fault_of EndInside (unclosed ts) ∷ []) (raw_faults source (whole_items (lexemes ts))) (lexemes ts)
     (read_items source (whole_items (lexemes ts))) f h
 
+lexed_lexemes : (source : List ℕ) (xs : List Lexeme) → lexed (tokens_of source) ≡ Ok xs → ((tokens source true).fault ≡ None) × (xs ≡ spelling.lexemes_of source)
+lexed_lexemes source xs h =
+    let read = lexed_tokens source xs h in
+    all_lexemes source read.0 xs read.1 read.2
+
+pub lexed_same : (source : List ℕ) (xs : List Lexeme) → lexed (tokens_of source) ≡ Ok xs → xs ≡ spelling.lexemes_of source
+lexed_same source xs h = (lexed_lexemes source xs h).1
+
 pub lexed_placed : TokensCover → (source : List ℕ) (xs : List Lexeme) → lexed (tokens_of source) ≡ Ok xs → ArePlaced source xs
 lexed_placed cover source xs h =
-    let read = lexed_tokens source xs h in
-    placed_lexemes cover source read.0 xs read.1 read.2
+    let all = lexed_lexemes source xs h in
+    subst (ArePlaced source) (sym all.1) (placed cover source all.0)
 
 pub lexed_read : (source : List ℕ) (xs : List Lexeme) → length source ≤ MAX_BYTES → lexed (tokens_of source) ≡ Ok xs
     → sheet_of source ≡ unless (raw_faults source (whole_items xs)) (read_items source (whole_items xs))

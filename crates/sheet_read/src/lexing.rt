@@ -197,9 +197,11 @@ fn sorted(alloc: Global, reader: &mut Tokens<'_>) -> Result<Vec<Lexeme>, SheetEr
     }
 }
 
-/// The tokens of a sheet that are no white space, where nothing is wrong with any token, and no bracket is one too
-/// many or is left open.
-pub(crate) fn lexemes_of(alloc: Global, source: &[u8]) -> Result<Vec<Lexeme>, SheetError>
+/// The tokens of a source that are no white space, where nothing is wrong with any token, and no bracket is one too
+/// many or is left open. `source` has at most `MAX_BYTES` bytes.
+///
+/// `Fault` exactly where one of these is wrong, as `read_sheet` says it. `NoMemory` where memory is short.
+pub fn lexemes_of(alloc: Global, source: &[u8]) -> Result<Vec<Lexeme>, SheetError>
     requires { length source.now ≤ max_bytes }
     ensures { Answers (λ lexemes. lexemes.items) result (steps.lexed (steps.tokens_of source.now)) }
 {

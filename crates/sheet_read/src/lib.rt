@@ -12,4 +12,5 @@ mod signs;
 mod values;
 
 pub use fault::SheetError;
-pub use read::read_sheet;
+pub use lexing::lexemes_of;
+pub use read::{read_sheet, read_with_lexemes};

@@ -8,6 +8,7 @@ ghost use Rattle.css_model.specs.Sheets.Limits.{max_bytes};
 ghost use Rattle.css_model.specs.Sheets.Selectors.{selectors};
 ghost use Rattle.css_model.specs.Sheets.Sheet as spec;
 ghost use Rattle.css_model.specs.Sheets.Sheet.{sheet_of};
+ghost use Rattle.css_model.specs.Sheets.Spelling as spelling;
 ghost use Rattle.css_model.specs.Text.Lexemes.{piece_of};
 ghost use Rattle.sheet_read.specs.Cut.{GivesItems, MayStandFor};
 ghost use Rattle.sheet_read.specs.Placed.{ArePlaced};
@@ -257,6 +258,43 @@ fn too_many_pairs(items: &[Item]) -> Option<u32>
     None
 }
 
+/// The sheet of a source by its tokens.
+fn sheet_of_lexemes(alloc: Global, source: &[u8], lexemes: &[Lexeme]) -> Result<Sheet, SheetError>
+    requires short { length source.now ≤ max_bytes }
+    requires lexed { steps.lexed (steps.tokens_of source.now) ≡ Ok lexemes.now }
+    ensures { Answers (λ s. s.items) result (sheet_of source.now) }
+{
+    // A law that the places of the tokens need; it does nothing.
+    tokens_cover();
+    let imports = imports_of(source, lexemes)?;
+    let items = items_of(alloc, source, lexemes, imports)?;
+    match too_many_pairs(items.as_slice()) {
+        Some(at) => Err(SheetError::Fault(SheetFault {
+            kind: FaultKind::TooManyPairs,
+            at,
+        })),
+        None => Ok(Sheet { items }),
+    }
+}
+
+/// The style sheet of a source, as `read_sheet` gives it, with the tokens of the source that are no white space.
+///
+/// The faults are those of `read_sheet`. `NoMemory` comes where memory is short.
+pub fn read_with_lexemes(alloc: Global, source: &[u8]) -> Result<(Sheet, Vec<Lexeme>), SheetError>
+    ensures sheet { Answers (λ r. r.0.items) result (sheet_of source.now) }
+    ensures lexemes { IfOk result (λ r. r.1.items ≡ spelling.lexemes_of source.now) }
+{
+    if source.len() > MAX_BYTES as usize {
+        return Err(SheetError::Fault(SheetFault {
+            kind: FaultKind::TooLong,
+            at: MAX_BYTES,
+        }));
+    }
+    let lexemes = lexemes_of(alloc, source)?;
+    let sheet = sheet_of_lexemes(alloc, source, lexemes.as_slice())?;
+    Ok((sheet, lexemes))
+}
+
 /// The style sheet of a source (CSS Syntax 3, sections 3.2, 4 and 5.4). Each piece of it is a range of `source`, in
 /// bytes from 0.
 ///
@@ -276,22 +314,6 @@ fn too_many_pairs(items: &[Item]) -> Option<u32>
 pub fn read_sheet(alloc: Global, source: &[u8]) -> Result<Sheet, SheetError>
     ensures { Answers (λ s. s.items) result (sheet_of source.now) }
 {
-    // A law that the places of the tokens need; it does nothing.
-    tokens_cover();
-    if source.len() > MAX_BYTES as usize {
-        return Err(SheetError::Fault(SheetFault {
-            kind: FaultKind::TooLong,
-            at: MAX_BYTES,
-        }));
-    }
-    let lexemes = lexemes_of(alloc, source)?;
-    let imports = imports_of(source, lexemes.as_slice())?;
-    let items = items_of(alloc, source, lexemes.as_slice(), imports)?;
-    match too_many_pairs(items.as_slice()) {
-        Some(at) => Err(SheetError::Fault(SheetFault {
-            kind: FaultKind::TooManyPairs,
-            at,
-        })),
-        None => Ok(Sheet { items }),
-    }
+    let (sheet, _) = read_with_lexemes(alloc, source)?;
+    Ok(sheet)
 }
