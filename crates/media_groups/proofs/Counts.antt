@@ -22,7 +22,6 @@ use Rattle.media_groups.specs.Opened.{is_import_item, is_top_item, opened_from, 
 
 pub record IsRead (source : List ℕ) (items : List Item) : Type 0 where
   pub short : length source ≤ MAX_BYTES
-  pub shallow : too_deep (lexemes_of source) ≡ None
   pub few : length items ≤ MAX_ITEMS
 
 few_items : (items : List Item) → too_many_items items ≡ None → length items ≤ MAX_ITEMS
@@ -34,13 +33,13 @@ few_items items is = elim (slice_get_cases items MAX_ITEMS).1 [
 not_longer : (limit n : ℕ) → nat_lt limit n ≡ false → n ≤ limit
 not_longer limit n test = grind (arith, test)
 
-tests : (source : List ℕ) (items : List Item) → sheet_of_tokens source (tokens source true).tokens ≡ Ok items → (too_deep (lexemes_of source) ≡ None) × (length items ≤ MAX_ITEMS)
+tests : (source : List ℕ) (items : List Item) → sheet_of_tokens source (tokens source true).tokens ≡ Ok items → length items ≤ MAX_ITEMS
 tests source items is =
     let none = tested (too_deep (lexemes_of source)) (unclosed (tokens source true).tokens) (namespace_at source (raw_items source))
     (too_many_items (read_items source (raw_items source))) (too_many_pairs 0 (read_items source (raw_items source))) (read_items source (raw_items source)) items is in
-    (none.no_deep, subst (λ (xs : List Item). length xs ≤ MAX_ITEMS) none.same (few_items (read_items source (raw_items source)) none.no_many))
+    subst (λ (xs : List Item). length xs ≤ MAX_ITEMS) none.same (few_items (read_items source (raw_items source)) none.no_many)
 
-stream_tests : (source : List ℕ) (items : List Item) (fault : Option TokenFault) → sheet_of_stream source fault (tokens source true).tokens ≡ Ok items → (too_deep (lexemes_of source) ≡ None) × (length items ≤ MAX_ITEMS)
+stream_tests : (source : List ℕ) (items : List Item) (fault : Option TokenFault) → sheet_of_stream source fault (tokens source true).tokens ≡ Ok items → length items ≤ MAX_ITEMS
 stream_tests source items (Some f) is = absurd (cc)
 stream_tests source items None is = tests source items is
 
@@ -53,8 +52,7 @@ read_facts source items is = which (nat_lt MAX_BYTES (length source)) refl (nat_
     which true test wrong e = absurd (cc)
     which false test true e = absurd (cc)
     which false test false e =
-        let t = stream_tests source items (tokens source true).fault e in
-        record { short = not_longer MAX_BYTES (length source) test; shallow = t.0; few = t.1 }
+        record { short = not_longer MAX_BYTES (length source) test; few = stream_tests source items (tokens source true).fault e }
 
 -- ---- how many imports are left
 

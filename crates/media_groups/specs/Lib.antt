@@ -1,4 +1,3 @@
-pub mod Ahead
 pub mod Heads
 pub mod Laws
 pub mod Levels

@@ -1,10 +1,9 @@
 -- The printed text of a sheet whose blocks of media are opened.
-use Rattle.std.specs.Prelude.{ℕ, ◌==◌, ◌≡◌, Bool, false, if◌then◌else◌, List, [], ◌∷◌, ◌++◌, map, drop, Ok}
+use Rattle.std.specs.Prelude.{ℕ, ◌==◌, Bool, false, if◌then◌else◌, List, [], ◌∷◌, ◌++◌, map, drop}
 use Rattle.css_model.specs.declared.sheet.Item.{Item}
 use Rattle.css_model.specs.declared.sheet.Item.TheVariants.{Rule, KeptRule, KeptBlock}
 use Rattle.css_model.specs.declared.token.Lexeme.{Lexeme}
 use Rattle.css_model.specs.Sheets.Printed.{behind_mark, printed, printed_item}
-use Rattle.css_model.specs.Sheets.Sheet.{sheet_of}
 use Rattle.css_model.specs.Sheets.SheetParts.{SheetParts}
 use Rattle.css_model.specs.Sheets.Sound.{IsSound}
 use Rattle.css_model.specs.Sheets.Spelling.{kept_text}
@@ -49,10 +48,6 @@ printed_with source media bodies items = behind_mark (texts_with source media bo
 -- The printed text of a sheet whose blocks of media are opened (own).
 abbrev pub printed_opened : List Item → List ℕ → List ℕ
 printed_opened items source = printed_with source (opened_of items source) (map (λ m. m.sheet) (opened_of items source)) items
-
--- a source that is read as a sheet
-abbrev pub IsReadable : List ℕ → Type 0
-IsReadable source = (items : List Item) × (sheet_of source ≡ Ok items)
 
 -- a sheet of parts of a block's body
 pub record IsSoundBody (source : List ℕ) (m : Media) (body : SheetParts) : Type 0 where

@@ -9,7 +9,7 @@ ghost use Rattle.css_model.specs.Text.Lexemes as lexemes;
 ghost use Rattle.media_groups.specs.Opened as spec;
 ghost use Rattle.sheet_read.specs.Placed.{ArePlaced};
 
-use crate::lexing::is_sign_of;
+use crate::signs::is_sign_of;
 use css_model::{Lexeme, Piece, TokenKind};
 use css_tokens::is_named;
 

@@ -5,15 +5,15 @@
 mod blocks;
 mod heads;
 mod laws;
-mod lexing;
 mod media;
 mod opening;
 mod printing;
 mod reading;
+mod signs;
 
 pub use heads::put_head;
 pub use laws::{blocks_stay, merged_is_no_longer, opened_blocks_are_sheets};
 pub use media::Media;
-pub use opening::{open_media, reading_of};
+pub use opening::{open_media, open_media_in};
 pub use printing::{print_opened, put_piece};
-pub use reading::Reading;
+pub use reading::{Reading, reading_of, reading_with};

@@ -9,11 +9,11 @@ ghost use Rattle.css_model.specs.Sheets.Spelling as spelling;
 ghost use Rattle.media_groups.specs.Opened as spec;
 
 use crate::blocks::{body_of, has_comment_sign, head_of, is_at_rule_named, is_media};
-use crate::lexing::begins_with_mark;
 use crate::media::Media;
-use crate::reading::Reading;
+use crate::reading::{Reading, reading_of, reading_with};
+use crate::signs::begins_with_mark;
 use css_model::{Item, MAX_ITEMS, Piece, Sheet};
-use sheet_read::{SheetError, read_sheet};
+use sheet_read::{SheetError, read_with_lexemes};
 use std::alloc::{AllocError, Global};
 
 /// Whether an item is an `@import` rule.
@@ -57,15 +57,14 @@ fn differs_inside(body: &Reading<'_>, items: &[Item]) -> bool
 }
 
 /// The sheet of a body, where it means the same inside a block.
-fn plain_sheet(alloc: Global, body: &[u8], sheet: Sheet) -> Result<Option<Sheet>, AllocError>
-    requires { sheet_of body.now ≡ Ok sheet.items }
-    ensures { IfOk result (λ s. option_map (λ (t : SheetParts). t.items) s ≡ spec.unless_marked body.now) }
+fn plain_sheet(body: &Reading<'_>, sheet: Sheet) -> Option<Sheet>
+    requires { sheet_of body.now.source.now ≡ Ok sheet.items }
+    ensures { option_map (λ (t : SheetParts). t.items) result ≡ spec.unless_marked body.now.source.now }
 {
-    let reading = Reading::new(alloc, body)?;
-    if differs_inside(&reading, sheet.items.as_slice()) {
-        Ok(None)
+    if differs_inside(body, sheet.items.as_slice()) {
+        None
     } else {
-        Ok(Some(sheet))
+        Some(sheet)
     }
 }
 
@@ -76,8 +75,11 @@ fn sheet_of_body(alloc: Global, body: &[u8]) -> Result<Option<Sheet>, AllocError
     if begins_with_mark(body) {
         return Ok(None);
     }
-    match read_sheet(alloc, body) {
-        Ok(sheet) => plain_sheet(alloc, body, sheet),
+    match read_with_lexemes(alloc, body) {
+        Ok((sheet, lexemes)) => {
+            let reading = reading_with(&sheet, body, lexemes);
+            Ok(plain_sheet(&reading, sheet))
+        }
         Err(SheetError::Fault(_)) => Ok(None),
         Err(SheetError::NoMemory) => Err(AllocError),
     }
@@ -188,18 +190,6 @@ fn opened_of(alloc: Global, reading: &Reading<'_>, items: &[Item]) -> Result<Vec
     Ok(media)
 }
 
-/// The source of a sheet, with its tokens. `AllocError` where memory runs out.
-pub fn reading_of<'a>(
-    alloc: Global,
-    sheet: &Sheet,
-    source: &'a [u8],
-) -> Result<Reading<'a>, AllocError>
-    requires { sheet_of source.now ≡ Ok sheet.now.items }
-    ensures { IfOk result (λ r. r.source.now ≡ source.now) }
-{
-    Reading::new(alloc, source)
-}
-
 /// The opened blocks of media of a sheet that was read from this source, in their order. They are `@media` rules
 /// (CSS Conditional Rules 3, section 2) after the last `@import` whose bodies are sheets of their own. Which ones are
 /// opened is own. The pieces of such a sheet are places in the bytes of its body. `AllocError` where memory is short.
@@ -207,6 +197,18 @@ pub fn open_media(alloc: Global, sheet: &Sheet, source: &[u8]) -> Result<Vec<Med
     requires { sheet_of source.now ≡ Ok sheet.now.items }
     ensures { IfOk result (λ media. media.items ≡ spec.opened_of sheet.now.items source.now) }
 {
-    let reading = Reading::new(alloc, source)?;
-    opened_of(alloc, &reading, sheet.items.as_slice())
+    let reading = reading_of(alloc, sheet, source)?;
+    open_media_in(alloc, sheet, &reading)
+}
+
+/// The same, by the tokens of the source.
+pub fn open_media_in(
+    alloc: Global,
+    sheet: &Sheet,
+    reading: &Reading<'_>,
+) -> Result<Vec<Media>, AllocError>
+    requires { sheet_of reading.now.source.now ≡ Ok sheet.now.items }
+    ensures { IfOk result (λ media. media.items ≡ spec.opened_of sheet.now.items reading.now.source.now) }
+{
+    opened_of(alloc, reading, sheet.items.as_slice())
 }

@@ -8,12 +8,12 @@ ghost use Rattle.css_model.specs.Sheets.Sound.{IsSound, IsSoundSelector, IsSound
 ghost use Rattle.css_model.specs.Sheets.Spelling.{kept_text};
 ghost use Rattle.css_model.specs.Text.Kept.{kept, solid};
 ghost use Rattle.media_groups.specs.Printed as spec;
-ghost use Rattle.media_groups.specs.Printed.{IsReadable, IsSoundBody};
+ghost use Rattle.media_groups.specs.Printed.{IsSoundBody};
 ghost use Rattle.sheet_read.specs.Placed.{ArePlaced};
 
-use crate::lexing::begins_with_mark;
 use crate::media::Media;
 use crate::reading::Reading;
+use crate::signs::begins_with_mark;
 use css_model::{DeclItem, Gap, Item, Lexeme, Piece, Rule, SelItem, Sheet, TokenKind};
 use css_print::{print_decl, print_selector, print_sheet};
 use std::alloc::{AllocError, Global};
@@ -227,21 +227,19 @@ fn put_before_mark(text: &mut Vec<u8>) -> Result<(), AllocError>
 pub fn print_opened(
     alloc: Global,
     sheet: &Sheet,
-    source: &[u8],
+    reading: &Reading<'_>,
     media: &[Media],
     merged: &[Sheet],
 ) -> Result<Vec<u8>, AllocError>
-    requires read { IsReadable source.now }
-    requires sound { IsSound source.now sheet.now.items }
-    requires bodies { AllZip (IsSoundBody source.now) media.now merged.now }
-    ensures { IfOk result (λ text. text.items ≡ spec.printed_with source.now media.now merged.now sheet.now.items) }
+    requires sound { IsSound reading.now.source.now sheet.now.items }
+    requires bodies { AllZip (IsSoundBody reading.now.source.now) media.now merged.now }
+    ensures { IfOk result (λ text. text.items ≡ spec.printed_with reading.now.source.now media.now merged.now sheet.now.items) }
 {
-    let reading = Reading::new(alloc, source)?;
-    let mut out = Vec::with_capacity(alloc, source.len())?;
+    let mut out = Vec::with_capacity(alloc, reading.source.len())?;
     put_items(
         alloc,
         &mut out,
-        &reading,
+        reading,
         sheet.items.as_slice(),
         media,
         merged,

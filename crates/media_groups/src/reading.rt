@@ -1,16 +1,16 @@
 //! A source with its tokens, and the tokens of its pieces.
 
-ghost use Rattle.std.specs.Prelude.{◌≡◌, ◌≤◌, length, nat_lt, nat_le, take, drop, None, IfOk};
+ghost use Rattle.std.specs.Prelude.{◌≡◌, ◌≤◌, length, nat_lt, nat_le, take, drop, Ok, IfOk};
 ghost use Rattle.std.specs.List.{prefix_len};
 ghost use Rattle.css_model.specs.Sheets.Limits.{max_bytes};
-ghost use Rattle.css_model.specs.Sheets.Sheet.{too_deep};
+ghost use Rattle.css_model.specs.Sheets.Sheet.{sheet_of};
 ghost use Rattle.css_model.specs.Sheets.Spelling as spelling;
 ghost use Rattle.media_groups.specs.Sorted.{AreAscending};
 ghost use Rattle.sheet_read.specs.Placed.{ArePlaced};
 
-use crate::lexing::lexemes_of;
-use css_model::{Lexeme, Piece};
+use css_model::{Lexeme, Piece, Sheet};
 use css_tokens::tokens_restart;
+use sheet_read::{SheetError, lexemes_of};
 use std::alloc::{AllocError, Global};
 
 /// The tokens from the first one on that begins at this place or after it.
@@ -50,16 +50,6 @@ pub struct Reading<'a> {
 }
 
 impl<'a> Reading<'a> {
-    /// The tokens of a source in which no bracket is one too many.
-    pub(crate) fn new(alloc: Global, source: &'a [u8]) -> Result<Reading<'a>, AllocError>
-        requires short { length source.now ≤ max_bytes }
-        requires shallow { too_deep (spelling.lexemes_of source.now) ≡ None }
-        ensures { IfOk result (λ r. r.source.now ≡ source.now) }
-    {
-        let lexemes = lexemes_of(alloc, source)?;
-        Ok(Reading { source, lexemes })
-    }
-
     /// All of its tokens.
     pub(crate) fn tokens(&self) -> &[Lexeme]
         ensures { result.now ≡ spelling.lexemes_of self.now.source.now }
@@ -75,5 +65,30 @@ impl<'a> Reading<'a> {
     {
         tokens_restart();
         up_to(from_place(self.tokens(), piece.start), piece.end)
+    }
+}
+
+/// The source of a sheet, with these tokens of it, which are all that are no white space.
+pub fn reading_with<'a>(sheet: &Sheet, source: &'a [u8], lexemes: Vec<Lexeme>) -> Reading<'a>
+    requires read { sheet_of source.now ≡ Ok sheet.now.items }
+    requires tokens { lexemes.items ≡ spelling.lexemes_of source.now }
+    ensures { result.source.now ≡ source.now }
+{
+    Reading { source, lexemes }
+}
+
+/// The source of a sheet, with its tokens. `AllocError` where memory runs out.
+pub fn reading_of<'a>(
+    alloc: Global,
+    sheet: &Sheet,
+    source: &'a [u8],
+) -> Result<Reading<'a>, AllocError>
+    requires { sheet_of source.now ≡ Ok sheet.now.items }
+    ensures { IfOk result (λ r. r.source.now ≡ source.now) }
+{
+    match lexemes_of(alloc, source) {
+        Ok(lexemes) => Ok(reading_with(sheet, source, lexemes)),
+        Err(SheetError::NoMemory) => Err(AllocError),
+        Err(SheetError::Fault(_)) => unreachable!(),
     }
 }

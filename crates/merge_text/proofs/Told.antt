@@ -54,10 +54,6 @@ no_bodies : (spent : Option ℕ) (answers : List Answered) (source : List ℕ) (
 no_bodies spent answers source steps [] plans = refl
 no_bodies spent answers source steps (body ∷ bodies) plans = absurd plans
 
-pub media_none : (items media : List Media) → media ≡ items → (b : Bool) → b ≡ (length media == 0) → b ≡ true → items ≡ []
-media_none items [] same b test is = sym same
-media_none items (m ∷ media) same b test is = (let e : (length (m ∷ media) == 0) ≡ true = sym test ∙ is in grind (arith, e))
-
 pub printed_plain : (work : Option ℕ) (answers : List Answered) (source : List ℕ) (p : Planned) → IsPlannedFrom work answers source p → p.media.items ≡ [] →
     printed source p.sheet.items ≡ printed_with source p.media.items p.bodies.items p.sheet.items
 printed_plain work answers source p from none =

@@ -15,7 +15,7 @@ use merge_laws::{leading_makes_of, read_keeps_the_limits};
 use obstacles::Obstacles;
 use opened_merge_laws::{planned_is_merged_opened, planned_is_told_opened};
 use sheet_laws::read_is_sound;
-use sheet_read::{SheetError, read_sheet};
+use sheet_read::{SheetError, read_with_lexemes};
 use std::alloc::Global;
 
 /// The text of a merged sheet, and what a report says of it.
@@ -76,10 +76,10 @@ pub fn merge_text_within<O: Obstacles>(
     ensures told { IfOk result (λ m. IsToldBy work (O.answers obstacles.new) source.now m) }
     ensures err { IfErr result (λ e. Refuses e (sheet_of source.now)) }
 {
-    let sheet = read_sheet(alloc, source)?;
-    let media = blocks_of(alloc, &sheet, source)?;
+    let (sheet, lexemes) = read_with_lexemes(alloc, source)?;
+    let (media, reading) = blocks_of(alloc, &sheet, source, lexemes)?;
     let planned = plan(alloc, obstacles, source, sheet, media, work)?;
-    let text = print_planned(alloc, obstacles, source, &planned)?;
+    let text = print_planned(alloc, obstacles, source, reading, &planned)?;
     Ok(told(obstacles, source, &planned, text))
 }
 

@@ -1,8 +1,10 @@
 //! A sheet that was planned with the bodies of its opened blocks.
 
-ghost use Rattle.std.specs.Prelude.{◌≡◌, ℕ, IfOk, Ok, Option};
+ghost use Rattle.std.specs.Prelude.{◌≡◌, ℕ, [], IfOk, None, Ok, Option};
 ghost use Rattle.std.specs.List.{list_any};
+ghost use Rattle.std.specs.Option.{IfSome};
 ghost use Rattle.css_model.specs.Sheets.Sheet.{sheet_of};
+ghost use Rattle.css_model.specs.Sheets.Spelling.{lexemes_of};
 ghost use Rattle.media_groups.specs.Opened.{opened_of};
 ghost use Rattle.media_groups.specs.Printed.{printed_with};
 ghost use Rattle.merge_text.specs.Counts.{is_block};
@@ -11,9 +13,11 @@ ghost use Rattle.step_laws.specs.Free.{AreAmong};
 
 use crate::bodies::{left, merge_bodies};
 use crate::counting::{count, count_bodies};
-use css_model::{Item, Sheet};
+use css_model::{Item, Lexeme, Sheet};
 use css_print::print_sheet;
-use media_groups::{Media, open_media, opened_blocks_are_sheets, print_opened};
+use media_groups::{
+    Media, Reading, open_media_in, opened_blocks_are_sheets, print_opened, reading_with,
+};
 use merge_laws::{leading_makes_of, read_is_plannable, read_keeps_the_limits};
 use obstacles::Obstacles;
 use opened_merge_laws::{opened_bodies_stand_apart, planned_bodies_are_sound};
@@ -56,19 +60,28 @@ fn has_block(items: &[Item]) -> bool
     items.iter().any(|item| is_block(item))
 }
 
-/// The opened blocks of a sheet. Where no block is kept the source is not read again.
-pub(crate) fn blocks_of(
+/// The opened blocks of a sheet, and its source with these tokens where there are any.
+pub(crate) fn blocks_of<'a>(
     alloc: Global,
     sheet: &Sheet,
-    source: &[u8],
-) -> Result<Vec<Media>, AllocError>
-    requires { sheet_of source.now ≡ Ok sheet.now.items }
-    ensures { IfOk result (λ media. media.items ≡ opened_of sheet.now.items source.now) }
+    source: &'a [u8],
+    lexemes: Vec<Lexeme>,
+) -> Result<(Vec<Media>, Option<Reading<'a>>), AllocError>
+    requires read { sheet_of source.now ≡ Ok sheet.now.items }
+    requires lexemes { lexemes.items ≡ lexemes_of source.now }
+    ensures media { IfOk result (λ o. o.0.items ≡ opened_of sheet.now.items source.now) }
+    ensures none { IfOk result (λ o. o.1 ≡ None → o.0.items ≡ []) }
+    ensures source { IfOk result (λ o. IfSome o.1 (λ r. r.source.now ≡ source.now)) }
 {
-    if has_block(sheet.items.as_slice()) {
-        open_media(alloc, sheet, source)
+    if !has_block(sheet.items.as_slice()) {
+        return Ok((Vec::new(alloc), None));
+    }
+    let reading = reading_with(sheet, source, lexemes);
+    let media = open_media_in(alloc, sheet, &reading)?;
+    if media.is_empty() {
+        Ok((media, None))
     } else {
-        Ok(Vec::new(alloc))
+        Ok((media, Some(reading)))
     }
 }
 
@@ -86,6 +99,7 @@ pub(crate) fn plan<O: Obstacles>(
     ensures asked { AreAmong (O.answers obstacles.old) (O.answers obstacles.new) }
     ensures same_budget { O.budget obstacles.new ≡ O.budget obstacles.old }
     ensures planned { IfOk result (λ p. IsPlannedFrom work (O.answers obstacles.new) source.now p) }
+    ensures same_media { IfOk result (λ p. p.media.items ≡ media.items) }
 {
     read_is_plannable();
     read_keeps_the_limits();
@@ -107,30 +121,31 @@ pub(crate) fn plan<O: Obstacles>(
     })
 }
 
-/// The text of a planned sheet.
+/// The text of a planned sheet, by its source with its tokens where blocks are opened.
 pub(crate) fn print_planned<O: Obstacles>(
     alloc: Global,
     obstacles: &O,
     source: &[u8],
+    reading: Option<Reading<'_>>,
     planned: &Planned,
 ) -> Result<Vec<u8>, AllocError>
-    requires { (work : Option ℕ) × IsPlannedFrom work (O.answers obstacles.now) source.now planned.now }
+    requires from { (work : Option ℕ) × IsPlannedFrom work (O.answers obstacles.now) source.now planned.now }
+    requires none { reading ≡ None → planned.now.media.items ≡ [] }
+    requires source { IfSome reading (λ r. r.source.now ≡ source.now) }
     ensures { IfOk result (λ text. text.items ≡ printed_with source.now planned.now.media.items planned.now.bodies.items planned.now.sheet.items) }
 {
     read_keeps_the_limits();
     read_is_sound();
     leading_makes_of();
     planned_bodies_are_sound();
-    let media = planned.media.as_slice();
-    if media.is_empty() {
-        print_sheet(alloc, &planned.sheet, source)
-    } else {
-        print_opened(
+    match reading {
+        None => print_sheet(alloc, &planned.sheet, source),
+        Some(reading) => print_opened(
             alloc,
             &planned.sheet,
-            source,
-            media,
+            &reading,
+            planned.media.as_slice(),
             planned.bodies.as_slice(),
-        )
+        ),
     }
 }

@@ -5,7 +5,7 @@ ghost use Rattle.media_groups.specs.declared.media.Media.{Media as SpecMedia};
 
 use crate::reading::sheet;
 use css_model::Sheet;
-use media_groups::{Media, open_media, opened_blocks_are_sheets, print_opened};
+use media_groups::{Media, open_media, opened_blocks_are_sheets, print_opened, reading_of};
 use std::alloc::{AllocError, Global};
 use std::process::Abort;
 use std::test::Fail;
@@ -77,7 +77,8 @@ fn reprinted(rt: &impl Abort, alloc: Global, source: &[u8]) -> Result<Vec<u8>, A
     let sheet = sheet(rt, alloc, source);
     let media = open_media(alloc, &sheet, source)?;
     let bodies = bodies(alloc, open_media(alloc, &sheet, source)?)?;
-    print_opened(alloc, &sheet, source, media.as_slice(), bodies.as_slice())
+    let reading = reading_of(alloc, &sheet, source)?;
+    print_opened(alloc, &sheet, &reading, media.as_slice(), bodies.as_slice())
 }
 
 #[test]
