@@ -5,6 +5,7 @@ ghost use Rattle.css_model.specs.Text.Kept as text;
 ghost use Rattle.css_model.specs.Text.Source.{text_at};
 ghost use Rattle.sheet_read.specs.Placed.{IsPlaced, ArePlaced};
 
+use crate::signs::piece_of;
 use css_model::{Bytes, Lexeme};
 use std::alloc::{AllocError, Global};
 use verbatim_text::{behind_value, between};
@@ -22,6 +23,12 @@ fn behind(source: &[u8], x: &Lexeme, others: &[Lexeme]) -> &'static [u8]
     }
 }
 
+/// How many bytes a value has in its source, about as many as its text.
+fn bytes_in_source(value: &[Lexeme]) -> usize {
+    let piece = piece_of(value);
+    piece.end.saturating_sub(piece.start) as usize
+}
+
 /// The text of a value.
 pub(crate) fn value_text(
     alloc: Global,
@@ -31,7 +38,7 @@ pub(crate) fn value_text(
     requires { ArePlaced source.now value.now }
     ensures { IfOk result (λ b. b ≡ text.value_text (map (text.solid source.now) value.now)) }
 {
-    let mut bytes = Vec::new(alloc);
+    let mut bytes = Vec::with_capacity(alloc, bytes_in_source(value))?;
     let mut rest = value;
     while let [x, others @ ..] = rest {
         bytes.extend_from_slice(x.span.text(source))?;
