@@ -1,7 +1,7 @@
 //! What blocks steps of small sheets, worked by hand.
 
+use crate::asking::obstacle_of;
 use crate::sheets::{DOWN, UP, sheet};
-use item_masks::item_masks;
 use merge_steps::{Step, is_step};
 use obstacles::{Obstacle, Obstacles, Other, PairPlace, Stopped};
 use overlap::Pairs;
@@ -21,8 +21,7 @@ fn obstacle(
     let sheet = sheet(rt, alloc, source.as_bytes());
     let is_step = is_step(alloc, &sheet, step).expect(rt, "memory");
     assert!(rt; is_step, "{source}");
-    let masks = item_masks(alloc, &sheet.items).expect(rt, "memory");
-    obstacles.obstacle(&sheet, &masks, step, most_answers)
+    obstacle_of(rt, alloc, obstacles, &sheet, step, most_answers)
 }
 
 /// The first pair of a sheet.

@@ -1,18 +1,16 @@
 //! The plan in the plainest way: each step of a sheet is looked at for each step that is taken.
 
-ghost use Rattle.std.specs.Prelude.{◌≡◌, ◌≤◌, ℕ, IfSome, List, length, map};
+ghost use Rattle.std.specs.Prelude.{◌≤◌, ℕ, IfSome, List, length};
 ghost use Rattle.css_model.specs.Sheets.Limits.{max_bytes};
-ghost use Rattle.item_masks.specs.Masks.{item_mask};
 ghost use Rattle.plan_laws.specs.Plannable.{IsPlannable};
 ghost use Rattle.step_laws.specs.Steps.{HasStep};
 
+use crate::asking::obstacle_of;
 use crate::sheets::after;
 use cnf::NO_LIMIT;
 use css_model::Sheet;
-use item_masks::{ItemMask, item_masks};
 use merge_laws::read_keeps_the_limits;
 use merge_steps::{Step, is_step, saving, steps};
-use obstacles::Obstacles;
 use overlap::Pairs;
 use std::alloc::Global;
 use std::process::Abort;
@@ -36,17 +34,15 @@ fn saved(rt: &impl Abort, alloc: Global, source: &[u8], sheet: &Sheet, step: &St
 /// Whether nothing blocks a step of a sheet.
 fn is_free(
     rt: &impl Abort,
+    alloc: Global,
     obstacles: &mut PairObstacles,
     sheet: &Sheet,
-    masks: &[ItemMask],
     step: &Step,
 ) -> bool
     requires is_step { HasStep sheet.now.items step.now }
-    requires masks { masks.now ≡ map item_mask sheet.now.items }
     requires plannable { (source : List ℕ) × IsPlannable source sheet.now.items }
 {
-    obstacles
-        .obstacle(sheet, masks, step, None)
+    obstacle_of(rt, alloc, obstacles, sheet, step, None)
         .expect(rt, "memory")
         .is_none()
 }
@@ -66,12 +62,11 @@ fn next_step(
     parts_are_few();
     read_keeps_the_limits();
     let list = steps(alloc, sheet).expect(rt, "memory");
-    let masks = item_masks(alloc, &sheet.items).expect(rt, "memory");
     let mut most = 0;
     let mut best = None;
     for step in &list {
         let saved = saved(rt, alloc, source, sheet, step);
-        if saved > most && is_free(rt, obstacles, sheet, &masks, step) {
+        if saved > most && is_free(rt, alloc, obstacles, sheet, step) {
             most = saved;
             best = Some(*step);
         }

@@ -52,7 +52,7 @@ fn obstacle_on<O: Obstacles>(
         repeats_are_free();
         return Ok(None);
     }
-    obstacles.obstacle(indexed.sheet(), indexed.masks(), step, most_answers)
+    obstacles.obstacle(indexed, step, most_answers)
 }
 
 /// Returns what blocks a step of an indexed sheet, as `obstacle_on` does. It asks for no more answers than the work has room for

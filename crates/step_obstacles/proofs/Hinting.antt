@@ -31,13 +31,10 @@ use Rattle.step_obstacles.specs.declared.facing.Facing.{Facing}
 use Rattle.step_obstacles.specs.declared.facing.Facing.TheVariants as facing
 use Rattle.step_obstacles.specs.declared.facing.Source.{Source}
 use Rattle.step_obstacles.specs.Hinted.{FacesWithin, IsDeclOf, IsFirstOf}
-use Rattle.step_obstacles.specs.Known.{FacedStands}
 use Rattle.step_obstacles.specs.StepWindow.{IsOfSource, IsToldBy}
 use Rattle.step_obstacles.specs.Turns.{IsAskable, IsDeclAt, IsRuleAt, OfWindow, hindrance_of, is_common, pair_of}
 use Rattle.plan_laws.specs.Barrier.Hindering.{Hindrance}
-use Rattle.window_order.specs.declared.ends_known.KnownPair.{KnownPair}
 use Rattle.window_order.specs.declared.window.Window.{Window}
-use Rattle.window_order.specs.Places.{IsKnownPair, unknown}
 use Rattle.window_order.specs.Weighing.{DeclsWeigh}
 
 -- ---- What the code has at hand
@@ -62,18 +59,6 @@ pair_faces w other n y is at askable d weigh above below f f_is =
 pub kept_faces : (w : Window) (d : Decl) (n : ℕ) (item : Item) → slice_get w.items.now n ≡ Some item → ((k : KeptRuleParts) × (item ≡ KeptRule k)) ⊎ ((k : Piece) × (item ≡ KeptBlock k)) → w.start ≤ n → n ≤ w.last →
     ((p : Pair) → p.decl ≡ d → WeighsKept p item) → FacesWithin w d (facing.Kept n)
 kept_faces w d n item at is above below weighs = record { faces = (record { item = item; item_at = at; kept = kept_either item is; above = above; below = below }, weighs); within = tt }
-
--- nothing is known of what a pair faces
-faced_unknown : (w : Window) (f : Facing) → FacedStands w f unknown
-faced_unknown w (facing.Pair q place k) = (tt, tt)
-faced_unknown w (facing.Kept i) = tt
-
-pub unasked : (w : Window) (f : Facing) (k : KnownPair) → k ≡ unknown → FacedStands w f k
-unasked w f k is = subst (λ (j : KnownPair). FacedStands w f j) (sym is) (faced_unknown w f)
-
--- nor of a pair
-pub unasked_pair : (w : Window) (p : Pair) (k : KnownPair) → k ≡ unknown → IsKnownPair w p k
-unasked_pair w p k is = subst (λ (j : KnownPair). IsKnownPair w p j) (sym is) (tt, tt)
 
 -- ---- What blocks is among what is looked at
 

@@ -30,7 +30,7 @@ use Rattle.step_obstacles.specs.Blocked.{AllPass, Crosses, IsFound, IsTold, IsTo
 use Rattle.step_obstacles.specs.declared.facing.DeclAt.{DeclAt}
 use Rattle.step_obstacles.specs.declared.facing.Facing.{Facing}
 use Rattle.step_obstacles.specs.declared.facing.Facing.TheVariants as facing
-use Rattle.step_obstacles.specs.Known.{IsNoted}
+use Rattle.step_obstacles.specs.Known.{FacedStands, IsNoted}
 use Rattle.step_obstacles.specs.Turns.{Faces, IsAskable, IsDeclAt, MayWeigh, OfItem, OfRule, OfSelectors, hindrance_of, other_of, pair_of, specificities_of, with_kept}
 use Rattle.plan_laws.specs.Barrier.Hindering.{Hindrance, OfPair}
 use Rattle.window_order.specs.Places.{IsKnownPair}
@@ -109,6 +109,13 @@ module _ (w : Window) (moved : DeclAt) (i : ℕ) (x : SelItem) (is : IsDeclAt w.
       AllPass answers w (λ by. by ≡ hindrance_of w.items.now f (pair_of x moved.decl.now))
   passes_unlike answers f faces k k_is other by by_is =
       subst (λ (h : Hindrance). IsTold answers w h false) (sym by_is) (unlike_passes answers w f (pair_of x moved.decl.now) faces (λ h. other (subst (λ (j : Specificity). MayWeigh j f) (sym k_is) h)))
+
+-- what is noted of the place of a pair that is faced holds of it
+pub own_faces : (w : Window) (f : Facing) (q : Pair) (place : PairPlace) (k : Specificity) → f ≡ facing.Pair q place k → (s : KnownPair) → IsNoted w place s →
+    (d : Decl) → Faces w d f → FacedStands w f s
+own_faces w f q place k is s noted d faces =
+    let there : Faces w d (facing.Pair q place k) = subst (λ (g : Facing). Faces w d g) is faces in
+    subst (λ (g : Facing). FacedStands w g s) (sym is) (known_so w q s (noted q there.2))
 
 -- what is told of a pair by its selector is told of the selector of its number
 pub told_same : {E : Type 0} (answers : List Answered) (w : Window) (r : RuleParts) (d o : Decl) (s : SelectorParts) (At : SelItem → Type 0) → ((y : SelItem) → At y → s ≡ y.selector) →

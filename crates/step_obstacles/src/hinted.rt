@@ -14,12 +14,13 @@ use crate::bounded_pairs::BoundedPairs;
 use crate::decl_masks::is_common;
 use crate::facing::{DeclAt, Facing, Source};
 use crate::hints::{Hint, places_by};
-use crate::searching::named;
+use crate::known::{own_faced, own_pair};
+use crate::searching::{named, place_of};
 use crate::specificities::specificity_in_profile;
 use css_model::{DeclItem, Item, Rule, SelItem};
 use obstacles::{Obstacle, Other, PairPlace, Stopped};
 use related_props::decl_mask;
-use window_order::{Window, decls_weigh, pair_of, unknown_pair, weighs_kept};
+use window_order::{Window, decls_weigh, pair_of, weighs_kept};
 
 /// The rule of this number, if there is one.
 fn rule_there<'a>(window: &Window<'a>, number: u32) -> Option<&'a Rule>
@@ -182,7 +183,7 @@ fn faced<'a>(window: &Window<'a>, moved: &DeclAt<'_>, other: &Other) -> Option<F
 }
 
 /// What blocks of a selector of the declaration's rule with what it faces.
-#[tactic(auto, using(crate::proofs::Hinting::unasked, crate::proofs::Hinting::unasked_pair, crate::proofs::HeldAnswers::stays_itself))]
+#[tactic(auto, using(crate::proofs::HeldAnswers::stays_itself))]
 fn with_facing(
     pairs: &mut BoundedPairs,
     window: &Window<'_>,
@@ -203,8 +204,8 @@ fn with_facing(
         return Ok(None);
     }
     let p = pair_of(&selector.selector, moved.decl);
-    let mut of_p = unknown_pair();
-    let mut of_facing = unknown_pair();
+    let mut of_p = own_pair(window, place_of(moved, number));
+    let mut of_facing = own_faced(window, facing);
     let blocked = blocks(pairs, window, &p, &mut of_p, facing, &mut of_facing)?;
     if blocked {
         return Ok(Some(named(moved, number, facing)));

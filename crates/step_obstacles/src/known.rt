@@ -2,13 +2,16 @@
 
 ghost use Rattle.std.specs.Prelude.{◌≡◌, ◌↔◌, IfOk, IsTrue};
 ghost use Rattle.std.specs.List.{All};
-ghost use Rattle.step_obstacles.specs.Known.{IsEntry, IsKnown, IsNoted};
+ghost use Rattle.step_obstacles.specs.Known.{FacedStands, IsEntry, IsKnown, IsNoted};
+ghost use Rattle.css_model.specs.declared.sheet.Decl.{Decl};
+ghost use Rattle.step_obstacles.specs.Turns.{Faces};
 ghost use Rattle.window_order.specs.Places.{unknown};
 ghost use Rattle.window_order.specs.declared.window.Window as windows;
 
+use crate::facing::Facing;
 use obstacles::PairPlace;
 use std::alloc::{AllocError, Global};
-use window_order::{KnownPair, unknown_pair};
+use window_order::{KnownPair, Standing, Window, unknown_pair};
 
 /// What is known of the pair at a place.
 #[derive(Clone, Copy)]
@@ -162,4 +165,38 @@ pub(crate) fn note(
     let slot = slot_of(place, selectors, slots_in(known));
     put(known, slot, Entry { place, standing });
     Ok(())
+}
+
+/// What the item of a place tells of its pair, before anything is looked for.
+pub(crate) fn own_pair(window: &Window<'_>, place: PairPlace) -> KnownPair
+    ensures { IsNoted window.now place result }
+{
+    KnownPair {
+        ends: None,
+        standing: window.standing_of(place.item),
+    }
+}
+
+/// What is noted of the pair at a place, or else what its item tells.
+pub(crate) fn or_own(window: &Window<'_>, place: PairPlace, told: KnownPair) -> KnownPair
+    requires { IsNoted window.now place told }
+    ensures { IsNoted window.now place result }
+{
+    match told.standing {
+        Standing::Unasked => KnownPair {
+            ends: told.ends,
+            standing: window.standing_of(place.item),
+        },
+        _ => told,
+    }
+}
+
+/// What is known of what is faced, before anything is looked for.
+pub(crate) fn own_faced(window: &Window<'_>, facing: &Facing<'_>) -> KnownPair
+    ensures { (d : Decl) → Faces window.now d facing.now → FacedStands window.now facing.now result }
+{
+    match facing {
+        Facing::Pair(_, place, _) => own_pair(window, *place),
+        Facing::Kept(_) => unknown_pair(),
+    }
 }

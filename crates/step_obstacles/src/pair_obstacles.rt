@@ -6,8 +6,7 @@ use crate::bounded_pairs::BoundedPairs;
 use crate::held::{answers_are_true, count_answers, reason};
 use crate::hints::{Hints, no_hints};
 use crate::step_search::step_obstacle;
-use css_model::Sheet;
-use item_masks::ItemMask;
+use indexed_sheet::IndexedSheet;
 use obstacles::{Obstacle, Obstacles, Stopped};
 use overlap::Pairs;
 use std::alloc::Global;
@@ -69,8 +68,7 @@ impl Obstacles for PairObstacles {
 
     fn obstacle(
         &mut self,
-        sheet: &Sheet,
-        masks: &[ItemMask],
+        indexed: &IndexedSheet,
         step: &Step,
         most_answers: Option<usize>,
     ) -> Result<Option<Obstacle>, Stopped> {
@@ -79,8 +77,7 @@ impl Obstacles for PairObstacles {
             self.alloc,
             &mut self.bounded,
             &mut self.hints,
-            sheet,
-            masks,
+            indexed,
             step,
         ) {
             Ok(found) => Ok(found),

@@ -16,7 +16,7 @@ use crate::answering::blocks;
 use crate::bounded_pairs::BoundedPairs;
 use crate::decl_masks::{mask_at, masks_in};
 use crate::facing::{DeclAt, Facing, Met, MetRule, MovedDecl, Source};
-use crate::known::{Known, note, noted};
+use crate::known::{Known, note, noted, or_own, own_faced};
 use crate::numbered_parts::{decl_count, decl_of, selector_count, selector_of};
 use crate::selector_masks::selector_mask;
 use crate::specificities::{is_among, item_may_weigh, specificity_at, specificity_in_profile};
@@ -29,7 +29,7 @@ use std::alloc::{AllocError, Global};
 use window_order::{KnownPair, PairRef, Window, unknown_pair, weighs_kept};
 
 /// The place of the pair of a selector of this number.
-fn place_of(moved: &DeclAt<'_>, number: u32) -> PairPlace
+pub(crate) fn place_of(moved: &DeclAt<'_>, number: u32) -> PairPlace
     ensures { result ≡ record { item = moved.now.item; sel = number; decl = moved.now.number } }
 {
     PairPlace {
@@ -73,13 +73,14 @@ fn note_selector(
     note(alloc, known, place, standing, selectors, pairs)
 }
 
-/// What is known of the pair of the selector of this number.
+/// What is known of the pair of the selector of this number: what is noted of it, or else what its item tells.
 fn noted_selector(known: &Known, window: &Window<'_>, moved: &DeclAt<'_>, number: u32) -> KnownPair
     requires { IsKnown window.now known.now }
     ensures { IsNoted window.now (record { item = moved.now.item; sel = number; decl = moved.now.number }) result }
 {
     let (selectors, _) = counts_of(moved.rule);
-    noted(known, place_of(moved, number), selectors)
+    let place = place_of(moved, number);
+    or_own(window, place, noted(known, place, selectors))
 }
 
 /// What blocks of the selector of this number. It is passed over where its specificity is not that of what it faces.
@@ -194,16 +195,9 @@ fn with_selector(
         decl: other.decl,
         mask,
     };
-    let mut of_q = unknown_pair();
-    of_selectors(
-        alloc,
-        pairs,
-        known,
-        window,
-        moved,
-        &Facing::Pair(q, place_of(other, number), specificity),
-        &mut of_q,
-    )
+    let facing = Facing::Pair(q, place_of(other, number), specificity);
+    let mut of_q = own_faced(window, &facing);
+    of_selectors(alloc, pairs, known, window, moved, &facing, &mut of_q)
 }
 
 /// What blocks with the pairs of another declaration, which weighs.

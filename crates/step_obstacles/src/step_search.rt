@@ -3,6 +3,7 @@
 ghost use Rattle.std.specs.Prelude.{◌≡◌, ◌<◌, true, IfNone, IfOk, IfSome, None, Some, bit_or, length, map, slice_get};
 ghost use Rattle.css_model.specs.declared.sheet.Item.TheVariants as kinds;
 ghost use Rattle.css_model.specs.Sheets.RuleParts.{RuleParts};
+ghost use Rattle.std.specs.Option.{ForSome};
 ghost use Rattle.item_masks.specs.declared.mask.ItemMask as declared;
 ghost use Rattle.item_masks.specs.Masks.{item_mask};
 ghost use Rattle.obstacles.specs.Blocking.{IsBlockedBy};
@@ -32,6 +33,7 @@ use crate::selector_masks::selector_masks_of;
 use crate::specificities::specificities_of;
 use crate::window_search::{Span, in_window};
 use css_model::{Rule, Sheet};
+use indexed_sheet::IndexedSheet;
 use item_masks::ItemMask;
 use obstacles::{Obstacle, Stopped};
 use plan_laws::{reversed_stand_beside, steps_have_windows, windows_tell_kept, windows_tell_pairs};
@@ -72,10 +74,16 @@ fn both_masks(masks: &[ItemMask], first: u32, last: u32) -> ItemMask
     }
 }
 
-/// The window of a step. No part of a rule is copied.
-pub fn window_of<'a>(sheet: &'a Sheet, masks: &'a [ItemMask], step: &Step) -> Window<'a>
+/// The window of a step. No part of a rule is copied. `planned` is the indexed sheet of these items, if there is one.
+pub fn window_of<'a>(
+    sheet: &'a Sheet,
+    masks: &'a [ItemMask],
+    planned: Option<&'a IndexedSheet>,
+    step: &Step,
+) -> Window<'a>
     requires is_step { HasStep sheet.now.items step.now }
     requires masks { masks.now ≡ map item_mask sheet.now.items }
+    requires planned { ForSome planned (λ b. b.now.items ≡ sheet.now.items) }
     ensures items { result.items.now ≡ sheet.now.items }
     ensures window { (e : Edit) → IsStep sheet.now.items step.now e → IsWindowFor sheet.now.items step.now e result }
 {
@@ -93,6 +101,7 @@ pub fn window_of<'a>(sheet: &'a Sheet, masks: &'a [ItemMask], step: &Step) -> Wi
         first_left,
         last_left,
         left_mask,
+        planned,
     }
 }
 
@@ -330,22 +339,17 @@ fn by_moved(
     Ok(found)
 }
 
-/// What blocks a step of a sheet, and `None` where it is free, by the answers for pairs of selectors. The answers are
-/// asked for. All that was answered stays, and the budget. `AllocError` where memory runs out; they stay then too.
-///
-/// - The time is that of a look at each moved pair with each pair of the items from the step's first to its last one.
-///   The receiver of a join by selectors is left out; for a cut the items are all those above. It is less where what
-///   blocked before does still.
-/// - The memory is that of the masks of what is moved, besides that of answers and of hints. No part of a rule is
-///   copied.
-pub(crate) fn step_obstacle(
+/// What blocks a step of the sheet of an indexed sheet, and `None` where it is free, with the masks of its items.
+fn obstacle_in(
     alloc: Global,
     pairs: &mut BoundedPairs,
     hints: &mut Hints,
+    planned: &IndexedSheet,
     sheet: &Sheet,
     masks: &[ItemMask],
     step: &Step,
 ) -> Result<Option<Obstacle>, Stopped>
+    requires same { planned.now.items ≡ sheet.now.items }
     requires is_step { HasStep sheet.now.items step.now }
     requires masks { masks.now ≡ map item_mask sheet.now.items }
     requires planned { CanBePlanned sheet.now.items }
@@ -360,7 +364,7 @@ pub(crate) fn step_obstacle(
     windows_tell_pairs();
     windows_tell_kept();
     reversed_stand_beside();
-    let window = window_of(sheet, masks, step);
+    let window = window_of(sheet, masks, Some(planned), step);
     let span = span_of(step);
     let moved = moved_of(step);
     by_moved(
@@ -373,4 +377,29 @@ pub(crate) fn step_obstacle(
         &moved,
         move_of(step),
     )
+}
+
+/// What blocks a step of an indexed sheet, and `None` where it is free, by the answers for pairs of selectors. The answers
+/// are asked for. All that was answered stays, and the budget. `AllocError` where memory runs out; they stay then too.
+///
+/// - The time is that of a look at each moved pair with each pair of the items from the step's first to its last one.
+///   The receiver of a join by selectors is left out; for a cut the items are all those above. It is less where what
+///   blocked before does still.
+/// - The memory is that of the masks of what is moved, besides that of answers and of hints. No part of a rule is
+///   copied.
+pub(crate) fn step_obstacle(
+    alloc: Global,
+    pairs: &mut BoundedPairs,
+    hints: &mut Hints,
+    indexed: &IndexedSheet,
+    step: &Step,
+) -> Result<Option<Obstacle>, Stopped>
+    requires is_step { HasStep indexed.now.items step.now }
+    requires planned { CanBePlanned indexed.now.items }
+    ensures stays { Stays pairs.old pairs.new }
+    ensures free { IfOk result (λ found. IfNone found ((e : Edit) → IsStep indexed.now.items step.now e → IsFree (map answer_seen pairs.new.answers) indexed.now.items e)) }
+    ensures blocked { IfOk result (λ found. IfSome found (λ o. IsBlockedBy (map answer_seen pairs.new.answers) indexed.now.items step.now o)) }
+{
+    let sheet = indexed.sheet();
+    obstacle_in(alloc, pairs, hints, indexed, sheet, indexed.masks(), step)
 }

@@ -4,6 +4,7 @@ mod LastFound
 mod LastPlaces
 mod LeftTests
 mod MaskedTests
+mod OwnPairs
 mod PairOrders
 mod Passed
 mod Ranges

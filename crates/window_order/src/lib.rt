@@ -8,6 +8,7 @@ mod kept;
 mod left;
 mod masked;
 mod order;
+mod own;
 mod pair;
 mod place;
 mod reversing;

@@ -1,6 +1,7 @@
 //! The part of a sheet that a step changes.
 
 ghost use Rattle.std.specs.Prelude.{◌≡◌, ◌≤◌, ◌<◌, [], length, map, slice_range};
+ghost use Rattle.std.specs.Option.{ForSome};
 ghost use Rattle.css_model.specs.Sheets.KeptItems.{kept_items};
 ghost use Rattle.item_masks.specs.Masks.{item_mask};
 ghost use Rattle.window_order.specs.Between.{AreBetween};
@@ -8,6 +9,7 @@ ghost use Rattle.window_order.specs.Left.{Covers, items_of};
 
 use crate::left::Left;
 use css_model::Item;
+use indexed_sheet::IndexedSheet;
 use item_masks::ItemMask;
 
 /// The part of a sheet that a step changes, from its first to its last item. It has three parts: the first item, if
@@ -31,6 +33,8 @@ pub struct Window<'a> {
     pub last_left: Left<'a>,
     /// A mask that meets those of all pairs in what takes these places.
     pub left_mask: ItemMask,
+    /// The sheet while it is planned, if it is: it may know that no other rule has a pair of a rule.
+    pub planned: Option<&'a IndexedSheet>,
     ghost masked: { masks.now ≡ map item_mask items.now },
     ghost start_first: { start ≤ middle },
     ghost middle_first: { middle ≤ last },
@@ -40,4 +44,5 @@ pub struct Window<'a> {
     ghost left_plain: { kept_items (items_of first_left) ≡ [] },
     ghost first_covered: { Covers left_mask (items_of first_left) },
     ghost last_covered: { Covers left_mask (items_of last_left) },
+    ghost same_items: { ForSome planned (λ b. b.now.items ≡ items.now) },
 }

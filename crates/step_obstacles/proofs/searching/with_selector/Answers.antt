@@ -34,3 +34,11 @@ pub returns-clause-told : goal.returns-clause-told
 returns-clause-told c =
     told_same c.of_selectors.new.pairs.answers c.args.window.now c.args.moved.now.at.rule.now c.args.moved.now.at.decl.now c.args.other.now.decl.now c.selector_of-selector.result.now
     (λ y. slice_get c.args.other.now.rule.now.selectors c.args.number ≡ Some y) c.selector_of-selector.ensures c.of_selectors.result c.of_selectors.ensures.told
+
+pub of_selectors-requires-clause-faced : goal.of_selectors-requires-clause-faced
+of_selectors-requires-clause-faced c =
+    let y = c.requires.number in
+    c.own_faced-of_q.ensures c.args.moved.now.at.decl.now
+    (subst (λ (place : PairPlace). Faces c.args.window.now c.args.moved.now.at.decl.now (facing.Pair (pair c.selector_of-selector.result.now c.args.other.now.decl.now) place c.specificity_in_profile-specificity.result)) (sym c.place_of.ensures)
+    (faced c.args.window.now c.args.other.now c.args.number y.0 c.requires.other y.1 c.requires.askable c.args.moved.now.at.decl.now c.requires.weigh c.selector_of-selector.result.now (c.selector_of-selector.ensures y.0 y.1)
+    c.specificity_in_profile-specificity.result c.specificity_in_profile-specificity.ensures))

@@ -1,36 +1,26 @@
-use Rattle.std.proofs.Common.{subst, sym}
-use Rattle.std.specs.Prelude.{IfOk}
-use Rattle.sheet_order.specs.declared.places.Moved.{Moved}
-use Rattle.sheet_order.specs.Taking.{moved_of}
-use Rattle.step_obstacles.proofs.Askable.{askable}
-use Rattle.step_obstacles.proofs.Deciding.{told_blocked, told_free}
-use Rattle.step_obstacles.proofs.Moving.{are_there}
-use Rattle.step_obstacles.proofs.Spans.{span_is_enough, span_within}
+use Rattle.std.proofs.Common.{List, map, subst, sym}
+use Rattle.std.specs.Prelude.{IfNone, IfOk, IfSome}
+use Rattle.css_model.specs.declared.sheet.Item.{Item}
+use Rattle.obstacles.specs.Blocking.{IsBlockedBy}
+use Rattle.order_laws.specs.Edits.{Edit}
+use Rattle.sheet_order.specs.Laws.{answer_seen}
+use Rattle.sheet_order.specs.Narrow.{CanBePlanned}
+use Rattle.step_laws.specs.Free.{IsFree}
+use Rattle.step_laws.specs.Steps.{HasStep, IsStep}
 use Rattle.step_obstacles.proofs.step_search.step_obstacle.Goals as goal
-use Rattle.step_obstacles.specs.Spans.{IsEnoughFor}
-use Rattle.step_obstacles.specs.StepWindow.{AreThere, IsToldBy}
 
-pub by_moved-requires-clause-askable : goal.by_moved-requires-clause-askable
-by_moved-requires-clause-askable c = askable c.parts_are_few.ensures c.selectors_are_in_the_profile.ensures.all c.args.sheet.now.items c.requires.planned
+pub obstacle_in-requires-clause-is_step : goal.obstacle_in-requires-clause-is_step
+obstacle_in-requires-clause-is_step c = subst (λ (items : List Item). HasStep items c.args.step.now) (sym c.sheet-sheet.ensures) c.requires.is_step
 
-pub by_moved-requires-clause-there : goal.by_moved-requires-clause-there
-by_moved-requires-clause-there c = subst (AreThere c.args.sheet.now.items) (sym c.moved_of-moved.ensures) (are_there c.args.sheet.now.items c.args.step.now c.requires.is_step)
-
-pub by_moved-requires-clause-within : goal.by_moved-requires-clause-within
-by_moved-requires-clause-within c = span_within c.args.sheet.now.items c.args.step.now c.requires.is_step c.window_of-window.result c.window_of-window.ensures.window c.span_of-span.result c.span_of-span.ensures.first c.span_of-span.ensures.end
-
-pub by_moved-requires-clause-enough : goal.by_moved-requires-clause-enough
-by_moved-requires-clause-enough c = subst (λ (m : Moved). IsEnoughFor c.args.sheet.now.items m c.window_of-window.result c.span_of-span.result) (sym c.moved_of-moved.ensures)
-    (span_is_enough c.args.sheet.now.items c.args.step.now c.requires.is_step c.window_of-window.result c.window_of-window.ensures.window c.span_of-span.result c.span_of-span.ensures.first c.span_of-span.ensures.end c.reversed_stand_beside.ensures)
+pub obstacle_in-requires-clause-planned : goal.obstacle_in-requires-clause-planned
+obstacle_in-requires-clause-planned c = subst CanBePlanned (sym c.sheet-sheet.ensures) c.requires.planned
 
 pub returns-clause-free : goal.returns-clause-free
 returns-clause-free c =
-    let told : IfOk c.by_moved.result (λ found. IsToldBy c.by_moved.new.pairs.answers c.args.sheet.now.items (moved_of c.args.step.now) c.window_of-window.result found) =
-    subst (λ (m : Moved). IfOk c.by_moved.result (λ found. IsToldBy c.by_moved.new.pairs.answers c.args.sheet.now.items m c.window_of-window.result found)) c.moved_of-moved.ensures c.by_moved.ensures.told in
-    told_free c.steps_have_windows.ensures c.windows_tell_pairs.ensures c.windows_tell_kept.ensures c.args.sheet.now.items c.args.step.now c.by_moved.new.pairs.answers c.window_of-window.result c.window_of-window.ensures.window c.by_moved.result told
+    subst (λ (items : List Item). IfOk c.obstacle_in.result (λ found. IfNone found ((e : Edit) → IsStep items c.args.step.now e → IsFree (map answer_seen c.obstacle_in.new.pairs.answers) items e)))
+    c.sheet-sheet.ensures c.obstacle_in.ensures.free
 
 pub returns-clause-blocked : goal.returns-clause-blocked
 returns-clause-blocked c =
-    let told : IfOk c.by_moved.result (λ found. IsToldBy c.by_moved.new.pairs.answers c.args.sheet.now.items (moved_of c.args.step.now) c.window_of-window.result found) =
-    subst (λ (m : Moved). IfOk c.by_moved.result (λ found. IsToldBy c.by_moved.new.pairs.answers c.args.sheet.now.items m c.window_of-window.result found)) c.moved_of-moved.ensures c.by_moved.ensures.told in
-    told_blocked c.steps_have_windows.ensures c.windows_tell_pairs.ensures c.windows_tell_kept.ensures c.args.sheet.now.items c.args.step.now c.by_moved.new.pairs.answers c.window_of-window.result c.window_of-window.ensures.window c.steps_are_one_edit.ensures c.requires.is_step c.by_moved.result told
+    subst (λ (items : List Item). IfOk c.obstacle_in.result (λ found. IfSome found (λ o. IsBlockedBy (map answer_seen c.obstacle_in.new.pairs.answers) items c.args.step.now o)))
+    c.sheet-sheet.ensures c.obstacle_in.ensures.blocked

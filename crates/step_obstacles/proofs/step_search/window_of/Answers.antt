@@ -1,4 +1,5 @@
 use Rattle.std.proofs.Common.{◌≡◌, ℕ, List, ap, map, subst, sym, ◌∙◌}
+use Rattle.std.specs.Option.{ForSome}
 use Rattle.css_model.specs.declared.sheet.Item.{Item}
 use Rattle.css_model.specs.declared.sheet.Item.TheVariants.{Rule}
 use Rattle.css_model.specs.Sheets.SheetParts.{SheetParts}
@@ -29,7 +30,7 @@ invariant_of-result c =
     let covered : Covers c.both_masks-left_mask.result (items_of c.left_by.result.0) × Covers c.both_masks-left_mask.result (items_of c.left_by.result.1) =
     covered_by c.args.sheet.now.items c.args.step.now is.0 is.1 u.0 l.0 u.1 l.1 c.both_masks-left_mask.result mask (items_of c.left_by.result.0) (items_of c.left_by.result.1)
     (c.left_by.ensures.first is.0 is.1) (c.left_by.ensures.last is.0 is.1) in
-    record { masked = c.requires.masks ∙ ap (map item_mask) (sym same); start_first = b.start_first; middle_first = b.middle_first; within = b.within; between = b.between; first_plain = b.first_plain; left_plain = b.left_plain; first_covered = covered.0; last_covered = covered.1 }
+    record { masked = c.requires.masks ∙ ap (map item_mask) (sym same); start_first = b.start_first; middle_first = b.middle_first; within = b.within; between = b.between; first_plain = b.first_plain; left_plain = b.left_plain; first_covered = covered.0; last_covered = covered.1; same_items = subst (λ (xs : List Item). ForSome c.args.planned (λ b. b.now.items ≡ xs)) (sym same) c.requires.planned }
 
 pub both_masks-left_mask-requires-clause-first : goal.both_masks-left_mask-requires-clause-first
 both_masks-left_mask-requires-clause-first c =
