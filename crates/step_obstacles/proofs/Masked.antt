@@ -28,7 +28,7 @@ use Rattle.step_obstacles.proofs.PairAnswers.{kept_light}
 use Rattle.step_obstacles.specs.Blocked.{AllPass, Crosses, IsFound, IsToldOf}
 use Rattle.step_obstacles.specs.declared.facing.Met.{Met}
 use Rattle.step_obstacles.specs.declared.facing.Source.{Source}
-use Rattle.step_obstacles.specs.Turns.{IsItemOf, IsMasked, IsMet, OfDecl, OfItem, OfSource, is_common, mask_in, pair_of, with_masks}
+use Rattle.step_obstacles.specs.Turns.{AreMasked, IsItemOf, IsMasked, IsMet, OfDecl, OfItem, OfNumber, OfSource, is_common, mask_in, pair_of, with_masks}
 use Rattle.plan_laws.specs.Barrier.Hindering.{OfPair}
 use Rattle.window_order.specs.declared.window.Window.{Window}
 use Rattle.window_order.specs.Weighing.{DeclsWeigh}
@@ -112,6 +112,12 @@ module _ (answers : List Answered) (w : Window) (n : ℕ) where
 
 pub source_passed : (answers : List Answered) (w : Window) (n : ℕ) (item : Item) (s : Source) (m : ℕ) → IsItemOf w n item → IsMasked s → m ≡ item_mask item → bit_and s.mask m ≡ 0 → AllPass answers w (OfSource w.items.now n item s)
 source_passed answers w n item s m is masked m_is none = source_passes answers w n item is.item_at s masked (ap (bit_and s.mask) (sym m_is) ∙ none)
+
+-- an item that has no bit of the rules' masks
+pub number_passed : (answers : List Answered) (w : Window) (n : ℕ) (sources : List Source) → AreMasked sources →
+    ((item : Item) → slice_get w.items.now n ≡ Some item → (s : Source) → Contains sources s → bit_and s.mask (item_mask item) ≡ 0) → AllPass answers w (OfNumber w.items.now sources n)
+number_passed answers w n sources masked none by (item, at, among) =
+    source_passes answers w n item at among.0 (masked among.0 among.1) (none item at among.0 among.1) by among.2
 
 module _ (w : Window) (met : Met) (s : Source) (part m : ℕ) (is : IsMet w met) (masked : IsMasked s) (m_at : slice_get s.masks.items part ≡ Some m) where
   pub decl_passed : (answers : List Answered) → bit_and m met.mask ≡ 0 → (x : DeclItem) → slice_get s.rule.now.decls part ≡ Some x → AllPass answers w (OfDecl w.items.now met.number met.item.now s x)

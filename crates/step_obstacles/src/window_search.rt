@@ -1,10 +1,12 @@
 //! The first that blocks of what moved pairs face in a window.
 
-ghost use Rattle.std.specs.Prelude.{◌≡◌, ◌≤◌, ◌<◌, ◌+◌, ◌-◌, IfOk, Some, length, slice_get};
+ghost use Rattle.std.specs.Prelude.{◌≡◌, ◌≤◌, ◌<◌, ◌+◌, ◌-◌, IfOk, Some, bit_and, length, slice_get, true};
+ghost use Rattle.std.specs.List.{Contains};
 ghost use Rattle.css_model.specs.declared.sheet.Item as declared;
 ghost use Rattle.related_props.specs.Masks.{item_mask};
 ghost use Rattle.step_obstacles.specs.Asking.{Stays};
 ghost use Rattle.step_obstacles.specs.Blocked.{IsToldOf};
+ghost use Rattle.step_obstacles.specs.declared.facing.Source as rules;
 ghost use Rattle.step_obstacles.specs.Known.{IsKnown};
 ghost use Rattle.step_obstacles.specs.Spans.{IsEnough, IsWithin};
 ghost use Rattle.step_obstacles.specs.Turns as turns;
@@ -54,6 +56,47 @@ fn mask_of(window: &Window<'_>, number: usize) -> u64
     ensures { (item : declared.Item) → slice_get window.now.items.now number ≡ Some item → result ≡ item_mask item }
 {
     window.masks[number].families
+}
+
+/// Whether no bit of a mask is in the masks of some rules.
+fn have_none_of(sources: &[Source<'_>], families: u64) -> bool
+    ensures { result ≡ true → (s : rules.Source) → Contains sources.now s → bit_and s.mask families ≡ 0 }
+{
+    sources.iter().all(|source| source.mask & families == 0)
+}
+
+/// Returns `true` only if the item of this number sets nothing that is related to what some rules set. Most items do not.
+#[tactic(auto, using(crate::proofs::Masked::mask_at))]
+fn is_passed(window: &Window<'_>, sources: &[Source<'_>], number: usize) -> bool
+    requires { number < length window.now.items.now }
+    ensures { result ≡ true → (item : declared.Item) → slice_get window.now.items.now number ≡ Some item → (s : rules.Source) → Contains sources.now s → bit_and s.mask (item_mask item) ≡ 0 }
+{
+    have_none_of(sources, mask_of(window, number))
+}
+
+/// What blocks of some rules with the item of this number, which is looked at only if its mask tells that it may.
+fn of_turn(
+    alloc: Global,
+    pairs: &mut BoundedPairs,
+    known: &mut Known,
+    window: &Window<'_>,
+    sources: &[Source<'_>],
+    number: usize,
+) -> Result<Option<Obstacle>, Stopped>
+    requires askable { turns.IsAskable window.now.items.now }
+    requires sources { turns.AreSources window.now.items.now sources.now }
+    requires masked { turns.AreMasked sources.now }
+    requires above { window.now.start ≤ number }
+    requires below { number ≤ window.now.last }
+    requires known { IsKnown window.now known.old }
+    ensures stays { Stays pairs.old pairs.new }
+    ensures told { IfOk result (λ found. IsToldOf pairs.new.answers window.now (turns.OfNumber window.now.items.now sources.now number) found) }
+    ensures known { IsKnown window.now known.new }
+{
+    if is_passed(window, sources, number) {
+        return Ok(None);
+    }
+    of_number(alloc, pairs, known, window, sources, number)
 }
 
 /// What blocks of some rules with the item of this number.
@@ -140,7 +183,7 @@ pub(crate) fn in_window(
     let mut known = nothing_known(alloc);
     for turn in 0..count {
         let number = number_of(span, upwards, turn);
-        if let Some(found) = of_number(alloc, pairs, &mut known, window, sources, number)? {
+        if let Some(found) = of_turn(alloc, pairs, &mut known, window, sources, number)? {
             return Ok(Some(found));
         }
     }
