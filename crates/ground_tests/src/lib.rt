@@ -14,6 +14,8 @@ mod refutations;
 #[cfg(test)]
 mod solver;
 #[cfg(test)]
+mod spare_lists;
+#[cfg(test)]
 mod streams;
 #[cfg(test)]
 mod trail;

@@ -17,7 +17,7 @@ ghost use Rattle.step_savings.specs.Apart.{StepApart};
 use crate::facts::{Facts, by_both, by_either, facts_under, learn, learn_of_step, nothing};
 use crate::marked::MarkedSheet;
 use crate::marks::Mark;
-use css_model::Sheet;
+use css_model::{Item, Sheet};
 use item_masks::ItemMask;
 use pending_laws::{
     Way, joined_has_no_cut, joined_has_own_parts, no_cut_comes, own_pairs_go_on, own_parts_stay,
@@ -73,11 +73,11 @@ impl IndexedSheet {
         })
     }
 
-    /// Returns the sheet.
-    pub fn sheet(&self) -> &Sheet
-        ensures { result.now.items ≡ self.now.items }
+    /// Returns the items.
+    pub fn items(&self) -> &[Item]
+        ensures { result.now ≡ self.now.items }
     {
-        self.marked.sheet()
+        self.marked.items()
     }
 
     /// Returns the masks of the items, in the order of the items.

@@ -7,17 +7,18 @@ ghost use Rattle.css_model.specs.declared.sheet.Item.{Item};
 ghost use Rattle.item_masks.specs.Masks.{item_mask};
 
 use crate::marks::{Mark, Marks};
-use css_model::Sheet;
+use css_model::{Item, Sheet};
 use item_masks::{ItemMask, item_masks};
+use spare_list::SpareList;
 use std::alloc::{AllocError, Global};
 use std::marker::Model;
 
 /// A sheet with a mark and a mask for each item.
 #[derive(Debug, Drop)]
 pub(crate) struct MarkedSheet {
-    pub(crate) sheet: Sheet,
+    pub(crate) items: SpareList<Item>,
     pub(crate) marks: Marks,
-    pub(crate) masks: Vec<ItemMask>,
+    pub(crate) masks: SpareList<ItemMask>,
 }
 
 impl Model for MarkedSheet {
@@ -27,9 +28,9 @@ impl Model for MarkedSheet {
 
     ghost Value = { IndexedParts };
 
-    ghost view = { λ b. record { items = b.sheet.items; marks = b.marks.list; next = b.marks.next } };
+    ghost view = { λ b. record { items = b.items; marks = b.marks.list; next = b.marks.next } };
 
-    ghost invariant = { λ b. (length b.marks.list ≡ length b.sheet.items) × (b.masks.items ≡ map item_mask b.sheet.items) };
+    ghost invariant = { λ b. (length b.marks.list ≡ length b.items) × (b.masks ≡ map item_mask b.items) };
 }
 
 /// Returns the number, from 0, of the mark with this order key, or `Err` if no mark has it.
@@ -50,26 +51,27 @@ impl MarkedSheet {
         ensures next { IfOk result (λ b. b.next ≡ length sheet.items) }
     {
         let marks = Marks::new(alloc, sheet.items.len() as u32)?;
-        let masks = item_masks(alloc, &sheet.items)?;
+        let masks = SpareList::new(item_masks(alloc, &sheet.items)?);
+        let Sheet { items } = sheet;
         Ok(MarkedSheet {
-            sheet,
+            items: SpareList::new(items),
             marks,
             masks,
         })
     }
 
-    /// Returns the sheet.
-    pub(crate) fn sheet(&self) -> &Sheet
-        ensures { result.now.items ≡ self.now.items }
+    /// Returns the items.
+    pub(crate) fn items(&self) -> &[Item]
+        ensures { result.now ≡ self.now.items }
     {
-        &self.sheet
+        self.items.as_slice()
     }
 
     /// Returns the masks of the items, in the order of the items.
     pub(crate) fn masks(&self) -> &[ItemMask]
         ensures { result.now ≡ map item_mask self.now.items }
     {
-        &self.masks
+        self.masks.as_slice()
     }
 
     /// Returns the sheet without its marks.
@@ -77,13 +79,14 @@ impl MarkedSheet {
         ensures { result.items ≡ self.items }
     {
         let MarkedSheet {
-            sheet,
+            items,
             marks,
             masks,
         } = self;
         drop(marks);
         drop(masks);
-        sheet
+        let items = items.into_vec();
+        Sheet { items }
     }
 
     /// Returns the marks of the items, in the order of the items.
@@ -126,7 +129,7 @@ impl MarkedSheet {
         requires { number < length self.now.items }
         ensures { (item : Item) → slice_get self.now.items number ≡ Some item → result ≡ item_mask item }
     {
-        self.masks[number as usize]
+        self.masks()[number as usize]
     }
 
     /// Returns the number of the item with this order key, or `None` if no item has it.

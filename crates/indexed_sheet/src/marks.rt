@@ -7,6 +7,7 @@ ghost use Rattle.indexed_sheet.specs.Marking.{AreRenewed, HasOrderKeyBefore};
 ghost use Rattle.indexed_sheet.specs.Putting.{items_in};
 
 use crate::parts::Left;
+use spare_list::SpareList;
 use std::alloc::{AllocError, Global};
 use std::marker::Model;
 
@@ -27,7 +28,7 @@ pub struct Mark {
 /// The marks of some items, in their order.
 #[derive(Debug, Drop)]
 pub(crate) struct Marks {
-    list: Vec<Mark>,
+    list: SpareList<Mark>,
     next: u32,
     /// If an item was created before this item id, all items below it were created later than it.
     first: u32,
@@ -39,9 +40,9 @@ impl Model for Marks {
 
     ghost Value = { MarkList };
 
-    ghost view = { λ m. record { list = m.list.items; next = m.next } };
+    ghost view = { λ m. record { list = m.list; next = m.next } };
 
-    ghost invariant = { λ m. AreMarks m.list.items m.next × (m.first ≤ m.next) × AreFirst m.list.items m.first };
+    ghost invariant = { λ m. AreMarks m.list m.next × (m.first ≤ m.next) × AreFirst m.list m.first };
 }
 
 impl Marks {
@@ -57,7 +58,7 @@ impl Marks {
             list.push(Mark { order_key, item_id })?;
         }
         Ok(Marks {
-            list,
+            list: SpareList::new(list),
             next: count,
             first: count,
         })
@@ -68,7 +69,7 @@ impl Marks {
         ensures list { result.now ≡ self.now.list }
         ensures are_marks { AreMarks self.now.list self.now.next }
     {
-        &self.list
+        self.list.as_slice()
     }
 
     /// Returns the item id of the next mark.
@@ -84,7 +85,7 @@ impl Marks {
         requires { number < length self.now.list }
         ensures { result ≡ true → IsOldestBelow self.now.list number }
     {
-        self.list[number as usize].item_id < self.first
+        mark_at(&self.list, number).item_id < self.first
     }
 
     /// Returns the marks without the one of this number.
@@ -98,7 +99,11 @@ impl Marks {
             next,
             first,
         } = self;
-        list.remove(number as usize);
+        let filler = Mark {
+            order_key: 0,
+            item_id: 0,
+        };
+        list.remove(number as usize, filler);
         Marks { list, next, first }
     }
 
@@ -114,11 +119,12 @@ impl Marks {
             next,
             first,
         } = self;
-        let order_key = list[number as usize].order_key;
-        list[number as usize] = Mark {
+        let order_key = mark_at(&list, number).order_key;
+        let mark = Mark {
             order_key,
             item_id: next,
         };
+        list.set(number as usize, mark);
         Marks {
             list,
             next: next + 1,
@@ -140,21 +146,19 @@ impl Marks {
             next,
             first,
         } = self;
-        let number = number as usize;
-        let above = list[number - 1].order_key;
-        let below = list[number].order_key;
+        let above = mark_at(&list, number - 1).order_key;
+        let below = mark_at(&list, number).order_key;
         let order_key = middle(above, below);
-        list[number] = Mark {
+        let mark = Mark {
             order_key: below,
             item_id: next,
         };
-        list.insert(
-            number,
-            Mark {
-                order_key,
-                item_id: next + 1,
-            },
-        )?;
+        list.set(number as usize, mark);
+        let new = Mark {
+            order_key,
+            item_id: next + 1,
+        };
+        list.insert(number as usize, new)?;
         Ok(Marks {
             list,
             next: next + 2,
@@ -176,6 +180,14 @@ impl Marks {
             Left::Two(_, _) => self.split(number),
         }
     }
+}
+
+/// Returns the mark of this number.
+fn mark_at(list: &SpareList<Mark>, number: u32) -> Mark
+    requires { number < length list.now }
+    ensures { slice_get list.now number ≡ Some result }
+{
+    list.as_slice()[number as usize]
 }
 
 /// Returns an order key between two others.

@@ -11,56 +11,69 @@ ghost use Rattle.item_masks.specs.Masks.{item_mask};
 use crate::left_masks::LeftMasks;
 use crate::marked::MarkedSheet;
 use crate::parts::Left;
-use css_model::{Item, Piece, Rule, Sheet};
+use css_model::{Item, Piece, Rule};
 use item_masks::ItemMask;
+use spare_list::SpareList;
 use std::alloc::AllocError;
-use std::mem;
+
+/// Returns an empty kept block.
+fn empty_item() -> Item
+    ensures { result ≡ placeholder }
+{
+    Item::KeptBlock(Piece { start: 0, end: 0 })
+}
+
+/// Returns the mask of an empty kept block.
+fn empty_mask() -> ItemMask
+    ensures { result ≡ item_mask placeholder }
+{
+    ItemMask {
+        families: u64::MAX,
+        selectors: 0,
+    }
+}
 
 /// Takes out the rule of this number. An empty kept block is there instead.
-fn lift_rule(items: &mut Vec<Item>, number: u32) -> Rule
-    requires { (r : RuleParts) × (slice_get items.old.items number ≡ Some (item.Rule r)) }
-    ensures rule { slice_get items.old.items number ≡ Some (item.Rule result) }
-    ensures items { items.new.items ≡ slice_set items.old.items number placeholder }
+fn lift_rule(items: &mut SpareList<Item>, number: u32) -> Rule
+    requires { (r : RuleParts) × (slice_get items.old number ≡ Some (item.Rule r)) }
+    ensures rule { slice_get items.old number ≡ Some (item.Rule result) }
+    ensures items { items.new ≡ slice_set items.old number placeholder }
 {
-    let empty = Item::KeptBlock(Piece { start: 0, end: 0 });
-    match mem::replace(&mut items[number as usize], empty) {
+    match items.set(number as usize, empty_item()) {
         Item::Rule(rule) => rule,
         _ => unreachable!(),
     }
 }
 
 /// Puts the mask of an empty kept block instead of the one of this number.
-fn lift_mask(masks: &mut Vec<ItemMask>, number: u32)
-    requires { number < length masks.old.items }
-    ensures { masks.new.items ≡ slice_set masks.old.items number (item_mask placeholder) }
+fn lift_mask(masks: &mut SpareList<ItemMask>, number: u32)
+    requires { number < length masks.old }
+    ensures { masks.new ≡ slice_set masks.old number (item_mask placeholder) }
 {
-    masks[number as usize] = ItemMask {
-        families: u64::MAX,
-        selectors: 0,
-    };
+    masks.set(number as usize, empty_mask());
 }
 
 /// Puts the masks of what a step leaves instead of the one of this number.
 fn put_masks(
-    mut masks: Vec<ItemMask>,
+    mut masks: SpareList<ItemMask>,
     number: u32,
     left: LeftMasks,
-) -> Result<Vec<ItemMask>, AllocError>
-    requires { number < length masks.items }
-    ensures { IfOk result (λ new. new.items ≡ put_at number (masks_in left) masks.items) }
+) -> Result<SpareList<ItemMask>, AllocError>
+    requires { number < length masks }
+    ensures { IfOk result (λ new. new ≡ put_at number (masks_in left) masks) }
 {
     let number = number as usize;
     match left {
         LeftMasks::Nothing => {
-            masks.remove(number);
+            masks.remove(number, empty_mask());
             Ok(masks)
         }
         LeftMasks::One(mask) => {
-            masks[number] = mask;
+            masks.set(number, mask);
             Ok(masks)
         }
         LeftMasks::Two(above, below) => {
-            masks[number] = below;
+            masks.set(number, below);
             masks.insert(number, above)?;
             Ok(masks)
         }
@@ -68,22 +81,26 @@ fn put_masks(
 }
 
 /// Puts what a step leaves instead of the item of this number.
-fn put_items(mut items: Vec<Item>, number: u32, left: Left) -> Result<Vec<Item>, AllocError>
-    requires { number < length items.items }
-    ensures { IfOk result (λ new. new.items ≡ put_at number (items_in left) items.items) }
+fn put_items(
+    mut items: SpareList<Item>,
+    number: u32,
+    left: Left,
+) -> Result<SpareList<Item>, AllocError>
+    requires { number < length items }
+    ensures { IfOk result (λ new. new ≡ put_at number (items_in left) items) }
 {
     let number = number as usize;
     match left {
         Left::Nothing => {
-            items.remove(number);
+            items.remove(number, empty_item());
             Ok(items)
         }
         Left::One(rule) => {
-            items[number] = Item::Rule(rule);
+            items.set(number, Item::Rule(rule));
             Ok(items)
         }
         Left::Two(above, below) => {
-            items[number] = Item::Rule(below);
+            items.set(number, Item::Rule(below));
             items.insert(number, Item::Rule(above))?;
             Ok(items)
         }
@@ -101,16 +118,14 @@ impl MarkedSheet {
         ensures as_many { length self.marks ≡ length self.items }
     {
         let MarkedSheet {
-            sheet,
+            mut items,
             marks,
             mut masks,
         } = self;
-        let Sheet { mut items } = sheet;
         let rule = lift_rule(&mut items, number);
         lift_mask(&mut masks, number);
-        let sheet = Sheet { items };
         let indexed = MarkedSheet {
-            sheet,
+            items,
             marks,
             masks,
         };
@@ -133,17 +148,15 @@ impl MarkedSheet {
         ensures next { IfOk result (λ b. b.next ≡ self.next + length (items_in left)) }
     {
         let MarkedSheet {
-            sheet,
+            items,
             marks,
             masks,
         } = self;
-        let Sheet { items } = sheet;
         let marks = marks.put(number, &left)?;
         let masks = put_masks(masks, number, left_masks)?;
         let items = put_items(items, number, left)?;
-        let sheet = Sheet { items };
         Ok(MarkedSheet {
-            sheet,
+            items,
             marks,
             masks,
         })

@@ -41,7 +41,7 @@ fn push_step(
     ensures { OnOk result (listing.ListsTo sheet.now.items (kind_number kind) first (second + 1) found.new.items) }
 {
     let step = step_of(kind, first, second);
-    let is = is_step(alloc, sheet, &step)?;
+    let is = is_step(alloc, &sheet.items, &step)?;
     if is {
         found.push(step)?;
     }

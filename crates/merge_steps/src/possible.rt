@@ -11,7 +11,7 @@ ghost use Rattle.step_laws.specs.declared.step.Step.TheVariants as kinds;
 ghost use Rattle.step_laws.specs.Steps.{AreDeclsAmong, HasStep, MayShare, decls_of, first_item, last_item};
 
 use crate::members::{have_same_decls, have_same_selectors, is_a_decl_among};
-use css_model::{Decl, DeclItem, Item, MAX_ITEMS, Rule, SelItem, Selector, Sheet};
+use css_model::{Decl, DeclItem, Item, MAX_ITEMS, Rule, SelItem, Selector};
 use rule_parts::{are_decls_among, has_decl, has_selector};
 use std::alloc::{AllocError, Global};
 use step_laws::Step;
@@ -269,10 +269,9 @@ fn can_cut(items: &[Item], step: &Step) -> bool
 /// Whether a step is one of a sheet. The time is that of a look at each pair that a cut takes and each item, at each two
 /// declarations of the rules of a join, and at their selectors. `Err(AllocError)` if memory is short: many selectors are
 /// compared as sets.
-pub fn is_step(alloc: Global, sheet: &Sheet, step: &Step) -> Result<bool, AllocError>
-    ensures { IfOk result (λ is. IsTrue is ↔ HasStep sheet.now.items step.now) }
+pub fn is_step(alloc: Global, items: &[Item], step: &Step) -> Result<bool, AllocError>
+    ensures { IfOk result (λ is. IsTrue is ↔ HasStep items.now step.now) }
 {
-    let items = sheet.items.as_slice();
     match *step {
         Step::CutDecl { .. } | Step::CutSel { .. } => Ok(can_cut(items, step)),
         Step::JoinSelUp { upper, lower }

@@ -19,7 +19,7 @@ fn obstacle(
     most_answers: Option<usize>,
 ) -> Result<Option<Obstacle>, Stopped> {
     let sheet = sheet(rt, alloc, source.as_bytes());
-    let is_step = is_step(alloc, &sheet, step).expect(rt, "memory");
+    let is_step = is_step(alloc, &sheet.items, step).expect(rt, "memory");
     assert!(rt; is_step, "{source}");
     obstacle_of(rt, alloc, obstacles, &sheet, step, most_answers)
 }

@@ -73,11 +73,11 @@ fn moves_reverse_what_weighs(rt: HostRuntime) {
 /// How much a step reverses, by the index of the sheet and by the sheets before and after it.
 fn reversed_by(rt: &impl Abort, alloc: Global, source: &str, step: &Step) -> usize {
     let old = sheet(rt, alloc, source.as_bytes());
-    let is_step = is_step(alloc, &old, step).expect(rt, "memory");
+    let is_step = is_step(alloc, &old.items, step).expect(rt, "memory");
     assert!(rt; is_step, "{source}");
     let index = Index::new(alloc, &old).expect(rt, "memory");
     let found = index.reversed(alloc, step).expect(rt, "memory");
-    let new = apply(alloc, &old, step).expect(rt, "memory");
+    let new = apply(alloc, &old.items, step).expect(rt, "memory");
     let want = reversed(alloc, &old, &new, &moved_of(step)).expect(rt, "memory");
     assert!(rt; found == want, "{source}");
     found.len()
@@ -170,7 +170,7 @@ fn allowed(
     step: &Step,
 ) -> Allowed {
     let sheet = sheet(rt, alloc, source.as_bytes());
-    let is_step = is_step(alloc, &sheet, step).expect(rt, "memory");
+    let is_step = is_step(alloc, &sheet.items, step).expect(rt, "memory");
     assert!(rt; is_step, "{source}");
     let index = Index::new(alloc, &sheet).expect(rt, "memory");
     let by_index = index.permitted(alloc, pairs, step).expect(rt, "memory");

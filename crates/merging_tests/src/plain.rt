@@ -26,7 +26,7 @@ fn saved(rt: &impl Abort, alloc: Global, source: &[u8], sheet: &Sheet, step: &St
     requires plannable { IsPlannable source.now sheet.now.items }
     ensures { HasStep sheet.now.items step.now }
 {
-    let is_step = is_step(alloc, sheet, step).expect(rt, "memory");
+    let is_step = is_step(alloc, &sheet.items, step).expect(rt, "memory");
     assert!(rt; is_step);
     saving(sheet, source, step)
 }

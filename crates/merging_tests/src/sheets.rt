@@ -89,7 +89,7 @@ fn applied(rt: &impl Abort, alloc: Global, old: &Sheet, step: &Step) -> Sheet
     requires few_items { length old.now.items ≤ max_items }
     ensures { (e : Edit) → IsStep old.now.items step.now e → result.items ≡ edited e old.now.items }
 {
-    apply(alloc, old, step).expect(rt, "memory")
+    apply(alloc, &old.items, step).expect(rt, "memory")
 }
 
 /// The text of a sheet is within the limit.

@@ -12,7 +12,7 @@ use step_laws::parts_are_few;
 fn taken(rt: &impl Abort, alloc: Global, source: &str, step: &Step) -> (i64, u64, Vec<u8>) {
     let bytes = source.as_bytes();
     let old = sheet(rt, alloc, bytes);
-    let is_step = is_step(alloc, &old, step).expect(rt, "memory");
+    let is_step = is_step(alloc, &old.items, step).expect(rt, "memory");
     assert!(rt; is_step, "{source}");
     let new = after(rt, alloc, bytes, &old, step);
     let text = print_sheet(alloc, &new, bytes).expect(rt, "memory");
@@ -207,7 +207,7 @@ const NONE: [(&str, Step); 10] = [
 fn what_is_no_step(rt: HostRuntime) {
     for (source, step) in &NONE {
         let sheet = sheet(&rt, rt.alloc(), source.as_bytes());
-        let is_step = is_step(rt.alloc(), &sheet, step).expect(&rt, "memory");
+        let is_step = is_step(rt.alloc(), &sheet.items, step).expect(&rt, "memory");
         assert!(rt; !is_step, "{source}");
     }
 }
@@ -235,7 +235,7 @@ fn saving_steps_after(
     let sheet = sheet(rt, alloc, source);
     let candidates = Candidates::new(alloc, &sheet, source).expect(rt, "memory");
     let before = Vec::from_slice(alloc, candidates.saving_steps()).expect(rt, "memory");
-    let is_step = is_step(alloc, &sheet, step).expect(rt, "memory");
+    let is_step = is_step(alloc, &sheet.items, step).expect(rt, "memory");
     assert!(rt; is_step);
     if saving(&sheet, source, step) < 0 {
         return (Vec::new(alloc), Vec::new(alloc));

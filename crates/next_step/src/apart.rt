@@ -63,7 +63,7 @@ pub(crate) fn are_apart(view: &View<'_>, focus: &Focus<'_>, other: u32) -> bool
     if share_no_selector(view.indexed, focus.number, other) {
         return true;
     }
-    match find_rule(view.indexed.sheet(), other) {
+    match find_rule(view.indexed.items(), other) {
         Some(rule) => are_apart_by_tables(view, focus, other, rule),
         None => false,
     }

@@ -14,7 +14,7 @@ pub(crate) mod standing;
 
 use crate::queue::order::order_key_of;
 use crate::trying::scopes::item_id_of;
-use css_model::{Rule, Sheet};
+use css_model::{Item, Rule};
 use indexed_sheet::IndexedSheet;
 use rule_parts::{find_rule, has_decl};
 pub use standing::stands_from;
@@ -82,13 +82,13 @@ fn has_decl_of(rule: &Rule, from: &Rule, number: u32) -> bool
 }
 
 /// Whether the share of two items moves the declaration of this number, from 0, of the upper one.
-fn shares_number(sheet: &Sheet, upper: u32, lower: u32, number: u32) -> bool
-    ensures { result ≡ is_with (slice_get sheet.now.items lower) (decl_of_number (slice_get sheet.now.items upper) number) }
+fn shares_number(items: &[Item], upper: u32, lower: u32, number: u32) -> bool
+    ensures { result ≡ is_with (slice_get items.now lower) (decl_of_number (slice_get items.now upper) number) }
 {
-    let Some(from) = find_rule(sheet, upper) else {
+    let Some(from) = find_rule(items, upper) else {
         return false;
     };
-    let Some(rule) = find_rule(sheet, lower) else {
+    let Some(rule) = find_rule(items, lower) else {
         return false;
     };
     has_decl_of(rule, from, number)
@@ -121,7 +121,7 @@ pub(crate) fn is_share_past(
     if !is_below(barrier, order_key_of(indexed, lower)) {
         return false;
     }
-    shares_number(indexed.sheet(), upper, lower, barrier.decl)
+    shares_number(indexed.items(), upper, lower, barrier.decl)
 }
 
 /// Whether a step of an indexed sheet goes past a barrier: a join of an item past its barrier, or a share that moves the declaration

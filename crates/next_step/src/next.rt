@@ -118,7 +118,7 @@ pub fn next_candidates(alloc: Global, view: &View<'_>, at: u64) -> Result<Looked
     if mark.item_id != view.after.owner {
         return Ok(Looked { found, seen: None });
     }
-    let Some(rule) = find_rule(view.indexed.sheet(), number) else {
+    let Some(rule) = find_rule(view.indexed.items(), number) else {
         return Ok(Looked { found, seen: None });
     };
     let focus = Focus {

@@ -85,7 +85,7 @@ fn put_priority(view: &View<'_>, attempt: &Attempt, found: &mut Found) -> Result
     }
     let saving = saved_if_apart(
         view.source,
-        view.indexed.sheet(),
+        view.indexed.items(),
         &attempt.step,
         attempt.apart,
     );

@@ -30,7 +30,7 @@ pub(crate) fn find_window<'w>(
     ensures step { result.step ≡ step.now }
     ensures change { IsChange result.window result.step }
 {
-    let window = window_of(sheet, masks, None, step);
+    let window = window_of(&sheet.items, masks, None, step);
     StepWindow {
         window,
         step: *step,

@@ -50,7 +50,7 @@ fn pair_stands_from(
     ensures { result ≡ false → (p : Pair) → IsAt indexed.now.items place.now p → (n : ℕ) (r : RuleParts) (order_key : ℕ) → slice_get indexed.now.items n ≡ Some (item.Rule r)
         → slice_get (order_keys_of indexed.now.marks) n ≡ Some order_key → from ≤ order_key → order_key ≢ own → HasBoth r p.selector p.decl → ⊥ }
 {
-    let rule = rule_at(indexed.sheet(), place.item);
+    let rule = rule_at(indexed.items(), place.item);
     let selector = selector_of(rule, place.sel);
     let decl = decl_of(rule, place.decl);
     stands_from(indexed, tables, from, own, selector, decl)
@@ -97,7 +97,7 @@ const MOST_DECLS: usize = 4;
 
 /// Whether the item of this number is a rule that gets barriers by its shares.
 fn is_short(indexed: &IndexedSheet, number: u32) -> bool {
-    match find_rule(indexed.sheet(), number) {
+    match find_rule(indexed.items(), number) {
         Some(rule) => rule.decls.len() <= MOST_DECLS,
         None => false,
     }

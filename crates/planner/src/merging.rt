@@ -51,7 +51,7 @@ fn next_step<O: Obstacles>(
 {
     no_candidate_is_done();
     'candidates: while let Some(candidate) = plan.take_first() {
-        if may_end(obstacles, plan.indexed.sheet(), work, taken) {
+        if may_end(obstacles, plan.indexed.items(), work, taken) {
             return Ok(Next::Spent);
         }
         match try_candidate(alloc, obstacles, source, plan, &candidate, work, taken) {

@@ -3,7 +3,7 @@
 ghost use Rattle.std.specs.Prelude.{◌≡◌, true};
 ghost use Rattle.repeat_laws.specs.Repeats.{CutsRepeat, IsDeclAgain, IsSelAgain};
 
-use css_model::{DeclItem, Item, SelItem, Sheet};
+use css_model::{DeclItem, Item, SelItem};
 use rule_parts::{has_decl, has_selector};
 use step_laws::Step;
 
@@ -44,10 +44,9 @@ fn is_sel_again(selectors: &[SelItem], number: u32) -> bool
 
 /// Returns `true` only if a step cuts a part that its rule has again: of equal declarations one that is not the last, of
 /// equal selectors any one.
-pub(crate) fn is_repeat_cut(sheet: &Sheet, step: &Step) -> bool
-    ensures { result ≡ true → CutsRepeat sheet.now.items step.now }
+pub(crate) fn is_repeat_cut(items: &[Item], step: &Step) -> bool
+    ensures { result ≡ true → CutsRepeat items.now step.now }
 {
-    let items = sheet.items.as_slice();
     match *step {
         Step::CutDecl { item, decl } => match items.get(item as usize) {
             Some(Item::Rule(rule)) => is_decl_again(rule.decls.as_slice(), decl),

@@ -48,7 +48,7 @@ fn obstacle_on<O: Obstacles>(
     ensures blocked { IfOk result (λ found. IfSome found (λ o. IsBlockedBy (O.answers obstacles.new) indexed.now.items step.now o)) }
     ensures stopped { IfErr result (λ e. e ≡ stops.Work → IsReached most_answers (length (O.answers obstacles.new))) }
 {
-    if is_repeat_cut(indexed.sheet(), step) {
+    if is_repeat_cut(indexed.items(), step) {
         repeats_are_free();
         return Ok(None);
     }
@@ -74,7 +74,7 @@ fn obstacle_within<O: Obstacles>(
 {
     let found = obstacle_on(obstacles, indexed, step, answers_left(work, taken));
     if let Err(Stopped::Work) = found
-        && !has_few_pairs(indexed.sheet().items.as_slice())
+        && !has_few_pairs(indexed.items())
     {
         return obstacle_on(obstacles, indexed, step, None);
     }

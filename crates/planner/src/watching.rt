@@ -17,7 +17,7 @@ ghost use Rattle.obstacles.specs.declared.obstacle.Other.TheVariants as others;
 ghost use Rattle.obstacles.specs.declared.obstacle.PairPlace as declared_place;
 ghost use Rattle.plan_laws.specs.Barrier.Hindering.{Hindrance};
 
-use css_model::{Decl, MAX_BYTES, Rule, Selector, Sheet};
+use css_model::{Decl, Item, MAX_BYTES, Rule, Selector};
 use obstacles::{Obstacle, Other, PairPlace};
 use pending_laws::Way;
 use planner_state::Plan;
@@ -65,15 +65,15 @@ fn put_under(
 /// Puts a candidate on the watch list under the pair at a place of a sheet. All entries stay.
 fn put_pair(
     watched: &mut WatchList,
-    sheet: &Sheet,
+    items: &[Item],
     place: &PairPlace,
     candidate: &Candidate,
 ) -> Result<(), AllocError>
-    requires { (p : Pair) × IsAt sheet.now.items place.now p }
+    requires { (p : Pair) × IsAt items.now place.now p }
     ensures more { (x : Entry) → Contains watched.old x → Contains watched.new x }
-    ensures put { OnOk result ((p : Pair) → IsAt sheet.now.items place.now p → Contains watched.new (entry_of p candidate.now)) }
+    ensures put { OnOk result ((p : Pair) → IsAt items.now place.now p → Contains watched.new (entry_of p candidate.now)) }
 {
-    let rule = rule_at(sheet, place.item);
+    let rule = rule_at(items, place.item);
     let selector = selector_of(rule, place.sel);
     let decl = decl_of(rule, place.decl);
     put_under(watched, selector, decl, candidate)
@@ -82,17 +82,17 @@ fn put_pair(
 /// Puts a candidate on the watch list under the other thing of an obstacle, if that is a pair. All entries stay.
 fn put_other(
     watched: &mut WatchList,
-    sheet: &Sheet,
+    items: &[Item],
     other: &Other,
     candidate: &Candidate,
 ) -> Result<(), AllocError>
-    requires { (by : Hindrance) × IsOther sheet.now.items other.now by }
+    requires { (by : Hindrance) × IsOther items.now other.now by }
     ensures more { (x : Entry) → Contains watched.old x → Contains watched.new x }
-    ensures put { OnOk result ((place : declared_place.PairPlace) (p : Pair) → other.now ≡ others.Pair place → IsAt sheet.now.items place p
+    ensures put { OnOk result ((place : declared_place.PairPlace) (p : Pair) → other.now ≡ others.Pair place → IsAt items.now place p
         → Contains watched.new (entry_of p candidate.now)) }
 {
     match other {
-        Other::Pair(place) => put_pair(watched, sheet, place, candidate),
+        Other::Pair(place) => put_pair(watched, items, place, candidate),
         Other::Kept(_) => Ok(()),
     }
 }
@@ -100,17 +100,17 @@ fn put_other(
 /// Puts a candidate on the watch list under each pair of what an obstacle of a sheet names. All entries stay.
 fn put_named(
     watched: &mut WatchList,
-    sheet: &Sheet,
+    items: &[Item],
     obstacle: &Obstacle,
     candidate: &Candidate,
 ) -> Result<(), AllocError>
-    requires { (by : Hindrance) × Names sheet.now.items obstacle.now by }
+    requires { (by : Hindrance) × Names items.now obstacle.now by }
     ensures more { (x : Entry) → Contains watched.old x → Contains watched.new x }
-    ensures put { OnOk result ((by : Hindrance) → Names sheet.now.items obstacle.now by → (p : Pair) → Contains (pairs_of by) p
+    ensures put { OnOk result ((by : Hindrance) → Names items.now obstacle.now by → (p : Pair) → Contains (pairs_of by) p
         → Contains watched.new (entry_of p candidate.now)) }
 {
-    put_pair(watched, sheet, &obstacle.moved, candidate)?;
-    put_other(watched, sheet, &obstacle.other, candidate)
+    put_pair(watched, items, &obstacle.moved, candidate)?;
+    put_other(watched, items, &obstacle.other, candidate)
 }
 
 /// Returns a candidate of the same priority, with the scope `Alone`.
@@ -138,7 +138,7 @@ pub(crate) fn put_watched(
 {
     put_named(
         &mut plan.watched,
-        plan.indexed.sheet(),
+        plan.indexed.items(),
         obstacle,
         &alone(candidate),
     )
@@ -184,7 +184,7 @@ pub(crate) fn put_all(
 {
     put_named(
         &mut plan.watched,
-        plan.indexed.sheet(),
+        plan.indexed.items(),
         obstacle,
         &candidate_of_moves(way, item_id),
     )

@@ -6,7 +6,7 @@ ghost use Rattle.css_model.specs.Sheets.ComesFrom.{pair_count};
 ghost use Rattle.css_model.specs.Sheets.Limits.{max_pairs};
 ghost use Rattle.planner.specs.Working.{MayEnd, MayGoOn};
 
-use css_model::{Item, MAX_PAIRS, Sheet, with_pairs_of};
+use css_model::{Item, MAX_PAIRS, with_pairs_of};
 use obstacles::Obstacles;
 use step_laws::Step;
 
@@ -73,12 +73,12 @@ pub(crate) fn has_few_pairs(items: &[Item]) -> bool
 /// Returns `true` only if a plan of a sheet may end by its bound, if it has one; else it may go on.
 pub(crate) fn may_end<O: Obstacles>(
     obstacles: &O,
-    sheet: &Sheet,
+    items: &[Item],
     work: Option<u32>,
     taken: u32,
 ) -> bool
-    ensures end { result ≡ true → MayEnd work (O.answers obstacles.now) taken sheet.now.items }
-    ensures on { result ≡ false → MayGoOn work taken sheet.now.items }
+    ensures end { result ≡ true → MayEnd work (O.answers obstacles.now) taken items.now }
+    ensures on { result ≡ false → MayGoOn work taken items.now }
 {
-    is_spent(obstacles, work, taken) && has_few_pairs(sheet.items.as_slice())
+    is_spent(obstacles, work, taken) && has_few_pairs(items)
 }

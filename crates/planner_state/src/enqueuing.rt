@@ -189,18 +189,9 @@ pub(crate) fn enqueue(
     ensures stay { OnOk result (spec.StayBefore next tables.old queue.old homes.old.items tables.new queue.new homes.new.items) }
 {
     let marks = indexed.marks();
-    let sheet = indexed.sheet();
+    let items = indexed.items();
     match created {
-        Some(numbers) => enqueue_those(
-            put,
-            next,
-            numbers,
-            marks,
-            &sheet.items,
-            tables,
-            queue,
-            homes,
-        ),
-        None => enqueue_each(put, next, marks, &sheet.items, tables, queue, homes),
+        Some(numbers) => enqueue_those(put, next, numbers, marks, items, tables, queue, homes),
+        None => enqueue_each(put, next, marks, items, tables, queue, homes),
     }
 }

@@ -9,7 +9,7 @@ ghost use Rattle.indexed_sheet.specs.declared.marks.Mark as marking;
 ghost use Rattle.rule_tables.specs.Tables as covering;
 ghost use Rattle.step_laws.specs.Steps.{IsStep};
 
-use css_model::{Item, Sheet};
+use css_model::Item;
 use indexed_sheet::{IndexedSheet, Mark};
 use queue_laws::others_stay_covered;
 use rule_tables::Tables;
@@ -29,9 +29,9 @@ fn uncover_item(tables: &mut Tables, item: &Item, order_key: u64)
 }
 
 /// Takes the entries of the item of this number out of the tables, if it is a rule.
-fn uncover_at(tables: &mut Tables, marks: &[Mark], sheet: &Sheet, number: u32)
+fn uncover_at(tables: &mut Tables, marks: &[Mark], items: &[Item], number: u32)
     ensures exact { (m : marking.Mark) (r : RuleParts) → slice_get marks.now number ≡ Some m
-        → slice_get sheet.now.items number ≡ Some (kinds.Rule r) → covering.TakesRule tables.old r m.order_key tables.new }
+        → slice_get items.now number ≡ Some (kinds.Rule r) → covering.TakesRule tables.old r m.order_key tables.new }
     ensures still { (rules : List covering.OrderKeyed) → HaveOtherOrderKeysThan marks.now number rules → covering.Cover tables.old rules
         → covering.Cover tables.new rules }
 {
@@ -39,7 +39,7 @@ fn uncover_at(tables: &mut Tables, marks: &[Mark], sheet: &Sheet, number: u32)
     let Some(mark) = marks.get(number) else {
         return;
     };
-    let Some(item) = sheet.items.get(number) else {
+    let Some(item) = items.get(number) else {
         return;
     };
     uncover_item(tables, item, mark.order_key);
@@ -52,11 +52,11 @@ pub(crate) fn uncover(tables: &mut Tables, indexed: &IndexedSheet, step: &Step)
 {
     others_stay_covered();
     let marks = indexed.marks();
-    let sheet = indexed.sheet();
+    let items = indexed.items();
     let (first, last) = items_of(step);
-    uncover_at(tables, marks, sheet, first);
+    uncover_at(tables, marks, items, first);
     if first == last {
         return;
     }
-    uncover_at(tables, marks, sheet, last);
+    uncover_at(tables, marks, items, last);
 }

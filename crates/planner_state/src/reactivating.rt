@@ -12,7 +12,7 @@ ghost use Rattle.step_queue.specs.declared.candidate.Candidate as declared;
 ghost use Rattle.order_laws.specs.Edits.{Edit, is_moved};
 ghost use Rattle.step_laws.specs.Steps.{HasStep, IsStep};
 
-use css_model::{DeclItem, Item, Rule, SelItem, Sheet};
+use css_model::{DeclItem, Item, Rule, SelItem};
 use queue_laws::entries_are_found;
 use rule_tables::{decl_digests, selector_digests};
 use std::alloc::{AllocError, Global};
@@ -144,13 +144,13 @@ fn reactivate_rule(
     alloc: Global,
     watched: &WatchList,
     queue: &mut Queue,
-    sheet: &Sheet,
+    items: &[Item],
     number: u32,
 ) -> Result<(), AllocError>
     ensures stay { OnOk result ((l : pending.Candidate) → Contains queue.old l → Contains queue.new l) }
-    ensures active { OnOk result ((r : RuleParts) → slice_get sheet.now.items number ≡ Some (kinds.Rule r) → spec.IsRuleActive watched.now queue.new r) }
+    ensures active { OnOk result ((r : RuleParts) → slice_get items.now number ≡ Some (kinds.Rule r) → spec.IsRuleActive watched.now queue.new r) }
 {
-    let Some(rule) = find_rule(sheet, number) else {
+    let Some(rule) = find_rule(items, number) else {
         return Ok(());
     };
     reactivate_pairs_of(alloc, watched, queue, rule)?;
@@ -158,11 +158,11 @@ fn reactivate_rule(
 }
 
 /// Returns the rule of this number, or `None` if no rule has it.
-fn find_rule(sheet: &Sheet, number: u32) -> Option<&Rule>
-    ensures some { IfSome result (λ rule. slice_get sheet.now.items number ≡ Some (kinds.Rule rule.now)) }
-    ensures none { IfNone result ((r : RuleParts) → slice_get sheet.now.items number ≡ Some (kinds.Rule r) → ⊥) }
+fn find_rule(items: &[Item], number: u32) -> Option<&Rule>
+    ensures some { IfSome result (λ rule. slice_get items.now number ≡ Some (kinds.Rule rule.now)) }
+    ensures none { IfNone result ((r : RuleParts) → slice_get items.now number ≡ Some (kinds.Rule r) → ⊥) }
 {
-    match sheet.items.get(number as usize) {
+    match items.get(number as usize) {
         Some(Item::Rule(rule)) => Some(rule),
         _ => None,
     }
@@ -186,11 +186,11 @@ pub(crate) fn reactivate_moved(
     alloc: Global,
     watched: &WatchList,
     queue: &mut Queue,
-    sheet: &Sheet,
+    items: &[Item],
     step: &Step,
 ) -> Result<(), AllocError>
     ensures stay { OnOk result ((l : pending.Candidate) → Contains queue.old l → Contains queue.new l) }
-    ensures active { OnOk result ((e : Edit) → IsStep sheet.now.items step.now e → (p : Pair) → is_moved e.moved p ≡ true
+    ensures active { OnOk result ((e : Edit) → IsStep items.now step.now e → (p : Pair) → is_moved e.moved p ≡ true
         → spec.IsActive watched.now queue.new p.selector p.decl) }
 {
     steps_rearrange();
@@ -198,10 +198,10 @@ pub(crate) fn reactivate_moved(
         return Ok(());
     }
     let (first, last) = moved_out(step);
-    reactivate_rule(alloc, watched, queue, sheet, first)?;
+    reactivate_rule(alloc, watched, queue, items, first)?;
     if first == last {
         return Ok(());
     }
-    reactivate_rule(alloc, watched, queue, sheet, last)?;
+    reactivate_rule(alloc, watched, queue, items, last)?;
     Ok(())
 }

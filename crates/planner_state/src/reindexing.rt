@@ -53,7 +53,7 @@ fn move_over(
     let marks = indexed.marks();
     let own = order_key_at(marks, moved);
     let order_key = order_key_at(marks, other);
-    let rule = rule_at(indexed.sheet(), moved);
+    let rule = rule_at(indexed.items(), moved);
     tables.insert(rule, order_key)?;
     tables.remove(rule, own);
     Ok(())

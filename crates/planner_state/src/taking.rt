@@ -33,8 +33,7 @@ fn has_room(indexed: &IndexedSheet, step: &Step) -> bool
     ensures order_key { IsTrue result → HasOrderKeyFor indexed.now.marks step.now }
     ensures item_ids { IsTrue result → indexed.now.next + 4 < 2 ^ 32 }
 {
-    let sheet = indexed.sheet();
-    sheet.items.len() + 1 < MAX_ITEMS as usize
+    indexed.items().len() + 1 < MAX_ITEMS as usize
         && indexed.next() < u32::MAX - 4
         && indexed.has_order_key_for(step)
 }
@@ -75,7 +74,7 @@ impl Plan {
             mut weights,
         } = self;
         let made = made_weight(&indexed, &weights, step);
-        reactivate_moved(alloc, &watched, &mut queue, indexed.sheet(), step)?;
+        reactivate_moved(alloc, &watched, &mut queue, indexed.items(), step)?;
         take_down_for(&mut barriers, &indexed, step);
         let put = reindex(&mut tables, &indexed, step)?;
         let next = indexed.next();
@@ -123,7 +122,7 @@ impl Plan {
         }
         each_is_made_of_itself();
         steps_make_of();
-        let sheet = apply(alloc, self.indexed.sheet(), step)?;
+        let sheet = apply(alloc, self.indexed.items(), step)?;
         Plan::begin(alloc, source, sheet)
     }
 }

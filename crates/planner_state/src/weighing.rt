@@ -242,7 +242,7 @@ fn weigh_at(
     if item_id < next {
         return Ok(());
     }
-    let item = item_at(&indexed.sheet().items, number);
+    let item = item_at(indexed.items(), number);
     weigh_item(source, known, item_id, item, weights)
 }
 

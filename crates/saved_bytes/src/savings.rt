@@ -8,7 +8,7 @@ ghost use Rattle.step_laws.specs.Steps.{HasStep};
 ghost use Rattle.step_savings.specs.Apart.{StepApart};
 
 use crate::lengths::KnownLengths;
-use css_model::Sheet;
+use css_model::Item;
 use merge_steps::Step;
 use step_savings::saving_if_apart;
 
@@ -23,20 +23,20 @@ fn gain(saving: i64) -> u32
 
 /// Returns how many bytes a step of a sheet saves, or 0 if it saves none.
 /// `apart` says that the rules of the step have no selector in common. If they may have one, it is `false`.
-pub fn saved_if_apart(source: &KnownLengths<'_>, sheet: &Sheet, step: &Step, apart: bool) -> u32
-    requires is_step { HasStep sheet.now.items step.now }
-    requires plannable { IsPlannable source.now sheet.now.items }
-    requires apart { apart ≡ true → StepApart sheet.now.items step.now }
-    ensures { IsSaving source.now sheet.now.items step.now result }
+pub fn saved_if_apart(source: &KnownLengths<'_>, items: &[Item], step: &Step, apart: bool) -> u32
+    requires is_step { HasStep items.now step.now }
+    requires plannable { IsPlannable source.now items.now }
+    requires apart { apart ≡ true → StepApart items.now step.now }
+    ensures { IsSaving source.now items.now step.now result }
 {
-    gain(saving_if_apart(source, sheet, step, apart))
+    gain(saving_if_apart(source, items, step, apart))
 }
 
 /// Returns how many bytes a step of a sheet saves, or 0 if it saves none.
-pub fn saved(source: &KnownLengths<'_>, sheet: &Sheet, step: &Step) -> u32
-    requires is_step { HasStep sheet.now.items step.now }
-    requires plannable { IsPlannable source.now sheet.now.items }
-    ensures { IsSaving source.now sheet.now.items step.now result }
+pub fn saved(source: &KnownLengths<'_>, items: &[Item], step: &Step) -> u32
+    requires is_step { HasStep items.now step.now }
+    requires plannable { IsPlannable source.now items.now }
+    ensures { IsSaving source.now items.now step.now result }
 {
-    saved_if_apart(source, sheet, step, false)
+    saved_if_apart(source, items, step, false)
 }

@@ -136,7 +136,7 @@ pub fn permitted(
     read_selectors_keep_the_limits();
     listed_is_reversed();
     parts_are_few();
-    let new = apply(alloc, sheet, step)?;
+    let new = apply(alloc, &sheet.items, step)?;
     let moved = moved_of(step);
     let entries = reversals(alloc, &sheet.items, &new.items, &moved)?;
     judged(pairs, &entries)

@@ -45,6 +45,9 @@ pub(crate) fn is_step_of(on: &Numbered<'_>, step: &Step) -> Result<bool, AllocEr
     match *step {
         Step::CutDecl { item, decl } => Ok(can_cut_decl(on, item, decl)),
         Step::CutSel { item, sel } => Ok(can_cut_selector(on, item, sel)),
-        _ => is_step(on.alloc, on.sheet, step),
+        _ => {
+            let sheet = on.sheet;
+            is_step(on.alloc, &sheet.items, step)
+        }
     }
 }

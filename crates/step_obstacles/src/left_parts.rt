@@ -11,7 +11,7 @@ ghost use Rattle.step_savings.specs.CutParts.{HasPart};
 ghost use Rattle.plan_laws.specs.Window.StepWindows as windows;
 ghost use Rattle.window_order.specs.Left as left;
 
-use css_model::{DeclItem, Rule, SelItem, Sheet};
+use css_model::{DeclItem, Item, Rule, SelItem};
 use step_laws::Step;
 use step_savings::{items_of, rule_at};
 use window_order::{Left, LeftDecls, LeftRule, LeftSelectors};
@@ -177,14 +177,14 @@ fn last_left<'a>(step: &Step, upper: &'a Rule, lower: &'a Rule) -> Left<'a>
 
 /// What a step of a sheet leaves in the places of its first and of its last item.
 #[tactic(auto, using(step_savings::proofs::ForCallers::first_rule, step_savings::proofs::ForCallers::last_rule, step_savings::proofs::ForCallers::has_part))]
-pub(crate) fn left_by<'a>(sheet: &'a Sheet, step: &Step) -> (Left<'a>, Left<'a>)
-    requires { HasStep sheet.now.items step.now }
-    ensures first { (e : Edit) → IsStep sheet.now.items step.now e → left.items_of result.0 ≡ windows.first_left e.changes }
-    ensures last { (e : Edit) → IsStep sheet.now.items step.now e → left.items_of result.1 ≡ windows.last_left e.changes }
+pub(crate) fn left_by<'a>(items: &'a [Item], step: &Step) -> (Left<'a>, Left<'a>)
+    requires { HasStep items.now step.now }
+    ensures first { (e : Edit) → IsStep items.now step.now e → left.items_of result.0 ≡ windows.first_left e.changes }
+    ensures last { (e : Edit) → IsStep items.now step.now e → left.items_of result.1 ≡ windows.last_left e.changes }
 {
     let (first, last) = items_of(step);
-    let upper = rule_at(sheet, first);
-    let lower = rule_at(sheet, last);
+    let upper = rule_at(items, first);
+    let lower = rule_at(items, last);
     (
         first_left(step, upper, lower),
         last_left(step, upper, lower),

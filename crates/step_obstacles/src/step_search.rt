@@ -32,7 +32,7 @@ use crate::left_parts::left_by;
 use crate::selector_masks::selector_masks_of;
 use crate::specificities::specificities_of;
 use crate::window_search::{Span, in_window};
-use css_model::{Rule, Sheet};
+use css_model::{Item, Rule};
 use indexed_sheet::IndexedSheet;
 use item_masks::ItemMask;
 use obstacles::{Obstacle, Stopped};
@@ -76,21 +76,20 @@ fn both_masks(masks: &[ItemMask], first: u32, last: u32) -> ItemMask
 
 /// The window of a step. No part of a rule is copied. `planned` is the indexed sheet of these items, if there is one.
 pub fn window_of<'a>(
-    sheet: &'a Sheet,
+    items: &'a [Item],
     masks: &'a [ItemMask],
     planned: Option<&'a IndexedSheet>,
     step: &Step,
 ) -> Window<'a>
-    requires is_step { HasStep sheet.now.items step.now }
-    requires masks { masks.now ≡ map item_mask sheet.now.items }
-    requires planned { ForSome planned (λ b. b.now.items ≡ sheet.now.items) }
-    ensures items { result.items.now ≡ sheet.now.items }
-    ensures window { (e : Edit) → IsStep sheet.now.items step.now e → IsWindowFor sheet.now.items step.now e result }
+    requires is_step { HasStep items.now step.now }
+    requires masks { masks.now ≡ map item_mask items.now }
+    requires planned { ForSome planned (λ b. b.now.items ≡ items.now) }
+    ensures items { result.items.now ≡ items.now }
+    ensures window { (e : Edit) → IsStep items.now step.now e → IsWindowFor items.now step.now e result }
 {
-    let items = sheet.items.as_slice();
     let (start, middle) = starts_of(step);
     let (first, last) = items_of(step);
-    let (first_left, last_left) = left_by(sheet, step);
+    let (first_left, last_left) = left_by(items, step);
     let left_mask = both_masks(masks, first, last);
     Window {
         items,
@@ -133,15 +132,15 @@ fn span_of(step: &Step) -> Span
 }
 
 /// All pairs of the rule of this number. `AllocError` where memory is short.
-fn whole(alloc: Global, sheet: &Sheet, item: u32) -> Result<Source<'_>, AllocError>
-    requires askable { turns.IsAskable sheet.now.items }
-    requires rule { (r : RuleParts) × (slice_get sheet.now.items item ≡ Some (kinds.Rule r)) }
+fn whole(alloc: Global, items: &[Item], item: u32) -> Result<Source<'_>, AllocError>
+    requires askable { turns.IsAskable items.now }
+    requires rule { (r : RuleParts) × (slice_get items.now item ≡ Some (kinds.Rule r)) }
     ensures item { IfOk result (λ s. s.item ≡ item) }
     ensures with { IfOk result (λ s. s.with ≡ None) }
-    ensures rule { IfOk result (λ s. slice_get sheet.now.items item ≡ Some (kinds.Rule s.rule.now)) }
+    ensures rule { IfOk result (λ s. slice_get items.now item ≡ Some (kinds.Rule s.rule.now)) }
     ensures masked { IfOk result (λ s. turns.IsMasked s) }
 {
-    let rule = rule_at(sheet, item);
+    let rule = rule_at(items, item);
     let masks = masks_of(alloc, &rule.decls, None)?;
     let mask = bits_of(&masks);
     let specificities = specificities_of(alloc, &rule.selectors)?;
@@ -158,18 +157,18 @@ fn whole(alloc: Global, sheet: &Sheet, item: u32) -> Result<Source<'_>, AllocErr
 }
 
 /// The pairs of the rule of this number whose declarations are in another rule too. `AllocError` where memory is short.
-fn common(alloc: Global, sheet: &Sheet, item: u32, other: u32) -> Result<Source<'_>, AllocError>
-    requires askable { turns.IsAskable sheet.now.items }
-    requires rule { (r : RuleParts) × (slice_get sheet.now.items item ≡ Some (kinds.Rule r)) }
-    requires other { (r : RuleParts) × (slice_get sheet.now.items other ≡ Some (kinds.Rule r)) }
+fn common(alloc: Global, items: &[Item], item: u32, other: u32) -> Result<Source<'_>, AllocError>
+    requires askable { turns.IsAskable items.now }
+    requires rule { (r : RuleParts) × (slice_get items.now item ≡ Some (kinds.Rule r)) }
+    requires other { (r : RuleParts) × (slice_get items.now other ≡ Some (kinds.Rule r)) }
     ensures item { IfOk result (λ s. s.item ≡ item) }
-    ensures with { IfOk result (λ s. IfSome s.with (λ r. slice_get sheet.now.items other ≡ Some (kinds.Rule r.now))) }
+    ensures with { IfOk result (λ s. IfSome s.with (λ r. slice_get items.now other ≡ Some (kinds.Rule r.now))) }
     ensures some { IfOk result (λ s. s.with ≡ None → ⊥) }
-    ensures rule { IfOk result (λ s. slice_get sheet.now.items item ≡ Some (kinds.Rule s.rule.now)) }
+    ensures rule { IfOk result (λ s. slice_get items.now item ≡ Some (kinds.Rule s.rule.now)) }
     ensures masked { IfOk result (λ s. turns.IsMasked s) }
 {
-    let rule = rule_at(sheet, item);
-    let with = rule_at(sheet, other);
+    let rule = rule_at(items, item);
+    let with = rule_at(items, other);
     let masks = masks_of(alloc, &rule.decls, Some(with))?;
     let mask = bits_of(&masks);
     let specificities = specificities_of(alloc, &rule.selectors)?;
@@ -210,19 +209,19 @@ fn by_whole(
     pairs: &mut BoundedPairs,
     window: &Window<'_>,
     span: Span,
-    sheet: &Sheet,
+    items: &[Item],
     item: u32,
     upwards: bool,
 ) -> Result<Option<Obstacle>, Stopped>
-    requires askable { turns.IsAskable sheet.now.items }
-    requires items { window.now.items.now ≡ sheet.now.items }
+    requires askable { turns.IsAskable items.now }
+    requires items { window.now.items.now ≡ items.now }
     requires within { IsWithin window.now span }
-    requires enough { IsEnoughFor sheet.now.items (moved.Rule item) window.now span }
-    requires rule { (r : RuleParts) × (slice_get sheet.now.items item ≡ Some (kinds.Rule r)) }
+    requires enough { IsEnoughFor items.now (moved.Rule item) window.now span }
+    requires rule { (r : RuleParts) × (slice_get items.now item ≡ Some (kinds.Rule r)) }
     ensures stays { Stays pairs.old pairs.new }
-    ensures told { IfOk result (λ found. IsToldBy pairs.new.answers sheet.now.items (moved.Rule item) window.now found) }
+    ensures told { IfOk result (λ found. IsToldBy pairs.new.answers items.now (moved.Rule item) window.now found) }
 {
-    let source = whole(alloc, sheet, item)?;
+    let source = whole(alloc, items, item)?;
     if takes_rule(window, source.rule) && rule_is_behind(window, source.rule) {
         return Ok(None);
     }
@@ -235,22 +234,22 @@ fn by_common(
     pairs: &mut BoundedPairs,
     window: &Window<'_>,
     span: Span,
-    sheet: &Sheet,
+    items: &[Item],
     upper: u32,
     lower: u32,
     upwards: bool,
 ) -> Result<Option<Obstacle>, Stopped>
-    requires askable { turns.IsAskable sheet.now.items }
-    requires items { window.now.items.now ≡ sheet.now.items }
+    requires askable { turns.IsAskable items.now }
+    requires items { window.now.items.now ≡ items.now }
     requires within { IsWithin window.now span }
-    requires enough { IsEnoughFor sheet.now.items (moved.Common upper lower) window.now span }
-    requires upper { (r : RuleParts) × (slice_get sheet.now.items upper ≡ Some (kinds.Rule r)) }
-    requires lower { (r : RuleParts) × (slice_get sheet.now.items lower ≡ Some (kinds.Rule r)) }
+    requires enough { IsEnoughFor items.now (moved.Common upper lower) window.now span }
+    requires upper { (r : RuleParts) × (slice_get items.now upper ≡ Some (kinds.Rule r)) }
+    requires lower { (r : RuleParts) × (slice_get items.now lower ≡ Some (kinds.Rule r)) }
     ensures stays { Stays pairs.old pairs.new }
-    ensures told { IfOk result (λ found. IsToldBy pairs.new.answers sheet.now.items (moved.Common upper lower) window.now found) }
+    ensures told { IfOk result (λ found. IsToldBy pairs.new.answers items.now (moved.Common upper lower) window.now found) }
 {
-    let above = common(alloc, sheet, upper, lower)?;
-    let below = common(alloc, sheet, lower, upper)?;
+    let above = common(alloc, items, upper, lower)?;
+    let below = common(alloc, items, lower, upper)?;
     in_window(alloc, pairs, window, span, &[above, below], upwards)
 }
 
@@ -260,36 +259,36 @@ fn by_search(
     pairs: &mut BoundedPairs,
     window: &Window<'_>,
     span: Span,
-    sheet: &Sheet,
+    items: &[Item],
     moved: &Moved,
     upwards: bool,
 ) -> Result<Option<Obstacle>, Stopped>
-    requires askable { turns.IsAskable sheet.now.items }
-    requires items { window.now.items.now ≡ sheet.now.items }
+    requires askable { turns.IsAskable items.now }
+    requires items { window.now.items.now ≡ items.now }
     requires within { IsWithin window.now span }
-    requires enough { IsEnoughFor sheet.now.items moved.now window.now span }
-    requires there { AreThere sheet.now.items moved.now }
+    requires enough { IsEnoughFor items.now moved.now window.now span }
+    requires there { AreThere items.now moved.now }
     ensures stays { Stays pairs.old pairs.new }
-    ensures told { IfOk result (λ found. IsToldBy pairs.new.answers sheet.now.items moved.now window.now found) }
+    ensures told { IfOk result (λ found. IsToldBy pairs.new.answers items.now moved.now window.now found) }
 {
     match *moved {
-        Moved::Rule(item) => by_whole(alloc, pairs, window, span, sheet, item, upwards),
+        Moved::Rule(item) => by_whole(alloc, pairs, window, span, items, item, upwards),
         Moved::Common { upper, lower } => by_common(
-            alloc, pairs, window, span, sheet, upper, lower, upwards,
+            alloc, pairs, window, span, items, upper, lower, upwards,
         ),
     }
 }
 
 /// The rule of this number. Nothing of it is looked up, which takes no memory.
-fn bare<'a>(alloc: Global, sheet: &'a Sheet, item: u32, with: Option<&'a Rule>) -> Source<'a>
-    requires rule { (r : RuleParts) × (slice_get sheet.now.items item ≡ Some (kinds.Rule r)) }
+fn bare<'a>(alloc: Global, items: &'a [Item], item: u32, with: Option<&'a Rule>) -> Source<'a>
+    requires rule { (r : RuleParts) × (slice_get items.now item ≡ Some (kinds.Rule r)) }
     ensures item { result.item ≡ item }
     ensures with { result.with ≡ with.entry }
-    ensures rule { slice_get sheet.now.items item ≡ Some (kinds.Rule result.rule.now) }
+    ensures rule { slice_get items.now item ≡ Some (kinds.Rule result.rule.now) }
 {
     Source {
         item,
-        rule: rule_at(sheet, item),
+        rule: rule_at(items, item),
         with,
         masks: Vec::new(alloc),
         mask: 0,
@@ -299,13 +298,13 @@ fn bare<'a>(alloc: Global, sheet: &'a Sheet, item: u32, with: Option<&'a Rule>) 
 }
 
 /// The rule that is moved, of two the upper one. Nothing of it is looked up, which takes no memory.
-fn first_moved<'a>(alloc: Global, sheet: &'a Sheet, moved: &Moved) -> Source<'a>
-    requires there { AreThere sheet.now.items moved.now }
-    ensures { IsFirstOf sheet.now.items moved.now result }
+fn first_moved<'a>(alloc: Global, items: &'a [Item], moved: &Moved) -> Source<'a>
+    requires there { AreThere items.now moved.now }
+    ensures { IsFirstOf items.now moved.now result }
 {
     match *moved {
-        Moved::Rule(item) => bare(alloc, sheet, item, None),
-        Moved::Common { upper, lower } => bare(alloc, sheet, upper, Some(rule_at(sheet, lower))),
+        Moved::Rule(item) => bare(alloc, items, item, None),
+        Moved::Common { upper, lower } => bare(alloc, items, upper, Some(rule_at(items, lower))),
     }
 }
 
@@ -317,25 +316,25 @@ fn by_moved(
     hints: &mut Hints,
     window: &Window<'_>,
     span: Span,
-    sheet: &Sheet,
+    items: &[Item],
     moved: &Moved,
     way: Move,
 ) -> Result<Option<Obstacle>, Stopped>
-    requires askable { turns.IsAskable sheet.now.items }
-    requires items { window.now.items.now ≡ sheet.now.items }
+    requires askable { turns.IsAskable items.now }
+    requires items { window.now.items.now ≡ items.now }
     requires within { IsWithin window.now span }
-    requires enough { IsEnoughFor sheet.now.items moved.now window.now span }
-    requires there { AreThere sheet.now.items moved.now }
+    requires enough { IsEnoughFor items.now moved.now window.now span }
+    requires there { AreThere items.now moved.now }
     ensures stays { Stays pairs.old pairs.new }
-    ensures told { IfOk result (λ found. IsToldBy pairs.new.answers sheet.now.items moved.now window.now found) }
+    ensures told { IfOk result (λ found. IsToldBy pairs.new.answers items.now moved.now window.now found) }
 {
-    let first = first_moved(alloc, sheet, moved);
+    let first = first_moved(alloc, items, moved);
     let mover = mover_of(first.rule, way);
     if let Some(found) = by_hint(pairs, window, &first, hint_of(hints, mover))? {
         return Ok(Some(found));
     }
-    let found = by_search(alloc, pairs, window, span, sheet, moved, is_from_below(way))?;
-    note_found(alloc, hints, &sheet.items, mover, found)?;
+    let found = by_search(alloc, pairs, window, span, items, moved, is_from_below(way))?;
+    note_found(alloc, hints, items, mover, found)?;
     Ok(found)
 }
 
@@ -345,17 +344,17 @@ fn obstacle_in(
     pairs: &mut BoundedPairs,
     hints: &mut Hints,
     planned: &IndexedSheet,
-    sheet: &Sheet,
+    items: &[Item],
     masks: &[ItemMask],
     step: &Step,
 ) -> Result<Option<Obstacle>, Stopped>
-    requires same { planned.now.items ≡ sheet.now.items }
-    requires is_step { HasStep sheet.now.items step.now }
-    requires masks { masks.now ≡ map item_mask sheet.now.items }
-    requires planned { CanBePlanned sheet.now.items }
+    requires same { planned.now.items ≡ items.now }
+    requires is_step { HasStep items.now step.now }
+    requires masks { masks.now ≡ map item_mask items.now }
+    requires planned { CanBePlanned items.now }
     ensures stays { Stays pairs.old pairs.new }
-    ensures free { IfOk result (λ found. IfNone found ((e : Edit) → IsStep sheet.now.items step.now e → IsFree (map answer_seen pairs.new.answers) sheet.now.items e)) }
-    ensures blocked { IfOk result (λ found. IfSome found (λ o. IsBlockedBy (map answer_seen pairs.new.answers) sheet.now.items step.now o)) }
+    ensures free { IfOk result (λ found. IfNone found ((e : Edit) → IsStep items.now step.now e → IsFree (map answer_seen pairs.new.answers) items.now e)) }
+    ensures blocked { IfOk result (λ found. IfSome found (λ o. IsBlockedBy (map answer_seen pairs.new.answers) items.now step.now o)) }
 {
     selectors_are_in_the_profile();
     parts_are_few();
@@ -364,7 +363,7 @@ fn obstacle_in(
     windows_tell_pairs();
     windows_tell_kept();
     reversed_stand_beside();
-    let window = window_of(sheet, masks, Some(planned), step);
+    let window = window_of(items, masks, Some(planned), step);
     let span = span_of(step);
     let moved = moved_of(step);
     by_moved(
@@ -373,7 +372,7 @@ fn obstacle_in(
         hints,
         &window,
         span,
-        sheet,
+        items,
         &moved,
         move_of(step),
     )
@@ -400,6 +399,6 @@ pub(crate) fn step_obstacle(
     ensures free { IfOk result (λ found. IfNone found ((e : Edit) → IsStep indexed.now.items step.now e → IsFree (map answer_seen pairs.new.answers) indexed.now.items e)) }
     ensures blocked { IfOk result (λ found. IfSome found (λ o. IsBlockedBy (map answer_seen pairs.new.answers) indexed.now.items step.now o)) }
 {
-    let sheet = indexed.sheet();
-    obstacle_in(alloc, pairs, hints, indexed, sheet, indexed.masks(), step)
+    let items = indexed.items();
+    obstacle_in(alloc, pairs, hints, indexed, items, indexed.masks(), step)
 }

@@ -5,7 +5,7 @@ ghost use Rattle.css_model.specs.declared.sheet.Item.TheVariants as item;
 ghost use Rattle.css_model.specs.Sheets.RuleParts.{RuleParts};
 ghost use Rattle.step_laws.specs.Steps.{first_item, last_item};
 
-use css_model::{Item, Rule, Sheet};
+use css_model::{Item, Rule};
 use step_laws::Step;
 
 /// The numbers of the first and the last item of a step, from 0. For a cut both are its rule's.
@@ -22,12 +22,12 @@ pub fn items_of(step: &Step) -> (u32, u32)
     }
 }
 
-/// The rule of this number, from 0 among the items of a sheet.
-pub fn rule_at(sheet: &Sheet, number: u32) -> &Rule
-    requires { (r : RuleParts) × (slice_get sheet.now.items number ≡ Some (item.Rule r)) }
-    ensures { slice_get sheet.now.items number ≡ Some (item.Rule result.now) }
+/// The rule of this number, from 0 among these items.
+pub fn rule_at(items: &[Item], number: u32) -> &Rule
+    requires { (r : RuleParts) × (slice_get items.now number ≡ Some (item.Rule r)) }
+    ensures { slice_get items.now number ≡ Some (item.Rule result.now) }
 {
-    match sheet.items.get(number as usize) {
+    match items.get(number as usize) {
         Some(Item::Rule(rule)) => rule,
         _ => unreachable!(),
     }

@@ -17,7 +17,7 @@ ghost use Rattle.step_laws.specs.StepEdits as kinds;
 ghost use Rattle.step_laws.specs.Steps.{HasStep, IsStep, edit_of};
 
 use crate::rules::{items_of, rule_at};
-use css_model::{DeclItem, Rule, SelItem, Sheet};
+use css_model::{DeclItem, Item, Rule, SelItem, Sheet};
 use rule_parts::{
     Lengths, are_decls_among, common_decls_weight, decls_among_weight, decls_weight,
     new_selectors_weight, selectors_among_weight, selectors_weight,
@@ -335,16 +335,16 @@ fn difference(more: u32, less: u32) -> i64
 
 /// What a step of a sheet saves, in bytes, as `saving_by` gives it. `apart` says that the rules of a step of two items
 /// have no selector in common. Their selectors are not compared then.
-pub fn saving_if_apart<L: Lengths>(lengths: &L, sheet: &Sheet, step: &Step, apart: bool) -> i64
-    requires is_step { HasStep sheet.now.items step.now }
-    requires sound { IsSound (L.source lengths.now) sheet.now.items }
-    requires short { sizes.size (L.source lengths.now) sheet.now.items ≤ max_bytes }
-    requires apart { apart ≡ true → StepApart sheet.now.items step.now }
-    ensures { (e : Edit) → IsStep sheet.now.items step.now e → result ≡ pos (sizes.size (L.source lengths.now) sheet.now.items) -ℤ pos (sizes.size (L.source lengths.now) (edited e sheet.now.items)) }
+pub fn saving_if_apart<L: Lengths>(lengths: &L, items: &[Item], step: &Step, apart: bool) -> i64
+    requires is_step { HasStep items.now step.now }
+    requires sound { IsSound (L.source lengths.now) items.now }
+    requires short { sizes.size (L.source lengths.now) items.now ≤ max_bytes }
+    requires apart { apart ≡ true → StepApart items.now step.now }
+    ensures { (e : Edit) → IsStep items.now step.now e → result ≡ pos (sizes.size (L.source lengths.now) items.now) -ℤ pos (sizes.size (L.source lengths.now) (edited e items.now)) }
 {
     let (first, last) = items_of(step);
-    let upper = parts_of(rule_at(sheet, first));
-    let lower = parts_of(rule_at(sheet, last));
+    let upper = parts_of(rule_at(items, first));
+    let lower = parts_of(rule_at(items, last));
     let taken = taken_weight(lengths, step, &upper, &lower, apart);
     let brought = brought_weight(lengths, step, &upper, &lower, apart);
     difference(taken as u32, brought as u32)
@@ -358,5 +358,5 @@ pub fn saving_by<L: Lengths>(lengths: &L, sheet: &Sheet, step: &Step) -> i64
     requires short { sizes.size (L.source lengths.now) sheet.now.items ≤ max_bytes }
     ensures { (e : Edit) → IsStep sheet.now.items step.now e → result ≡ pos (sizes.size (L.source lengths.now) sheet.now.items) -ℤ pos (sizes.size (L.source lengths.now) (edited e sheet.now.items)) }
 {
-    saving_if_apart(lengths, sheet, step, false)
+    saving_if_apart(lengths, &sheet.items, step, false)
 }

@@ -23,7 +23,7 @@ use step_queue::RuleWeight;
 fn is_full(indexed: &IndexedSheet) -> bool
     ensures { result ≡ true → max_items ≤ length indexed.now.items }
 {
-    indexed.sheet().items.len() >= MAX_ITEMS as usize
+    indexed.items().len() >= MAX_ITEMS as usize
 }
 
 /// Whether a rule with this weight keeps a declaration if those go that it may have in common with another one.

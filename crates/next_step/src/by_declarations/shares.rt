@@ -168,10 +168,10 @@ pub(crate) fn share_saving(view: &View<'_>, partners: &Partners) -> Option<u32>
     requires partners { ArePartners view.now.indexed.now partners.now }
     ensures { IfSome result (IsSaving view.now.source.now view.now.indexed.now.items (kinds.Share partners.now.upper partners.now.lower)) }
 {
-    let Some(above) = find_rule(view.indexed.sheet(), partners.upper) else {
+    let Some(above) = find_rule(view.indexed.items(), partners.upper) else {
         return None;
     };
-    let Some(below) = find_rule(view.indexed.sheet(), partners.lower) else {
+    let Some(below) = find_rule(view.indexed.items(), partners.lower) else {
         return None;
     };
     if !has_each_once(below, partners.lower_once) {

@@ -31,7 +31,7 @@ fn rule_with(indexed: &IndexedSheet, order_key: u64) -> Option<&Rule>
     order_keyed_rules_stand();
     let _marks = indexed.marks();
     match indexed.number_of(order_key) {
-        Some(number) => find_rule(indexed.sheet(), number),
+        Some(number) => find_rule(indexed.items(), number),
         None => None,
     }
 }
@@ -64,7 +64,7 @@ fn can_cut_decl(indexed: &IndexedSheet, tables: &Tables, number: u32, decl: u32,
     ensures { IsTrue result ↔ HasStep indexed.now.items (kinds.CutDecl number decl) }
 {
     decl_cuts_are_told();
-    let Some(rule) = find_rule(indexed.sheet(), number) else {
+    let Some(rule) = find_rule(indexed.items(), number) else {
         return false;
     };
     let _marks = indexed.marks();
@@ -87,7 +87,7 @@ fn can_cut_selector(
     ensures { IsTrue result ↔ HasStep indexed.now.items (kinds.CutSel number sel) }
 {
     selector_cuts_are_told();
-    let Some(rule) = find_rule(indexed.sheet(), number) else {
+    let Some(rule) = find_rule(indexed.items(), number) else {
         return false;
     };
     let _marks = indexed.marks();
@@ -115,6 +115,6 @@ pub(crate) fn is_step_of(
     match *step {
         Step::CutDecl { item, decl } => Ok(can_cut_decl(indexed, tables, item, decl, once)),
         Step::CutSel { item, sel } => Ok(can_cut_selector(indexed, tables, item, sel, once)),
-        _ => is_step(alloc, indexed.sheet(), step),
+        _ => is_step(alloc, indexed.items(), step),
     }
 }

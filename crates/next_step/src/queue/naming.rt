@@ -106,7 +106,7 @@ fn tested(
         return Ok(None);
     }
     let apart = is_known_apart(indexed, &step);
-    if saved_if_apart(source, indexed.sheet(), &step, apart) != saving {
+    if saved_if_apart(source, indexed.items(), &step, apart) != saving {
         return Ok(None);
     }
     Ok(Some(step))

@@ -71,7 +71,7 @@ fn left_of_selectors(view: &View<'_>, number: u32, most: u64) -> Option<u64>
     requires { IsView view.now }
     ensures { IfSome result (λ left. LeavesOfSelectors view.now.source.now view.now.indexed.now.items number most left) }
 {
-    let rule = find_rule(view.indexed.sheet(), number)?;
+    let rule = find_rule(view.indexed.items(), number)?;
     without_selectors(view.source, &rule.selectors, most)
 }
 
@@ -89,7 +89,7 @@ fn decls_fit(view: &View<'_>, number: u32, most: u64) -> bool
     requires { IsView view.now }
     ensures { result ≡ true → DeclsWeighAtMost view.now.source.now view.now.indexed.now.items number most }
 {
-    match find_rule(view.indexed.sheet(), number) {
+    match find_rule(view.indexed.items(), number) {
         Some(rule) => without_decls(view.source, &rule.decls, most).is_some(),
         None => false,
     }

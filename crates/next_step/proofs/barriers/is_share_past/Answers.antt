@@ -30,5 +30,5 @@ returns c =
     (ap (slice_get (barriers_on Down c.args.barriers.now)) (sym c.item_id_of.ensures) ∙ sym c.in-Some.ensures)
     (below.0, subst (λ (n : ℕ). c.in-Some.barrier.order_key < n) c.order_key_of.ensures below.1) in
     let exact : c.shares_number.result ≡ moves_number c.args.indexed.now.items (Share c.args.upper c.args.lower) c.in-Some.barrier.decl =
-    c.shares_number.ensures ∙ ap (λ (xs : List Item). moves_number xs (Share c.args.upper c.args.lower) c.in-Some.barrier.decl) c.sheet.ensures in
+    c.shares_number.ensures ∙ ap (λ (xs : List Item). moves_number xs (Share c.args.upper c.args.lower) c.in-Some.barrier.decl) c.items.ensures in
     (λ yes. is.0 (sym exact ∙ yes), λ barred. exact ∙ is.1 barred)

@@ -24,11 +24,11 @@ returns-then-mark-view-clause-covers c =
 pub returns-in_default-find_rule-clause-covers : goal.returns-in_default-find_rule-clause-covers
 returns-in_default-find_rule-clause-covers c =
     no_rule c.args.view.now c.new-found.result c.marks-marks.ensures.as_many c.args.at c.requires.at c.args.view.now.indexed.now.next c.marks-marks.ensures.are_marks c.in-Some.number c.in-Some.ensures.some
-    (subst (λ (xs : List Item). (r : RuleParts) → slice_get xs c.in-Some.number ≡ Some (Rule r) → ⊥) c.sheet.ensures (rw c.in_default-find_rule.is at c.find_rule.ensures.none))
+    (subst (λ (xs : List Item). (r : RuleParts) → slice_get xs c.in-Some.number ≡ Some (Rule r) → ⊥) c.items.ensures (rw c.in_default-find_rule.is at c.find_rule.ensures.none))
 
 pub look_at-requires-clause-focus : goal.look_at-requires-clause-focus
 look_at-requires-clause-focus c = record {
-  rule = subst (λ (xs : List Item). slice_get xs c.in-Some.number ≡ Some (Rule c.in-Some-find_rule.rule.now)) c.sheet.ensures c.in-Some-find_rule.ensures.some;
+  rule = subst (λ (xs : List Item). slice_get xs c.in-Some.number ≡ Some (Rule c.in-Some-find_rule.rule.now)) c.items.ensures c.in-Some-find_rule.ensures.some;
   there = subst (λ (m : ℕ). c.in-Some.number < m) c.marks-marks.ensures.as_many (order_key_within c.args.view.now.indexed.now.marks c.in-Some.number c.args.at c.in-Some.ensures.some);
   order_key = c.in-Some.ensures.some;
   owned = item_id_at c.args.view.now.indexed.now.marks c.in-Some.number c.mark-mark.result c.mark-mark.ensures ∙ c.if-mark-view.false;

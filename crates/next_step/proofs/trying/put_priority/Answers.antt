@@ -9,8 +9,8 @@ pub returns-then-attempt-clause-covers : goal.returns-then-attempt-clause-covers
 returns-then-attempt-clause-covers c = past_barrier c.args.view.now c.args.found.now c.args.attempt.now.step (c.requires.attempt.past c.if-attempt.true)
 
 pub saved_if_apart-saving-requires-clause-apart : goal.saved_if_apart-saving-requires-clause-apart
-saved_if_apart-saving-requires-clause-apart c = λ known. subst (λ (xs : List Item). StepApart xs c.args.attempt.now.step) (sym c.sheet.ensures) (c.requires.attempt.apart known)
+saved_if_apart-saving-requires-clause-apart c = λ known. subst (λ (xs : List Item). StepApart xs c.args.attempt.now.step) (sym c.items.ensures) (c.requires.attempt.apart known)
 
 pub put_saving-requires-clause-saving : goal.put_saving-requires-clause-saving
 put_saving-requires-clause-saving c =
-    subst (λ (xs : List Item). IsSaving c.args.view.now.source.now xs c.args.attempt.now.step c.saved_if_apart-saving.result) c.sheet.ensures c.saved_if_apart-saving.ensures
+    subst (λ (xs : List Item). IsSaving c.args.view.now.source.now xs c.args.attempt.now.step c.saved_if_apart-saving.result) c.items.ensures c.saved_if_apart-saving.ensures

@@ -10,5 +10,5 @@ returns-clause-put c = on_ok c.put_named.result _ _
     (λ put by names p pair. (
       c.candidate_of_moves.result,
       c.candidate_of_moves.ensures,
-      put by (subst (λ (items : List Item). Names items c.args.obstacle.now by) (sym (c.sheet.ensures ∙ ap (λ (p : PlanParts). p.indexed.items) c.plan.view_is)) names) p pair,
+      put by (subst (λ (items : List Item). Names items c.args.obstacle.now by) (sym (c.items.ensures ∙ ap (λ (p : PlanParts). p.indexed.items) c.plan.view_is)) names) p pair,
     )) c.put_named.ensures.put

@@ -2,7 +2,6 @@ use Rattle.std.proofs.Common.{◌≡◌, ◌<◌, ℕ, List, ap, length, sym, �
 use Rattle.std.specs.List.{Contains}
 use Rattle.std.proofs.lemmas.Result.{on_ok_weaker}
 use Rattle.css_model.specs.declared.sheet.Item.{Item}
-use Rattle.css_model.specs.Sheets.SheetParts.{SheetParts}
 use Rattle.indexed_sheet.specs.declared.marks.Mark.{Mark}
 use Rattle.planner_state.specs.Enqueuing.{AreEnqueued}
 use Rattle.planner_state.proofs.ItemIds.{enqueued_all}
@@ -14,13 +13,11 @@ enqueue_those-requires-clause-there c = λ n among. subst (λ (ms : List Mark). 
 
 pub returns-in-Some-clause-enqueued : goal.returns-in-Some-clause-enqueued
 returns-in-Some-clause-enqueued c =
-    let items : c.deref-in-Some.result.now ≡ c.args.indexed.now.items = c.deref-in-Some.ensures.value ∙ ap (λ (s : SheetParts). s.items) c.sheet.view_is ∙ c.sheet-sheet.ensures in
-    on_ok_weaker c.enqueue_those.result (enqueued_all c.args.put c.args.next c.args.indexed.now c.marks-marks.result.now c.deref-in-Some.result.now c.in-Some.numbers.items c.deref.result.now
-    c.enqueue_those.new.tables c.enqueue_those.new.queue c.enqueue_those.new.homes.items c.marks-marks.ensures.marks items c.deref.ensures (rw c.in-Some.is at c.requires.created)) c.enqueue_those.ensures.enqueued
+    on_ok_weaker c.enqueue_those.result (enqueued_all c.args.put c.args.next c.args.indexed.now c.marks-marks.result.now c.items-items.result.now c.in-Some.numbers.items c.deref.result.now
+    c.enqueue_those.new.tables c.enqueue_those.new.queue c.enqueue_those.new.homes.items c.marks-marks.ensures.marks c.items-items.ensures c.deref.ensures (rw c.in-Some.is at c.requires.created)) c.enqueue_those.ensures.enqueued
 
 pub returns-in-None-clause-enqueued : goal.returns-in-None-clause-enqueued
 returns-in-None-clause-enqueued c =
-    let items : c.deref-in-None.result.now ≡ c.args.indexed.now.items = c.deref-in-None.ensures.value ∙ ap (λ (s : SheetParts). s.items) c.sheet.view_is ∙ c.sheet-sheet.ensures in
     on_ok_weaker c.enqueue_each.result
     (λ enqueued. subst (λ (ms : List Mark). AreEnqueued c.args.put c.args.next ms c.args.indexed.now.items c.enqueue_each.new.tables c.enqueue_each.new.queue c.enqueue_each.new.homes.items) c.marks-marks.ensures.marks
-    (subst (λ (xs : List Item). AreEnqueued c.args.put c.args.next c.marks-marks.result.now xs c.enqueue_each.new.tables c.enqueue_each.new.queue c.enqueue_each.new.homes.items) items enqueued)) c.enqueue_each.ensures.enqueued
+    (subst (λ (xs : List Item). AreEnqueued c.args.put c.args.next c.marks-marks.result.now xs c.enqueue_each.new.tables c.enqueue_each.new.queue c.enqueue_each.new.homes.items) c.items-items.ensures enqueued)) c.enqueue_each.ensures.enqueued

@@ -16,13 +16,13 @@ returns-then-is_empty-clause-active c = λ e is p moved l among.
 
 pub returns-then-first-last-clause-active : goal.returns-then-first-last-clause-active
 returns-then-first-last-clause-active c = λ e is p moved l among.
-    let w = moved_from c.steps_rearrange.ensures c.args.sheet.now.items c.args.step.now e is p moved in
-    c.in_ok-reactivate_rule.ensures.active w.0 (at_one c.args.sheet.now.items w.0 (spec.first_out c.args.step.now) (spec.last_out c.args.step.now) c.moved_out-first.result.0 c.moved_out-first.result.1 c.moved_out-first.ensures.first c.moved_out-first.ensures.last c.if-first-last.true w.1)
+    let w = moved_from c.steps_rearrange.ensures c.args.items.now c.args.step.now e is p moved in
+    c.in_ok-reactivate_rule.ensures.active w.0 (at_one c.args.items.now w.0 (spec.first_out c.args.step.now) (spec.last_out c.args.step.now) c.moved_out-first.result.0 c.moved_out-first.result.1 c.moved_out-first.ensures.first c.moved_out-first.ensures.last c.if-first-last.true w.1)
     p.selector p.decl w.2 w.3 l among
 
 pub returns-clause-active : goal.returns-clause-active
 returns-clause-active c = λ e is p moved l among.
-    let w = moved_from c.steps_rearrange.ensures c.args.sheet.now.items c.args.step.now e is p moved in
-    at_either c.args.sheet.now.items w.0 (spec.first_out c.args.step.now) (spec.last_out c.args.step.now) c.moved_out-first.result.0 c.moved_out-first.result.1 c.moved_out-first.ensures.first c.moved_out-first.ensures.last
+    let w = moved_from c.steps_rearrange.ensures c.args.items.now c.args.step.now e is p moved in
+    at_either c.args.items.now w.0 (spec.first_out c.args.step.now) (spec.last_out c.args.step.now) c.moved_out-first.result.0 c.moved_out-first.result.1 c.moved_out-first.ensures.first c.moved_out-first.ensures.last
     (λ at. c.in_ok-reactivate_rule-2.ensures.stay (candidate_told l) (c.in_ok-reactivate_rule.ensures.active w.0 at p.selector p.decl w.2 w.3 l among))
     (λ at. c.in_ok-reactivate_rule-2.ensures.active w.0 at p.selector p.decl w.2 w.3 l among) w.1

@@ -13,7 +13,7 @@ returns c =
     let other : c.moved_items-moved.result.1 ≡ partner c.args.way c.args.step.now = ap (λ (p : ℕ × ℕ). p.1) c.moved_items-moved.ensures in
     let rule_at : slice_get c.args.indexed.now.items (mover c.args.way c.args.step.now) ≡ Some (Rule c.rule_at-rule.result.now) =
     subst (λ (n : ℕ). slice_get c.args.indexed.now.items n ≡ Some (Rule c.rule_at-rule.result.now)) moved
-    (subst (λ (xs : List Item). slice_get xs c.moved_items-moved.result.0 ≡ Some (Rule c.rule_at-rule.result.now)) c.sheet.ensures c.rule_at-rule.ensures) in
+    (subst (λ (xs : List Item). slice_get xs c.moved_items-moved.result.0 ≡ Some (Rule c.rule_at-rule.result.now)) c.items.ensures c.rule_at-rule.ensures) in
     let own_at : slice_get (order_keys_of c.args.indexed.now.marks) (mover c.args.way c.args.step.now) ≡ Some c.order_key_at-own.result =
     subst (λ (n : ℕ). slice_get (order_keys_of c.args.indexed.now.marks) n ≡ Some c.order_key_at-own.result) moved
     (subst (λ (ms : List Mark). slice_get (order_keys_of ms) c.moved_items-moved.result.0 ≡ Some c.order_key_at-own.result) c.marks-marks.ensures.marks c.order_key_at-own.ensures) in

@@ -11,13 +11,13 @@ gain-requires c =
     let fits : SFits w64 c.saving_if_apart.result = search rules in
     let same : to_z w64 (of_z w64 c.saving_if_apart.result) ≡ c.saving_if_apart.result = to_z-of_z w64 c.saving_if_apart.result fits in
     let small : to_z w64 (of_z w64 c.saving_if_apart.result) ≤ℤ pos max_bytes =
-    rw same (not_above c.args.source.now c.args.sheet.now.items c.args.step.now c.saving_if_apart.result c.requires.plannable c.requires.is_step c.saving_if_apart.ensures) in
+    rw same (not_above c.args.source.now c.args.items.now c.args.step.now c.saving_if_apart.result c.requires.plannable c.requires.is_step c.saving_if_apart.ensures) in
     small
 
 pub returns : goal.returns
 returns c =
     let fits : SFits w64 c.saving_if_apart.result = search rules in
     let same : to_z w64 (of_z w64 c.saving_if_apart.result) ≡ c.saving_if_apart.result = to_z-of_z w64 c.saving_if_apart.result fits in
-    saved c.args.source.now c.args.sheet.now.items c.args.step.now c.saving_if_apart.result c.gain.result c.saving_if_apart.ensures
+    saved c.args.source.now c.args.items.now c.args.step.now c.saving_if_apart.result c.gain.result c.saving_if_apart.ensures
     (subst (λ (z : ℤ). z ≤ℤ pos c.gain.result) same c.gain.ensures.most)
     (subst (λ (z : ℤ). 0 < c.gain.result → z ≡ pos c.gain.result) same c.gain.ensures.exact)

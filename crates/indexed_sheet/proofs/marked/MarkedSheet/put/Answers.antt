@@ -1,6 +1,5 @@
 use Rattle.std.proofs.Common.{◌≡◌, List, length, map, ap, sym, subst, ◌∙◌}
 use Rattle.css_model.specs.declared.sheet.Item.{Item}
-use Rattle.css_model.specs.Sheets.SheetParts.{SheetParts}
 use Rattle.indexed_sheet.specs.declared.marks.Mark.{Mark}
 use Rattle.indexed_sheet.specs.IndexedParts.{IndexedParts}
 use Rattle.indexed_sheet.specs.Marking.{HasOrderKeyBefore}
@@ -16,14 +15,14 @@ put-requires-clause-room c = λ more.
 
 pub invariant_of-result : goal.invariant_of-result
 invariant_of-result c =
-    let same : length c.self.inside.marks.list ≡ length c.sheet.inside.items.items = c.self.invariant.0 ∙ ap (λ (s : SheetParts). length s.items) (sym c.sheet.view_is) in
-    let masked : c.self.inside.masks.items ≡ map item_mask c.sheet.inside.items.items = c.self.invariant.1 ∙ ap (λ (s : SheetParts). map item_mask s.items) (sym c.sheet.view_is) in (
+    let same : length c.self.inside.marks.list ≡ length c.self.inside.items = c.self.invariant.0 in
+    let masked : c.self.inside.masks ≡ map item_mask c.self.inside.items = c.self.invariant.1 in (
       ap (λ (marks : List Mark). length marks) c.in_ok-marks.ensures.marks.is
-          ∙ put_length c.args.number (items_in c.args.left) c.in_ok-marks.ensures.marks.made c.sheet.inside.items.items c.self.inside.marks.list c.in_ok-marks.ensures.marks.count_is same
+          ∙ put_length c.args.number (items_in c.args.left) c.in_ok-marks.ensures.marks.made c.self.inside.items c.self.inside.marks.list c.in_ok-marks.ensures.marks.count_is same
           ∙ sym (ap (λ (items : List Item). length items) c.in_ok-items.ensures),
       c.in_ok-masks.ensures
-          ∙ ap (λ (left : List ItemMask). put_at c.args.number left c.self.inside.masks.items) c.requires.masks
+          ∙ ap (λ (left : List ItemMask). put_at c.args.number left c.self.inside.masks) c.requires.masks
           ∙ ap (λ (masks : List ItemMask). put_at c.args.number (map item_mask (items_in c.args.left)) masks) masked
-          ∙ put_map item_mask c.args.number (items_in c.args.left) c.sheet.inside.items.items
+          ∙ put_map item_mask c.args.number (items_in c.args.left) c.self.inside.items
           ∙ sym (ap (λ (items : List Item). map item_mask items) c.in_ok-items.ensures),
     )

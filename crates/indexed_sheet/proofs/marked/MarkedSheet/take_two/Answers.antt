@@ -16,6 +16,11 @@ use Rattle.indexed_sheet.proofs.Puts.{put_within}
 use Rattle.indexed_sheet.proofs.Taken.{two_items, two_order_keys, two_marks, in_order, get_other, one_made, few_above, few_below, order_key_for}
 use Rattle.indexed_sheet.proofs.marked.MarkedSheet.take_two.Goals as goal
 
+pub mask-lower_mask-requires : goal.mask-lower_mask-requires
+mask-lower_mask-requires c =
+    let u : (r : RuleParts) × (slice_get c.args.self.items (last_item c.args.step.now) ≡ Some (Rule r)) = last_rule c.args.self.items c.args.step.now c.requires.is_step in
+    slice_get_within c.args.self.items c.args.lower (Rule u.0) (subst (λ (i : ℕ). slice_get c.args.self.items i ≡ Some (Rule u.0)) (sym c.requires.last) u.1)
+
 pub lift-lifted-requires : goal.lift-lifted-requires
 lift-lifted-requires c =
     let u : (r : RuleParts) × (slice_get c.args.self.items (first_item c.args.step.now) ≡ Some (Rule r)) = first_rule c.args.self.items c.args.step.now c.requires.is_step in

@@ -8,12 +8,12 @@ use Rattle.next_step.proofs.cuts.possible.can_cut_decl.Goals as goal
 
 pub can_lose_decl-requires-clause-once : goal.can_lose_decl-requires-clause-once
 can_lose_decl-requires-clause-once c = λ once.
-    c.requires.once once c.in-Some.rule.now (subst (λ (xs : List Item). slice_get xs c.args.number ≡ Some (Rule c.in-Some.rule.now)) c.sheet.ensures c.in-Some.ensures.some)
+    c.requires.once once c.in-Some.rule.now (subst (λ (xs : List Item). slice_get xs c.args.number ≡ Some (Rule c.in-Some.rule.now)) c.items.ensures c.in-Some.ensures.some)
 
 pub returns : goal.returns
 returns c =
     let at : slice_get c.args.indexed.now.items c.args.number ≡ Some (Rule c.in-Some.rule.now) =
-    subst (λ (xs : List Item). slice_get xs c.args.number ≡ Some (Rule c.in-Some.rule.now)) c.sheet.ensures c.in-Some.ensures.some in
+    subst (λ (xs : List Item). slice_get xs c.args.number ≡ Some (Rule c.in-Some.rule.now)) c.items.ensures c.in-Some.ensures.some in
     let law = c.decl_cuts_are_told.ensures c.args.indexed.now.items (order_keys_of c.args.indexed.now.marks) c.args.number c.mark-own.result.order_key c.args.decl c.in-Some.rule.now
     (told c.args.indexed.now.items c.args.indexed.now.marks c.args.indexed.now.next c.marks-marks.ensures.are_marks c.marks-marks.ensures.as_many) at
     (there_of (λ x. x.order_key) c.args.indexed.now.marks c.args.number c.mark-own.result c.mark-own.ensures) in

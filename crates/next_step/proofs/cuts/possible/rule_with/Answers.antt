@@ -10,13 +10,13 @@ use Rattle.next_step.proofs.cuts.possible.rule_with.Goals as goal
 pub returns-in-Some-clause-some : goal.returns-in-Some-clause-some
 returns-in-Some-clause-some c =
     some_then c.find_rule.result _ _ (λ rule at. the_rule c.order_keyed_rules_stand.ensures c.rules_are_order_keyed.ensures c.args.indexed.now c.args.indexed.now.next c.marks-marks.ensures.are_marks c.args.order_key c.in-Some.number c.in-Some.ensures.some rule.now
-    (subst (λ (xs : List Item). slice_get xs c.in-Some.number ≡ Some (Rule rule.now)) c.sheet.ensures at))
+    (subst (λ (xs : List Item). slice_get xs c.in-Some.number ≡ Some (Rule rule.now)) c.items.ensures at))
     c.find_rule.ensures.some
 
 pub returns-in-Some-clause-none : goal.returns-in-Some-clause-none
 returns-in-Some-clause-none c =
     none_then c.find_rule.result (λ none. no_rule c.order_keyed_rules_stand.ensures c.rules_are_order_keyed.ensures c.args.indexed.now c.args.indexed.now.next c.marks-marks.ensures.are_marks c.args.order_key c.in-Some.number c.in-Some.ensures.some
-    (subst (λ (xs : List Item). (r : RuleParts) → slice_get xs c.in-Some.number ≡ Some (Rule r) → ⊥) c.sheet.ensures none))
+    (subst (λ (xs : List Item). (r : RuleParts) → slice_get xs c.in-Some.number ≡ Some (Rule r) → ⊥) c.items.ensures none))
     c.find_rule.ensures.none
 
 pub returns-in-None-clause-none : goal.returns-in-None-clause-none

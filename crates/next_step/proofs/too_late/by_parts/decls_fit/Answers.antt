@@ -12,7 +12,7 @@ use Rattle.next_step.proofs.too_late.by_parts.decls_fit.Goals as goal
 pub without_decls-requires-clause-small : goal.without_decls-requires-clause-small
 without_decls-requires-clause-small c =
     let at : slice_get c.args.view.now.indexed.now.items c.args.number ≡ Some (Rule c.in-Some.rule.now) =
-    subst (λ (xs : List Item). slice_get xs c.args.number ≡ Some (Rule c.in-Some.rule.now)) c.sheet.ensures c.in-Some.ensures.some in
+    subst (λ (xs : List Item). slice_get xs c.args.number ≡ Some (Rule c.in-Some.rule.now)) c.items.ensures c.in-Some.ensures.some in
     let same : c.in-Some.rule.now.decls ≡ c.deref.result.now = search rules in
     subst (λ (ds : List DeclItem). weight (printed_declaration c.args.view.now.source.now) ds ≤ max_bytes) same
     (light_decls c.args.view.now.source.now c.args.view.now.indexed.now.items c.requires.plannable.sound c.args.number c.in-Some.rule.now c.requires.plannable.short at)

@@ -72,7 +72,7 @@ returns-clause-state c =
       kept = c.in_ok-indexed.ensures.marks has.0 has.1;
       later = c.in_ok-indexed.ensures.more;
       queued = c.in_ok-reactivate_moved.ensures.stay;
-      active = c.in_ok-reactivate_moved.ensures.active has.0 (subst (λ (xs : List Item). IsStep xs step has.0) (sym c.sheet.ensures) has.1);
+      active = c.in_ok-reactivate_moved.ensures.active has.0 (subst (λ (xs : List Item). IsStep xs step has.0) (sym c.items.ensures) has.1);
       covered = covered_behind c.cover_goes_on.ensures put old.indexed made.indexed step has.0 old.tables reindexed made.tables reactivated made.candidates old.homes made.homes s.indexed.marked c.in_ok-enqueue.ensures.marked
           (c.in_ok-indexed.ensures.marks has.0 has.1) (c.in_ok-indexed.ensures.items has.0 has.1) has.1 c.in_ok-indexed.ensures.order_keys c.in_ok-put.ensures stay enqueued;
       enqueued = enqueued;
