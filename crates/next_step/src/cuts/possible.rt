@@ -10,6 +10,7 @@ ghost use Rattle.step_laws.specs.Steps.{HasStep};
 ghost use Rattle.next_step.specs.Marked.{rules_of};
 ghost use Rattle.next_step.specs.Once.{DeclStandsOnce, PartStandsOnce, SelectorStandsOnce};
 
+use crate::cuts::uncut::is_uncut_item;
 use css_model::{Decl, Rule, Selector};
 use indexed_sheet::IndexedSheet;
 use merge_steps::is_step;
@@ -96,6 +97,38 @@ fn can_cut_selector(
     can_lose_selector(tables, &rules, own, rule, sel, once)
 }
 
+/// Whether a declaration of an item can be cut, as `can_cut_decl` says. Where it is known that no part can be, none is looked for.
+fn is_decl_cut(indexed: &IndexedSheet, tables: &Tables, number: u32, decl: u32, once: bool) -> bool
+    requires few { length indexed.now.items ≤ max_items }
+    requires cover { Cover tables.now (rules_of indexed.now) }
+    requires once { once ≡ true → DeclStandsOnce indexed.now.items number decl }
+    ensures { IsTrue result ↔ HasStep indexed.now.items (kinds.CutDecl number decl) }
+{
+    if is_uncut_item(indexed, number) {
+        return false;
+    }
+    can_cut_decl(indexed, tables, number, decl, once)
+}
+
+/// Whether a selector of an item can be cut, as `can_cut_selector` says. Where it is known that no part can be, none is looked for.
+fn is_selector_cut(
+    indexed: &IndexedSheet,
+    tables: &Tables,
+    number: u32,
+    sel: u32,
+    once: bool,
+) -> bool
+    requires few { length indexed.now.items ≤ max_items }
+    requires cover { Cover tables.now (rules_of indexed.now) }
+    requires once { once ≡ true → SelectorStandsOnce indexed.now.items number sel }
+    ensures { IsTrue result ↔ HasStep indexed.now.items (kinds.CutSel number sel) }
+{
+    if is_uncut_item(indexed, number) {
+        return false;
+    }
+    can_cut_selector(indexed, tables, number, sel, once)
+}
+
 /// Whether a step is one of an indexed sheet. `Err(AllocError)` if memory is short.
 ///
 /// `once` says that the part that the step cuts is known to be in its rule once. Then it is not looked for among the others.
@@ -113,8 +146,8 @@ pub(crate) fn is_step_of(
     ensures { IfOk result (λ is. IsTrue is ↔ HasStep indexed.now.items step.now) }
 {
     match *step {
-        Step::CutDecl { item, decl } => Ok(can_cut_decl(indexed, tables, item, decl, once)),
-        Step::CutSel { item, sel } => Ok(can_cut_selector(indexed, tables, item, sel, once)),
+        Step::CutDecl { item, decl } => Ok(is_decl_cut(indexed, tables, item, decl, once)),
+        Step::CutSel { item, sel } => Ok(is_selector_cut(indexed, tables, item, sel, once)),
         _ => is_step(alloc, indexed.items(), step),
     }
 }

@@ -8,6 +8,7 @@ ghost use Rattle.next_step.specs.Once.{DeclsStandOnce, SelectorsStandOnce};
 use css_model::Rule;
 use indexed_sheet::IndexedSheet;
 use pending_laws::own_pairs_have_no_cut;
+use rule_parts::find_rule;
 use rule_tables::{decl_cuts_are_told, selector_cuts_are_told};
 
 /// Whether a rule has a selector and a declaration.
@@ -31,6 +32,16 @@ fn is_noted_uncut(indexed: &IndexedSheet, number: u32, rule: &Rule) -> bool
         return has_parts(rule);
     }
     false
+}
+
+/// Whether the item of this number is a rule of which it is known that no part can be cut.
+pub(crate) fn is_uncut_item(indexed: &IndexedSheet, number: u32) -> bool
+    ensures { result ≡ true → HasNoCut indexed.now.items number }
+{
+    match find_rule(indexed.items(), number) {
+        Some(rule) => is_noted_uncut(indexed, number, rule),
+        None => false,
+    }
 }
 
 /// Whether it is known that no part of the rule of this number can be cut. Then each of its parts is in it once.
