@@ -1,5 +1,5 @@
 -- What is asked of an element that two selectors share, and the documents that show it.
-use Rattle.std.proofs.Common.{◌≡◌, ℕ, zero, suc, [], ◌∷◌, Some, None, inl, true, false, pos, refl, map, arith}
+use Rattle.std.proofs.Common.{◌≡◌, ℕ, zero, suc, [], ◌∷◌, ◌++◌, Some, None, inl, true, false, pos, refl, map, arith}
 use Rattle.std.specs.Prelude.{codes}
 use Rattle.body_examples.proofs.Values.{a_class, b_class, class, features, inside, plain}
 use Rattle.clause_encode.specs.Fits.{pair_formula}
@@ -18,7 +18,7 @@ use Rattle.formula_laws.specs.Root.{top_clauses}
 use Rattle.formula_laws.specs.declared.count.Count.TheVariants.{Before, Behind}
 use Rattle.grid_laws.specs.Slots.{step_for}
 use Rattle.nth_positions.specs.Gaps.{reduced}
-use Rattle.remainders.specs.Remainders.{joint_rest}
+use Rattle.remainders.specs.Remainders.{joint_rest, joint_step}
 use Rattle.shape_laws.specs.Document.Trees.{example_of}
 use Rattle.shape_laws.specs.Forced.{AreOfOne, GoTogether, parents, siblings}
 use Rattle.sibling_counts.specs.Sides.{limit_of}
@@ -128,6 +128,10 @@ agreeing_are_not_refused = refl
 -- `:nth-child(2n)` and `:nth-child(4n+1)` do not
 clashing_are_refused : rest_clauses (positive 0 ∷ positive 1 ∷ []) (joint_rest (record { step = 2; rest = 1 } ∷ record { step = 4; rest = 0 } ∷ [])) ≡ [] ∷ []
 clashing_are_refused = refl
+
+-- what both runs ask for counts: `:nth-child(2n)` of one and `:nth-child(3n)` of the other have steps of 6 together
+both_runs_are_stepped : joint_step ((record { step = 2; rest = 1 } ∷ []) ++ (record { step = 3; rest = 2 } ∷ [])) ≡ 6
+both_runs_are_stepped = refl
 
 -- Where a compound of the left run that is one to the left of its first one shares a slot with the right run's first
 -- one, the right run's number is one less.
