@@ -1,8 +1,9 @@
 //! The commands of the program, as `clap` describes them.
 
+use crate::arguments::{budget, flag, limit, number, required, split, work};
 use crate::purposes::purpose;
-use clap::{Arg, ArgAction, Command, value_parser};
-use command_words::{MOST_BUDGET, MOST_LIMIT, MOST_RULES, Topic};
+use clap::{Command, value_parser};
+use command_words::{MOST_RULES, Topic};
 use std::alloc::{AllocError, Global};
 
 const PROGRAM_HELP: &str = "\
@@ -78,17 +79,6 @@ and nothing is both enabled and disabled. A page that repeats an id may need a
 rule that is dead here. The case of attribute values counts, even if HTML
 ignores it: `[type=a][type=A]` is dead here.";
 
-/// The option that bounds the search.
-fn budget<'a>(alloc: Global) -> Arg<'a> {
-    Arg::new(alloc, "budget")
-        .long("budget")
-        .value_name("N")
-        .value_parser(value_parser!(u32).range(0..=i64::from(MOST_BUDGET)))
-        .help(
-            "Give up on two selectors after N learned clauses,\n0 to 20000 [default: go on until they are decided]",
-        )
-}
-
 /// The command `dead`.
 fn dead_command<'a>(alloc: Global) -> Result<Command<'a>, AllocError> {
     Command::new(alloc, "dead")
@@ -120,28 +110,19 @@ fn style_command<'a>(alloc: Global) -> Command<'a> {
         .after_help(STYLE_HELP)
 }
 
-/// The option that bounds the steps and the answers of a run.
-fn work<'a>(alloc: Global) -> Arg<'a> {
-    Arg::new(alloc, "work")
-        .long("work")
-        .value_name("N")
-        .value_parser(value_parser!(u32))
-        .help("Stop when N steps and answers are made [default: go on\nuntil no step is left]")
-}
-
 /// The command `min`.
 fn min_command<'a>(alloc: Global) -> Result<Command<'a>, AllocError> {
-    let report = Arg::new(alloc, "report")
-        .long("report")
-        .action(ArgAction::SetTrue)
-        .help("List on standard error what blocks further steps");
     Command::new(alloc, "min")
         .about(purpose(Topic::Min))
         .override_usage("cssmin min [OPTIONS] <SHEET >TARGET")
         .after_help(MIN_HELP)
         .arg(budget(alloc))?
         .arg(work(alloc))?
-        .arg(report)
+        .arg(flag(
+            alloc,
+            "report",
+            "List on standard error what blocks further steps",
+        ))
 }
 
 const TRIAL_HELP: &str = "\
@@ -151,32 +132,27 @@ and are, and how many steps that took. Reads no input.";
 
 /// The command `trial`.
 fn trial_command<'a>(alloc: Global) -> Result<Command<'a>, AllocError> {
-    let rules = Arg::new(alloc, "N")
-        .required(true)
-        .help("The number of rules, 0 to 2000");
     Command::new(alloc, "trial")
         .about(purpose(Topic::Trial))
         .after_help(TRIAL_HELP)
-        .arg(rules.value_parser(value_parser!(u32).range(0..=i64::from(MOST_RULES))))
+        .arg(required(alloc, "N", "The number of rules, 0 to 2000").value_parser(value_parser!(
+            u32
+        ).range(0..=i64::from(MOST_RULES))))
 }
 
 /// The command `cmp`.
 fn cmp_command<'a>(alloc: Global) -> Result<Command<'a>, AllocError> {
-    let left = Arg::new(alloc, "LEFT").required(true).help("A selector");
-    let right = Arg::new(alloc, "RIGHT")
-        .required(true)
-        .help("Another selector");
-    let log = Arg::new(alloc, "log")
-        .long("log")
-        .action(ArgAction::SetTrue)
-        .help("Write a log for `cssmin check` instead of `disjoint`,\nif there is one");
     Command::new(alloc, "cmp")
         .about(purpose(Topic::Cmp))
         .after_help(CMP_HELP)
-        .arg(left)?
-        .arg(right)?
+        .arg(required(alloc, "LEFT", "A selector"))?
+        .arg(required(alloc, "RIGHT", "Another selector"))?
         .arg(budget(alloc))?
-        .arg(log)
+        .arg(flag(
+            alloc,
+            "log",
+            "Write a log for `cssmin check` instead of `disjoint`,\nif there is one",
+        ))
 }
 
 const CHECK_HELP: &str = "\
@@ -219,18 +195,12 @@ even if HTML ignores it.";
 
 /// The command `why`.
 fn why_command<'a>(alloc: Global) -> Result<Command<'a>, AllocError> {
-    let from = Arg::new(alloc, "FROM")
-        .required(true)
-        .help("The number of the rule to move");
-    let to = Arg::new(alloc, "TO")
-        .required(true)
-        .help("The number of the item to move it to");
     Command::new(alloc, "why")
         .about(purpose(Topic::Why))
         .override_usage("cssmin why [OPTIONS] FROM TO <SHEET")
         .after_help(WHY_HELP)
-        .arg(from.value_parser(value_parser!(u32)))?
-        .arg(to.value_parser(value_parser!(u32)))?
+        .arg(number(alloc, "FROM", "The number of the rule to move"))?
+        .arg(number(alloc, "TO", "The number of the item to move it to"))?
         .arg(budget(alloc))
 }
 
@@ -260,14 +230,11 @@ first one as `cssmin min` does, for the second one with status 11 and
 
 /// The command `same`.
 fn same_command<'a>(alloc: Global) -> Result<Command<'a>, AllocError> {
-    let split = Arg::new(alloc, "N")
-        .required(true)
-        .help("The number of bytes of the first sheet");
     Command::new(alloc, "same")
         .about(purpose(Topic::Same))
         .override_usage("cssmin same [OPTIONS] N <TWO-SHEETS")
         .after_help(SAME_HELP)
-        .arg(split.value_parser(value_parser!(u32)))?
+        .arg(split(alloc))?
         .arg(budget(alloc))
 }
 
@@ -297,25 +264,13 @@ unvisited, and nothing is both enabled and disabled.
 The status is 1 if the sheets differ, and 0 after `same`. A greater one is a
 failure: `refused: KIND at N (LINE:COLUMN)`, `second refused: ..`, `no split N`.";
 
-/// The option that limits the couples that are told.
-fn limit<'a>(alloc: Global) -> Arg<'a> {
-    Arg::new(alloc, "limit")
-        .long("limit")
-        .value_name("K")
-        .value_parser(value_parser!(u32).range(1..=i64::from(MOST_LIMIT)))
-        .help("Tell at most K changes of order, 1 to 10000 [default: 20]")
-}
-
 /// The command `diff`.
 fn diff_command<'a>(alloc: Global) -> Result<Command<'a>, AllocError> {
-    let split = Arg::new(alloc, "N")
-        .required(true)
-        .help("The number of bytes of the first sheet");
     Command::new(alloc, "diff")
         .about(purpose(Topic::Diff))
         .override_usage("cssmin diff [OPTIONS] N <TWO-SHEETS")
         .after_help(DIFF_HELP)
-        .arg(split.value_parser(value_parser!(u32)))?
+        .arg(split(alloc))?
         .arg(budget(alloc))?
         .arg(limit(alloc))
 }
@@ -460,26 +415,58 @@ fn help_command<'a>(alloc: Global) -> Command<'a> {
     Command::new(alloc, "help").about("Print this message")
 }
 
-/// The program.
-pub(crate) fn program<'a>(alloc: Global, version: &'a str) -> Result<Command<'a>, AllocError> {
+/// The program without its commands.
+fn bare_program<'a>(alloc: Global, version: &'a str) -> Command<'a> {
     Command::new(alloc, "cssmin")
         .about(purpose(Topic::Program))
         .version(version)
         .after_help(PROGRAM_HELP)
         .subcommand_required(true)
-        .subcommand(min_command(alloc)?)?
-        .subcommand(cmp_command(alloc)?)?
-        .subcommand(dead_command(alloc)?)?
-        .subcommand(style_command(alloc))?
-        .subcommand(why_command(alloc)?)?
-        .subcommand(same_command(alloc)?)?
-        .subcommand(diff_command(alloc)?)?
-        .subcommand(blockers_command(alloc)?)?
-        .subcommand(list_command(alloc))?
-        .subcommand(lint_command(alloc)?)?
-        .subcommand(inspect_command(alloc))?
-        .subcommand(check_command(alloc))?
-        .subcommand(trial_command(alloc)?)?
         .disable_help_subcommand(true)
-        .subcommand(help_command(alloc))
+}
+
+/// The commands, in the order in which help lists them.
+const COMMANDS: [Topic; 13] = [
+    Topic::Min,
+    Topic::Cmp,
+    Topic::Dead,
+    Topic::Style,
+    Topic::Why,
+    Topic::Same,
+    Topic::Diff,
+    Topic::Blockers,
+    Topic::Listing,
+    Topic::Lint,
+    Topic::Inspect,
+    Topic::Check,
+    Topic::Trial,
+];
+
+/// The program without its commands, or one of them.
+fn command<'a>(alloc: Global, version: &'a str, about: Topic) -> Result<Command<'a>, AllocError> {
+    match about {
+        Topic::Program => Ok(bare_program(alloc, version)),
+        Topic::Min => min_command(alloc),
+        Topic::Cmp => cmp_command(alloc),
+        Topic::Dead => dead_command(alloc),
+        Topic::Style => Ok(style_command(alloc)),
+        Topic::Why => why_command(alloc),
+        Topic::Same => same_command(alloc),
+        Topic::Diff => diff_command(alloc),
+        Topic::Blockers => blockers_command(alloc),
+        Topic::Listing => Ok(list_command(alloc)),
+        Topic::Lint => lint_command(alloc),
+        Topic::Inspect => Ok(inspect_command(alloc)),
+        Topic::Check => Ok(check_command(alloc)),
+        Topic::Trial => trial_command(alloc),
+    }
+}
+
+/// The program.
+pub(crate) fn program<'a>(alloc: Global, version: &'a str) -> Result<Command<'a>, AllocError> {
+    let mut program = bare_program(alloc, version);
+    for about in COMMANDS {
+        program = program.subcommand(command(alloc, version, about)?)?;
+    }
+    program.subcommand(help_command(alloc))
 }

@@ -1,6 +1,7 @@
 //! Texts on the words of a command line: help, the version, and why words are refused.
 #![tactic(auto)]
 
+mod arguments;
 mod commands;
 mod ended;
 mod purposes;
