@@ -11,6 +11,7 @@ mod Plannable
 mod Results
 mod Starting
 mod Taken
+mod TakenInPlace
 mod TakenDown
 mod Weighed
 mod WeighedBehind

@@ -1,7 +1,6 @@
 -- A plan after a step that is taken in place.
 use Rattle.std.proofs.Common.{◌≡◌, ℕ, ◌+◌, ◌<◌, ◌≤◌, Bool, true, List, length, sym, subst, arith}
 use Rattle.std.specs.List.{Contains}
-use Rattle.std.specs.Prelude.{Some, slice_get}
 use Rattle.css_model.specs.Cascade.Order.{Pair}
 use Rattle.css_model.specs.Sheets.Limits.{max_bytes, max_items}
 use Rattle.pending_laws.specs.declared.way.Way.{Way}
@@ -26,12 +25,12 @@ use Rattle.step_laws.specs.Free.{Answered}
 use Rattle.step_laws.specs.Leading.{Takes}
 use Rattle.step_laws.specs.Left.{StepsMakeOf, EachIsMadeOfItself}
 use Rattle.step_laws.specs.Sizes.{Saves}
-use Rattle.step_laws.specs.Steps.{IsStep, first_item, last_item}
+use Rattle.step_laws.specs.Steps.{IsStep}
 use Rattle.planner_state.specs.Enqueuing.{AreEnqueued, StayBefore}
 use Rattle.planner_state.specs.PlanParts.{PlanParts}
 use Rattle.planner_state.specs.State.{IsState}
 use Rattle.planner_state.specs.Reactivating.{IsActive}
-use Rattle.planner_state.specs.Barriers.{SomeStay}
+use Rattle.planner_state.specs.Barriers.{IsFromOtherItem, SomeStay}
 use Rattle.planner_state.proofs.Plannable.{plannable_after, saved_by}
 use Rattle.planner_state.proofs.Starting.{home_there, candidate_there}
 
@@ -47,7 +46,7 @@ pub record IsDone (source : List ℕ) (p p' : PlanParts) (reactivated : List pen
   pub enqueued : AreEnqueued put p.indexed.next p'.indexed.marks p'.indexed.items p'.tables p'.candidates p'.homes
   pub stay : StayBefore p.indexed.next reindexed reactivated p.homes p'.tables p'.candidates p'.homes
   pub entries : p'.entries ≡ p.entries
-  pub barriers : (way : Way) → SomeStay (barriers_on way p.barriers) (barriers_on way p'.barriers) (λ item_id order_key. (n : ℕ) → slice_get (order_keys_of p.indexed.marks) n ≡ Some order_key → (first_item k ≡ n → ⊥) × (last_item k ≡ n → ⊥))
+  pub barriers : (way : Way) → SomeStay (barriers_on way p.barriers) (barriers_on way p'.barriers) (IsFromOtherItem p.indexed.marks k)
   pub weighed : AreWeighed source p.indexed.items (item_ids_of p.indexed.marks) p.weights → AreWeighed source p'.indexed.items (item_ids_of p'.indexed.marks) p'.weights
 
 pub taken_state : TakenIsKnown → BarriersGoOver → SheetsHaveRoom → HomesGoOn → StepsMakeOf → EachIsMadeOfItself → (answers : List Answered) (source : List ℕ) (p p' : PlanParts) (reactivated : List pending.Candidate) (reindexed : TableParts) (put : Bool) (k : Step) (e : Edit) →

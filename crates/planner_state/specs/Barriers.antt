@@ -6,6 +6,10 @@ use Rattle.step_queue.specs.declared.barriers.Barrier.{Barrier}
 use Rattle.step_queue.specs.declared.candidate.Candidate.{Candidate}
 use Rattle.step_queue.specs.declared.candidate.Scope.{Scope}
 use Rattle.step_queue.specs.declared.candidate.Scope.TheVariants.{Ups, Downs}
+use Rattle.indexed_sheet.specs.declared.marks.Mark.{Mark}
+use Rattle.indexed_sheet.specs.MarkList.{order_keys_of}
+use Rattle.step_laws.specs.declared.step.Step.{Step}
+use Rattle.step_laws.specs.Steps.{first_item, last_item}
 
 -- Of barriers some stay, for which something holds of the item id and the order key.
 pub record SomeStay (old new : List Barrier) (Stays : ℕ → ℕ → Type 0) : Type 0 where
@@ -24,3 +28,7 @@ IsOfOther way candidate item_id order_key = candidate.scope ≡ moves_scope way 
 -- a barrier does not stand at one of these order keys
 abbrev pub IsFromOther : (first last item_id order_key : ℕ) → Type 0
 IsFromOther first last item_id order_key = (first ≢ order_key) × (last ≢ order_key)
+
+-- nor at the first or the last item of a step
+abbrev pub IsFromOtherItem : List Mark → Step → (item_id order_key : ℕ) → Type 0
+IsFromOtherItem marks k item_id order_key = (n : ℕ) → slice_get (order_keys_of marks) n ≡ Some order_key → (first_item k ≡ n → ⊥) × (last_item k ≡ n → ⊥)

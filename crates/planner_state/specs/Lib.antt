@@ -1,5 +1,6 @@
 pub mod Created
 pub mod Enqueuing
+pub mod Filled
 pub mod Reindexing
 pub mod PlanParts
 pub mod State

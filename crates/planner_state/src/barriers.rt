@@ -1,13 +1,13 @@
 //! Takes down barriers.
 
-ghost use Rattle.std.specs.Prelude.{◌≡◌, ℕ, ◌<◌, Some, length, slice_get};
+ghost use Rattle.std.specs.Prelude.{◌≡◌, ◌<◌, Some, length, slice_get};
 ghost use Rattle.pending_laws.specs.declared.way.Way as declared;
 ghost use Rattle.pending_laws.specs.declared.way.Way.TheVariants as ways;
 ghost use Rattle.step_queue.specs.declared.candidate.Scope.TheVariants as scopes;
 ghost use Rattle.step_queue.specs.BarrierParts.{barriers_on};
 ghost use Rattle.indexed_sheet.specs.MarkList.{order_keys_of};
-ghost use Rattle.planner_state.specs.Barriers.{IsFromOther, IsOfOther, SomeStay};
-ghost use Rattle.step_laws.specs.Steps.{HasStep, first_item, last_item};
+ghost use Rattle.planner_state.specs.Barriers.{IsFromOther, IsFromOtherItem, IsOfOther, SomeStay};
+ghost use Rattle.step_laws.specs.Steps.{HasStep};
 
 use indexed_sheet::IndexedSheet;
 use pending_laws::Way;
@@ -46,8 +46,7 @@ fn order_key_of(indexed: &IndexedSheet, number: u32) -> u64
 /// Takes down the barriers that are at the first or the last item of a step.
 pub(crate) fn take_down_for(barriers: &mut Barriers, indexed: &IndexedSheet, step: &Step)
     requires { HasStep indexed.now.items step.now }
-    ensures { (way : declared.Way) → SomeStay (barriers_on way barriers.old) (barriers_on way barriers.new) (λ item_id order_key. (n : ℕ) → slice_get (order_keys_of indexed.now.marks) n ≡ Some order_key
-        → (first_item step.now ≡ n → ⊥) × (last_item step.now ≡ n → ⊥)) }
+    ensures { (way : declared.Way) → SomeStay (barriers_on way barriers.old) (barriers_on way barriers.new) (IsFromOtherItem indexed.now.marks step.now) }
 {
     let (first, last) = items_of(step);
     let first = order_key_of(indexed, first);

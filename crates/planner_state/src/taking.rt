@@ -1,21 +1,32 @@
 //! Takes a step in a plan.
 
-ghost use Rattle.std.specs.Prelude.{◌≡◌, ◌<◌, ◌+◌, ◌^◌, IfOk, IsTrue, List, ℕ, length};
+ghost use Rattle.std.specs.Prelude.{◌≡◌, ◌<◌, ◌≤◌, ◌+◌, ◌^◌, IfOk, IfSome, IsTrue, List, OnOk, ℕ, length, true};
+ghost use Rattle.std.specs.List.{Contains, remove};
+ghost use Rattle.css_model.specs.Cascade.Order.{Pair};
 ghost use Rattle.css_model.specs.Sheets.Limits.{max_items};
+ghost use Rattle.pending_laws.specs.declared.way.Way.{Way};
+ghost use Rattle.pending_laws.specs.Candidates as pending;
+ghost use Rattle.pending_laws.specs.Ways.{IsMove, mover};
+ghost use Rattle.planner_state.specs.Barriers.{IsFromOtherItem, SomeStay};
+ghost use Rattle.planner_state.specs.Filled.{IsFilled};
+ghost use Rattle.planner_state.specs.Reactivating.{IsActive};
+ghost use Rattle.planner_state.specs.Reindexing.{AreReindexed};
 ghost use Rattle.planner_state.specs.State.{IsIndexed, IsState};
-ghost use Rattle.order_laws.specs.Edits.{Edit, edited};
-ghost use Rattle.indexed_sheet.specs.Marking.{HasOrderKeyFor};
+ghost use Rattle.planner_state.specs.Weighing.{AreAtMost, AreWeighable};
+ghost use Rattle.step_queue.specs.BarrierParts.{barriers_on};
+ghost use Rattle.order_laws.specs.Edits.{Edit, edited, is_moved};
+ghost use Rattle.indexed_sheet.specs.MarkList.{order_keys_of};
+ghost use Rattle.indexed_sheet.specs.Marking.{AreKept, HasOrderKeyFor};
 ghost use Rattle.step_laws.specs.Free.{Answered};
 ghost use Rattle.step_laws.specs.Leading.{Takes};
 ghost use Rattle.step_laws.specs.Steps.{HasStep, IsStep};
 
 use crate::barriers::take_down_for;
 use crate::created::created_near;
-use crate::enqueuing::enqueue;
-use crate::plan::Plan;
+use crate::plan::{Created, Plan};
 use crate::reactivating::reactivate_moved;
 use crate::reindexing::reindex;
-use crate::weighing::{made_weight, weigh_created};
+use crate::weighing::made_weight;
 use css_model::MAX_ITEMS;
 use indexed_sheet::IndexedSheet;
 use merge_steps::apply;
@@ -39,9 +50,64 @@ fn has_room(indexed: &IndexedSheet, step: &Step) -> bool
 }
 
 impl Plan {
+    /// Makes a plan ready for a step that is taken in place. What waits for the pairs that the step moves is queued again, the barriers
+    /// of its items are taken down, and its rules leave the tables. Returns whether the rules that it creates have to be put into the
+    /// tables.
+    fn prepare(&mut self, alloc: Global, step: &Step) -> Result<bool, AllocError>
+        requires { HasStep self.old.indexed.items step.now }
+        ensures same { OnOk result (self.new ≡ record self.old { tables = self.new.tables; candidates = self.new.candidates; barriers = self.new.barriers }) }
+        ensures queued { OnOk result ((l : pending.Candidate) → Contains self.old.candidates l → Contains self.new.candidates l) }
+        ensures active { OnOk result ((e : Edit) → IsStep self.old.indexed.items step.now e → (p : Pair) → is_moved e.moved p ≡ true
+            → IsActive self.old.entries self.new.candidates p.selector p.decl) }
+        ensures barriers { OnOk result ((way : Way) → SomeStay (barriers_on way self.old.barriers) (barriers_on way self.new.barriers) (IsFromOtherItem self.old.indexed.marks step.now)) }
+        ensures tables { IfOk result (λ put. AreReindexed put self.old.indexed step.now self.old.tables self.new.tables) }
+    {
+        reactivate_moved(
+            alloc,
+            &self.watched,
+            &mut self.queue,
+            self.indexed.items(),
+            step,
+        )?;
+        take_down_for(&mut self.barriers, &self.indexed, step);
+        reindex(&mut self.tables, &self.indexed, step)
+    }
+
+    /// Returns the plan with its sheet after a step. All else is as it was.
+    fn with_step(self, alloc: Global, step: &Step) -> Result<Plan, AllocError>
+        requires is_step { HasStep self.indexed.items step.now }
+        requires order_key { HasOrderKeyFor self.indexed.marks step.now }
+        requires item_ids { self.indexed.next + 4 < 2 ^ 32 }
+        ensures same { IfOk result (λ p. p ≡ record self { indexed = p.indexed }) }
+        ensures items { IfOk result (λ p. (e : Edit) → IsStep self.indexed.items step.now e → p.indexed.items ≡ edited e self.indexed.items) }
+        ensures marks { IfOk result (λ p. (e : Edit) → IsStep self.indexed.items step.now e → AreKept self.indexed p.indexed e) }
+        ensures order_keys { IfOk result (λ p. (way : Way) → IsMove way step.now → order_keys_of p.indexed.marks ≡ remove (order_keys_of self.indexed.marks) (mover way step.now)) }
+        ensures more { IfOk result (λ p. self.indexed.next ≤ p.indexed.next) }
+    {
+        let indexed = self.indexed.take(alloc, step)?;
+        Ok(Plan { indexed, ..self })
+    }
+
+    /// Puts what a step created into a plan whose sheet is that after the step.
+    fn put_created_by(
+        &mut self,
+        alloc: Global,
+        source: &KnownLengths<'_>,
+        step: &Step,
+        created: Created,
+    ) -> Result<(), AllocError>
+        requires few_items { length self.old.indexed.items ≤ max_items }
+        requires weighable { AreWeighable source.now self.old.indexed.items }
+        requires known { IfSome created.known (AreAtMost source.now created.next self.old.indexed) }
+        ensures { OnOk result (IsFilled source.now created.put created.next self.old self.new) }
+    {
+        let numbers = created_near(alloc, &self.indexed, created.next, step)?;
+        self.put_created(source, created, &numbers)
+    }
+
     /// Returns the plan after a step that is taken in place.
     fn take_in_place(
-        self,
+        mut self,
         alloc: Global,
         source: &KnownLengths<'_>,
         step: &Step,
@@ -64,41 +130,17 @@ impl Plan {
         items_stay();
         each_is_made_of_itself();
         steps_make_of();
-        let Plan {
-            indexed,
-            mut tables,
-            mut queue,
-            watched,
-            mut homes,
-            mut barriers,
-            mut weights,
-        } = self;
-        let made = made_weight(&indexed, &weights, step);
-        reactivate_moved(alloc, &watched, &mut queue, indexed.items(), step)?;
-        take_down_for(&mut barriers, &indexed, step);
-        let put = reindex(&mut tables, &indexed, step)?;
-        let next = indexed.next();
-        let indexed = indexed.take(alloc, step)?;
-        let created = created_near(alloc, &indexed, next, step)?;
-        enqueue(
-            put,
-            &indexed,
+        let made = made_weight(&self.indexed, &self.weights, step);
+        let put = self.prepare(alloc, step)?;
+        let next = self.indexed.next();
+        let mut plan = self.with_step(alloc, step)?;
+        let created = Created {
             next,
-            &created,
-            &mut tables,
-            &mut queue,
-            &mut homes,
-        )?;
-        weigh_created(source, made, &indexed, next, &created, &mut weights)?;
-        Ok(Plan {
-            indexed,
-            tables,
-            queue,
-            watched,
-            homes,
-            barriers,
-            weights,
-        })
+            put,
+            known: made,
+        };
+        plan.put_created_by(alloc, source, step, created)?;
+        Ok(plan)
     }
 
     /// Returns the plan after a step of its sheet.
