@@ -1,6 +1,7 @@
 pub mod Answers
 pub mod Blocking
 pub mod Cascade
+pub mod Diffing
 pub mod Inspecting
 pub mod Linting
 pub mod Listing
