@@ -3,9 +3,11 @@
 
 usage: python3 .ci/times.py COMMAND..
 
-Times are seconds of processor time, as /proc tells them every two seconds, so what ends sooner is missed. The last line but one
-has their sum in minutes, the last line how long it all took. Where there is no /proc, no times are told. Its status is that of
-the command.
+Times are seconds of processor time, as /proc tells them every two seconds, so what ends sooner is missed. Below the table stands their
+sum in minutes, and what it is on a quiet machine: every two seconds a small loop is timed too, and the sum is divided by how much
+longer the loop takes on the average than in its quickest twentieth. A processor that other programs, or other machines on the same
+host, use as well takes longer for the same work. The last line has how long it all took. Where there is no /proc, no times are told.
+Its status is that of the command.
 """
 
 import collections
@@ -15,6 +17,9 @@ import sys
 import time
 
 KINDS = ("proof", "tests", "edits")
+
+# The steps of the loop, which take some ten milliseconds.
+STEPS = 100_000
 
 
 def facts(pid):
@@ -47,6 +52,20 @@ def checks(ancestor):
         yield (pid, fields[19]), words[words.index("--crate-name") + 1], kind, seconds
 
 
+def loop_seconds():
+    """The processor time in seconds that the loop takes now."""
+    start, total = time.process_time(), 0
+    for step in range(STEPS):
+        total = (31 * total + step) & 0xFFFFFFFF
+    return time.process_time() - start
+
+
+def slowdown(loops):
+    """How many times longer the loop took on the average than in its quickest twentieth."""
+    quickest = sorted(loops)[len(loops) // 20]
+    return sum(loops) / len(loops) / quickest
+
+
 def table(seen):
     """The lines of the table, the crate that took most first, and the line of the sum."""
     crates = collections.defaultdict(collections.Counter)
@@ -60,16 +79,24 @@ def table(seen):
     yield f"{sum(sums) / 60:.1f} processor minutes"
 
 
+def quiet(seen, loops):
+    """The line of the sum on a quiet machine."""
+    minutes = sum(seconds for _, _, seconds in seen.values()) / 60
+    return f"{minutes / slowdown(loops):.1f} on a quiet machine: the loop took {slowdown(loops):.2f} times as long as at its quickest"
+
+
 def main():
-    start, seen = time.time(), {}
+    start, seen, loops = time.time(), {}, []
     with subprocess.Popen(sys.argv[1:]) as command:
         while command.poll() is None:
             if os.path.isdir("/proc/self"):
                 seen.update((process, (crate, kind, seconds)) for process, crate, kind, seconds in checks(str(command.pid)))
+                loops.append(loop_seconds())
             time.sleep(2)
     if seen:
         print(f"{'seconds of processor time':24}" + "".join(f"{kind:>8}" for kind in KINDS))
         print("\n".join(table(seen)))
+        print(quiet(seen, loops))
     print(f"{(time.time() - start) / 60:.1f} minutes on {os.cpu_count()} processors", flush=True)
     return command.returncode
 
