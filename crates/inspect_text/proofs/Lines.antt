@@ -1,10 +1,9 @@
 -- The lines of all groups.
-use Rattle.std.proofs.Common.{◌≡◌, ◌⊎◌, inl, inr, ◌<◌, ◌+◌, ℕ, Bool, true, false, not, cond, List, [], ◌∷◌, ◌++◌, map, length, get_or, take, Option, is_some, refl, sym, ap, ap₂, subst, ◌∙◌, arith}
+use Rattle.std.proofs.Common.{◌≡◌, ◌⊎◌, inl, inr, ◌<◌, ◌+◌, ℕ, Bool, true, false, not, cond, List, [], ◌∷◌, ◌++◌, map, length, get_or, take, is_some, refl, sym, ap, ap₂, subst, ◌∙◌}
 use Rattle.std.specs.Prelude.{IsTrue}
 use Rattle.std.specs.List.{All, AllPairs, Contains, filter, flat_map, list_all}
-use Rattle.std.proofs.lemmas.Bool.{false≢true}
 use Rattle.std.proofs.lemmas.List.{take_more}
-use Rattle.std.proofs.lemmas.List.Elements.{All-contains, All-from_recursion, All-contains_itself, All-weaker}
+use Rattle.std.proofs.lemmas.List.Elements.{All-contains_itself, All-weaker}
 use Rattle.std.proofs.lemmas.List.Sorted.{Contains-permutation, IsPermutation-sym}
 use Rattle.list_facts.proofs.Members.{Contains-cons_cases, Contains-filtered, Contains-here, Contains-nil, Contains-there}
 use Rattle.css_model.specs.declared.example.Example.{Example}
@@ -12,10 +11,10 @@ use Rattle.css_model.specs.declared.sheet.Item.{Item}
 use Rattle.inspect_laws.specs.Entries.{Entry, entries_of}
 use Rattle.inspect_laws.specs.Groups.{AreFamilies, family_name, is_all, is_in_group, leading}
 use Rattle.inspect_laws.specs.Order.{AreOrdered, outranks}
-use Rattle.inspect_laws.specs.Words.{has_lost, word}
+use Rattle.inspect_laws.specs.Words.{word}
 use Rattle.inspect_laws.proofs.ForCallers.{descends_from}
 use Rattle.inspect_text.specs.Claims.{is_beaten}
-use Rattle.inspect_text.specs.InspectTexts.{TellsEntries, entry_line, kept_count, kept_line, line_among, lines_in}
+use Rattle.inspect_text.specs.InspectTexts.{AreGroups, TellsEntries, entry_line, kept_count, kept_line, line_among, lines_in}
 use Rattle.inspect_text.proofs.Beating.{beaten_is_lost, lost_among}
 
 -- ---- The line of an entry, by those before it
@@ -67,14 +66,12 @@ all_lines source all sorted order families texts are = ap (flat_map (λ text. 10
     each [] = refl
     each (x ∷ xs) = ap₂ (λ (us vs : List ℕ). 10 ∷ us ++ vs) (same_lines source all sorted order (filter (is_in_group x) sorted)) (each xs)
 
-pub tells : (x : Example) (source : List ℕ) (items : List Item) (all sorted : List Entry) (families texts : List (List ℕ)) (out : List ℕ) → all ≡ entries_of x source items → AreOrdered all sorted → AreFamilies all families →
-    texts ≡ map (lines_in source sorted sorted) families → out ≡ kept_line (kept_count source items) ++ flat_map (λ text. 10 ∷ text) texts → TellsEntries x source items out
-tells x source items all sorted families texts out are order groups lines is =
-    let ordered : AreOrdered (entries_of x source items) sorted = subst (λ (es : List Entry). AreOrdered es sorted) are order in
-    record {
-      sorted = sorted;
-      families = families;
-      in_order = ordered;
-      groups = subst (λ (es : List Entry). AreFamilies es families) are groups;
-      text_is = is ∙ ap (λ (xs : List ℕ). kept_line (kept_count source items) ++ xs) (all_lines source (entries_of x source items) sorted ordered families texts lines);
-    }
+pub tells : (x : Example) (source : List ℕ) (items : List Item) (texts : List (List ℕ)) (out : List ℕ) → AreGroups source (entries_of x source items) texts →
+    out ≡ kept_line (kept_count source items) ++ flat_map (λ text. 10 ∷ text) texts → TellsEntries x source items out
+tells x source items texts out told is = record {
+  sorted = told.sorted;
+  families = told.families;
+  in_order = told.in_order;
+  groups = told.groups;
+  text_is = is ∙ ap (λ (xs : List ℕ). kept_line (kept_count source items) ++ xs) (all_lines source (entries_of x source items) told.sorted told.in_order told.families texts told.texts_are);
+}

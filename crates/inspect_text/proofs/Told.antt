@@ -1,6 +1,6 @@
 -- What is told of an input, by the document and the sheet that it has.
-use Rattle.std.proofs.Common.{◌≡◌, ◌⊎◌, inl, inr, ℕ, Bool, true, false, not, cond, List, [], ◌∷◌, ◌++◌, map, append_assoc, append-nil, Ok, refl, sym, ap, subst, ◌∙◌}
-use Rattle.std.specs.Prelude.{◌&&◌, ◌||◌, Result}
+use Rattle.std.proofs.Common.{◌≡◌, ◌⊎◌, inl, inr, ℕ, Bool, true, false, not, cond, List, [], ◌∷◌, ◌++◌, append_assoc, append-nil, Ok, refl, sym, ap, subst, ◌∙◌}
+use Rattle.std.specs.Prelude.{◌&&◌, Result}
 use Rattle.std.specs.Cmp.Lexicographic.{bytes_decides}
 use Rattle.std.specs.List.{Contains, filter, flat_map, list_all}
 use Rattle.std.proofs.lemmas.Bool.{false≢true, or_left, or_right}
@@ -11,16 +11,14 @@ use Rattle.css_model.specs.declared.fault.SheetFault.{SheetFault}
 use Rattle.css_model.specs.declared.sheet.Item.{Item}
 use Rattle.css_model.specs.Documents.RunDocuments.{expand, target_of}
 use Rattle.css_model.specs.Lists.{same_text}
-use Rattle.css_model.specs.Sheets.Sheet.{sheet_of}
 use Rattle.css_model.specs.Text.Characters.{line_feed}
 use Rattle.doc_text.specs.Reading.{TextsDiffer}
 use Rattle.inspect_laws.specs.Entries.{Entry, entries_of}
 use Rattle.inspect_laws.specs.Groups.{AreFamilies, family_name, is_all, is_in_group, leading}
 use Rattle.inspect_laws.specs.Laws.{FirstWins, LostNeverWins, WinsUnderItsHead, WinsWhereNoneHolds}
-use Rattle.inspect_laws.specs.Order.{AreOrdered}
 use Rattle.style_text.specs.Inputs.{document_part, sheet_part}
 use Rattle.style_text.specs.Reading.{IsDocument}
-use Rattle.inspect_text.specs.InspectTexts.{IsInspected, TellsEntries, kept_count, kept_line, line_among, lines_in}
+use Rattle.inspect_text.specs.InspectTexts.{TellsEntries, kept_count, kept_line, line_among, lines_in}
 use Rattle.inspect_text.specs.Laws.{EachEntryHasItsLine, EntriesAreTold, IsPartOf, LostLinesLose, WhenLinesWin, WinsLinesWin}
 use Rattle.inspect_text.proofs.Lines.{mapped}
 

@@ -1,5 +1,5 @@
 -- What is told of an input: all that the rules of its sheet apply to the element of its document, in the order of the cascade (own).
-use Rattle.std.specs.Prelude.{◌≡◌, ◌≤◌, ℕ, ◌+◌, ◌-◌, List, [], ◌∷◌, ◌++◌, length, Option, Some, None, Result, Ok, Err, Vec, codes, decimal}
+use Rattle.std.specs.Prelude.{◌≡◌, ◌≤◌, ℕ, ◌+◌, ◌-◌, List, [], ◌∷◌, ◌++◌, length, map, Option, Some, None, Result, Ok, Err, Vec, codes, decimal}
 use Rattle.std.specs.Global.{Global}
 use Rattle.std.specs.List.{count_by, filter, flat_map, sum_by}
 use Rattle.css_model.specs.declared.example.Example.{Example}
@@ -56,6 +56,14 @@ kept_count source items = (count_by is_kept items - length (opened_of items sour
 -- `kept N`
 abbrev pub kept_line : ℕ → List ℕ
 kept_line count = codes "kept " ++ decimal count ++ line_feed ∷ []
+
+-- The lines of each group of these entries, the greatest entry first, in the order of the names of their families.
+pub record AreGroups (source : List ℕ) (all : List Entry) (texts : List (List ℕ)) : Type 0 where
+  pub sorted : List Entry
+  pub families : List (List ℕ)
+  pub in_order : AreOrdered all sorted
+  pub groups : AreFamilies all families
+  pub texts_are : texts ≡ map (lines_in source sorted sorted) families
 
 -- The text tells what a sheet with these bytes applies to the target of an example: how many items are kept, and then each group
 -- after an empty line, the groups by the names of their families, and in each the greatest entry first.

@@ -3,11 +3,12 @@
 ghost use Rattle.std.specs.Prelude.{◌≡◌, ◌++◌, ◌∷◌, Ok, IsTrue, false, map, IfErr, IfOk, OnOk};
 ghost use Rattle.std.specs.Cmp.Lexicographic.{slice_cmp};
 ghost use Rattle.std.specs.Ordering.{nat_cmp};
-ghost use Rattle.std.specs.List.{All, AllPairs, Contains, flat_map};
+ghost use Rattle.std.specs.List.{All, AllPairs, Contains, IsDistinct, flat_map};
 ghost use Rattle.std.specs.List.Sorted.{IsStrictlySortedBy};
 ghost use Rattle.css_model.specs.Documents.RunDocuments.{KeepsRules};
 ghost use Rattle.css_model.specs.Sheets.Sheet.{sheet_of};
 ghost use Rattle.css_model.specs.Sheets.Spelling.{kept_text};
+ghost use Rattle.inspect_laws.specs.Entries as laws;
 ghost use Rattle.inspect_laws.specs.Groups as groups;
 ghost use Rattle.inspect_laws.specs.Order as order;
 ghost use Rattle.media_groups.specs.Opened.{opened_of};
@@ -100,6 +101,41 @@ fn heads_in(
     heads_of(alloc, &reading, media)
 }
 
+/// The lines of all groups of some entries.
+fn lines_of_groups(
+    alloc: Global,
+    lines: &Lines<'_>,
+    entries: Vec<Entry<'_>>,
+) -> Result<Vec<GroupText>, AllocError>
+    requires { IsDistinct order.same_rank entries.items }
+    ensures { IfOk result (λ texts. spec.AreGroups lines.now.text.now entries.entry.items texts.items) }
+{
+    let families = families_of(alloc, &entries)?;
+    let sorted = in_order(entries)?;
+    group_texts(alloc, lines, &sorted, &families)
+}
+
+/// The lines of all groups of the entries of a sheet with these opened blocks.
+fn groups_of(
+    alloc: Global,
+    x: &Example,
+    source: &[u8],
+    sheet: &Sheet,
+    media: &[Media],
+) -> Result<Vec<GroupText>, AllocError>
+    requires rules { KeepsRules x.now }
+    requires read { sheet_of source.now ≡ Ok sheet.now.items }
+    requires blocks { media.now ≡ opened_of sheet.now.items source.now }
+    ensures { IfOk result (λ texts. spec.AreGroups source.now (laws.entries_of x.now source.now sheet.now.items) texts.items) }
+{
+    // A law, which does nothing.
+    ranks_differ();
+    let lines = Lines::new(alloc, source)?;
+    let heads = heads_in(alloc, source, sheet, media)?;
+    let entries = entries_of(alloc, x, source, sheet, media, &heads)?;
+    lines_of_groups(alloc, &lines, entries)
+}
+
 /// What a sheet that was read from this source applies to the marked element of an example, as lines.
 fn tell_entries(
     alloc: Global,
@@ -111,15 +147,8 @@ fn tell_entries(
     requires read { sheet_of source.now ≡ Ok sheet.now.items }
     ensures { IfOk result (λ text. spec.TellsEntries x.now source.now sheet.now.items text.items) }
 {
-    // A law, which does nothing.
-    ranks_differ();
-    let lines = Lines::new(alloc, source)?;
     let media = open_media(alloc, sheet, source)?;
-    let heads = heads_in(alloc, source, sheet, &media)?;
-    let entries = entries_of(alloc, x, source, sheet, &media, &heads)?;
-    let families = families_of(alloc, &entries)?;
-    let sorted = in_order(entries)?;
-    let texts = group_texts(alloc, &lines, &sorted, &families)?;
+    let texts = groups_of(alloc, x, source, sheet, &media)?;
     let mut text = kept_line(alloc, kept_in_all(source, sheet, &media))?;
     push_groups(&mut text, &texts)?;
     Ok(text)

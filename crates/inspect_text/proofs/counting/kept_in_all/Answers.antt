@@ -1,4 +1,4 @@
-use Rattle.std.proofs.Common.{◌≡◌, ◌≤◌, List, length, ap, ◌∙◌, arith}
+use Rattle.std.proofs.Common.{List, length, ap, ◌∙◌, arith}
 use Rattle.std.specs.List.{count_by}
 use Rattle.css_model.specs.Sheets.KeptItems.{is_kept}
 use Rattle.css_model.specs.Sheets.SheetParts.{SheetParts}

@@ -1,4 +1,4 @@
-use Rattle.std.proofs.Common.{List, ◌++◌, append-nil, length, sym, ap, ◌∙◌, arith}
+use Rattle.std.proofs.Common.{List, ◌++◌, append-nil, sym, ap, ◌∙◌, arith}
 use Rattle.std.specs.List.{enumerate_from}
 use Rattle.inspect_laws.specs.Entries.{Entry}
 use Rattle.inspect_text.proofs.Matches.{none_matching}

@@ -1,4 +1,4 @@
-use Rattle.std.proofs.Common.{◌≡◌, [], ℕ, List, map, take}
+use Rattle.std.proofs.Common.{◌≡◌, [], map, take}
 use Rattle.inspect_text.proofs.groups.no_lines.Given as goal
 
 abbrev pub invariant-loop-family : goal.invariant-loop-family

@@ -1,4 +1,4 @@
-use Rattle.std.proofs.Common.{◌≡◌, ◌+◌, List, map, take, sym, ap, subst, ◌∙◌, arith}
+use Rattle.std.proofs.Common.{List, map, take, ap, subst, ◌∙◌, arith}
 use Rattle.std.specs.List.{filter, flat_map}
 use Rattle.std.proofs.lemmas.List.{take_all}
 use Rattle.inspect_laws.specs.Entries.{Entry}
