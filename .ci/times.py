@@ -4,10 +4,10 @@
 usage: python3 .ci/times.py COMMAND..
 
 Times are seconds of processor time, as /proc tells them every two seconds, so what ends sooner is missed. Below the table stands their
-sum in minutes, and what it is on a quiet machine: every two seconds a small loop is timed too, and the sum is divided by how much
-longer the loop takes on the average than in its quickest twentieth. A processor that other programs, or other machines on the same
-host, use as well takes longer for the same work. The last line has how long it all took. Where there is no /proc, no times are told.
-Its status is that of the command.
+sum in minutes, and what it would be on a quiet machine: a processor that other programs, or other machines on the same host, use as
+well takes longer for the same work. That is an estimate. Every two seconds a small loop is timed, and the sum is divided by how much
+longer the loop takes on the average than in its quickest twentieth, as if checks slowed down alike. The last line has how long it all
+took. Where there is no /proc, no times are told. Its status is that of the command.
 """
 
 import collections
@@ -80,9 +80,9 @@ def table(seen):
 
 
 def quiet(seen, loops):
-    """The line of the sum on a quiet machine."""
+    """The line of what the sum would be on a quiet machine."""
     minutes = sum(seconds for _, _, seconds in seen.values()) / 60
-    return f"{minutes / slowdown(loops):.1f} on a quiet machine: the loop took {slowdown(loops):.2f} times as long as at its quickest"
+    return f"{minutes / slowdown(loops):.1f} on a quiet machine, by a loop that took {slowdown(loops):.2f} times as long as at its quickest"
 
 
 def main():
